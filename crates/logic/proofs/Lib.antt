@@ -1,0 +1,15 @@
+pub mod Tests
+pub mod Regions
+pub mod Keeps
+pub mod VerdictLimit
+pub mod Settling
+pub mod Thresholds
+pub mod Masking
+pub mod Order
+pub mod Margins
+pub mod Rounds
+pub mod Distances
+pub mod Limit
+pub mod TableKeeps
+pub mod Steadiness
+pub mod Agreement

@@ -1,0 +1,106 @@
+-- Margins as a lattice: thresholds tell them apart; nearness and order are kept by the lesser, the greater and negation.
+use mathlib.Core.Path.{_≡_, sym, ap₂, subst, _∙_}
+use mathlib.Core.Logic.{_⊎_, ⊎-elim}
+use mathlib.Core.Bool.{Bool, true, false, not, cond, _&&_, _||_}
+use Prim.Native.Nat.{ℕ, _+_}
+use native.Mathlib.Omega.{arith}
+use lib.Dec.{T, T-not}
+use Rattle.logic.specs.Lattice.{ordered}
+use Rattle.logic.specs.Margin.{Margin, minusInfinity, plusInfinity, atMost, negate, marginLattice}
+use Rattle.logic.specs.Steadiness.{Near}
+use Rattle.logic.proofs.Tests.{decT, bool-ext, and-i, and-l, and-r, or-l, or-r, or-e}
+use Rattle.logic.proofs.Keeps.{Keeps}
+use Rattle.logic.proofs.Thresholds.{Threshold, Apart}
+use Rattle.logic.proofs.Order.{Up, le→up, up-trans, atMost-trans, atMost-anti, atMost-total, atMost-plusInfinity, up-negate, near}
+
+-- the lattice of any total order
+module _ {A : Type 0} (le : A → A → Bool) (b t : A)
+    (trans : (x y z : A) → T (le x y) → T (le y z) → T (le x z)) (total : (x y : A) → T (le x y) ⊎ T (le y x)) where
+  le-refl′ : (x : A) → T (le x x)
+  le-refl′ x = ⊎-elim (λ h. h) (λ h. h) (total x x)
+
+  other : (x y : A) → T (not (le x y)) → T (le y x)
+  other x y h = ⊎-elim (λ k. absurd (T-not (le x y) h k)) (λ k. k) (total x y)
+
+  -- the lesser of two is one of them, below both; the greater likewise
+  pub meet-by : (P : A → Type 0) (x y : A) → (T (le x y) → P x) → (T (le y x) → P y) → P (cond (le x y) x y)
+  meet-by P x y f g = go (le x y) f (λ h. g (other x y h))
+    where
+      go : (c : Bool) → (T c → P x) → (T (not c) → P y) → P (cond c x y)
+      go true f g = f tt
+      go false f g = g tt
+
+  pub join-by : (P : A → Type 0) (x y : A) → (T (le x y) → P y) → (T (le y x) → P x) → P (cond (le x y) y x)
+  join-by P x y f g = go (le x y) f (λ h. g (other x y h))
+    where
+      go : (c : Bool) → (T c → P y) → (T (not c) → P x) → P (cond c y x)
+      go true f g = f tt
+      go false f g = g tt
+
+  -- a relation that the order may be put before and after is kept
+  pub keeps : (R : A → A → Type 0) → ((x y z : A) → T (le x y) → R y z → R x z) → ((x y z : A) → R x y → T (le y z) → R x z) → R t t → R b b
+      → Keeps (ordered le b t) (ordered le b t) R
+  keeps R pre post rt rb = record {
+    keeps-top = rt;
+    keeps-bottom = rb;
+    keeps-meet = λ x y z w h k. meet-by (λ v. R (cond (le x y) x y) v) z w
+        (λ _. meet-by (λ v. R v z) x y (λ _. h) (λ u. pre y x z u h))
+        (λ _. meet-by (λ v. R v w) x y (λ u. pre x y w u k) (λ _. k));
+    keeps-join = λ x y z w h k. join-by (λ v. R v (cond (le z w) w z)) x y
+        (λ _. join-by (λ v. R y v) z w (λ _. k) (λ u. post y w z k u))
+        (λ _. join-by (λ v. R x v) z w (λ u. post x z w h u) (λ _. h));
+  }
+
+  meet-reads : (m x y : A) → le m (cond (le x y) x y) ≡ (le m x && le m y)
+  meet-reads m x y = meet-by (λ v. le m v ≡ (le m x && le m y)) x y
+      (λ u. bool-ext _ _ (λ a. and-i (le m x) _ a (trans m x y a u)) (λ a. and-l (le m x) _ a))
+      (λ u. bool-ext _ _ (λ a. and-i (le m x) _ (trans m y x a u) a) (λ a. and-r (le m x) _ a))
+
+  join-reads : (m x y : A) → le m (cond (le x y) y x) ≡ (le m x || le m y)
+  join-reads m x y = join-by (λ v. le m v ≡ (le m x || le m y)) x y
+      (λ u. bool-ext _ _ (λ a. or-r (le m x) _ a) (λ a. ⊎-elim (λ c. trans m x y c u) (λ c. c) (or-e (le m x) _ a)))
+      (λ u. bool-ext _ _ (λ a. or-l (le m x) (le m y) a) (λ a. ⊎-elim (λ c. c) (λ c. trans m y x c u) (or-e (le m x) _ a)))
+
+  -- "at least m" is a threshold, for m above the least
+  pub atLeast : (m : A) → T (le m t) → T (not (le m b)) → Threshold (ordered le b t) (le m)
+  atLeast m ht hb = record {
+    keeps-top = bool-ext _ _ (λ _. tt) (λ _. ht);
+    keeps-bottom = bool-ext _ _ (λ h. T-not (le m b) hb h) (λ h. absurd h);
+    keeps-meet = λ x y c d h k. meet-reads m x y ∙ ap₂ _&&_ h k;
+    keeps-join = λ x y c d h k. join-reads m x y ∙ ap₂ _||_ h k;
+  }
+
+  -- margins that every threshold takes alike are equal
+  pub apart : ((x : A) → T (le b x)) → ((x : A) → T (le x t)) → ((x y : A) → T (le x y) → T (le y x) → x ≡ y) → Apart (ordered le b t)
+  apart low high anti x y same = anti x y (half x y same) (half y x (λ h K. sym (same h K)))
+    where
+      half : (x y : A) → ((h : A → Bool) → Threshold (ordered le b t) h → h x ≡ h y) → T (le x y)
+      half x y same = ⊎-elim
+          (λ u. trans x b y u (low y))
+          (λ u. subst T (same (le x) (atLeast x (high x) u)) (le-refl′ x))
+          (decT (le x b))
+
+-- ---- margins
+pub margin-apart : Apart marginLattice
+margin-apart = apart atMost minusInfinity plusInfinity atMost-trans atMost-total (λ _. tt) atMost-plusInfinity atMost-anti
+
+pub margin-refl : (x : Margin) → T (atMost x x)
+margin-refl = le-refl′ atMost minusInfinity plusInfinity atMost-trans atMost-total
+
+pub up-kept : (d : ℕ) → Keeps marginLattice marginLattice (Up d)
+up-kept d = keeps atMost minusInfinity plusInfinity atMost-trans atMost-total (Up d)
+    (λ x y z h k. up-trans 0 d d (omega arith) x y z (le→up x y h) k)
+    (λ x y z h k. up-trans d 0 d (omega arith) x y z h (le→up y z k)) tt tt
+
+pub near-kept : (d : ℕ) → Keeps marginLattice marginLattice (Near d)
+near-kept d = record {
+  keeps-top = tt;
+  keeps-bottom = tt;
+  keeps-meet = λ x y z w h k.
+      near d (marginLattice .meet x y) (marginLattice .meet z w) .1 (up-kept d .keeps-meet x y z w (near d x z .0 h .0) (near d y w .0 k .0), up-kept d .keeps-meet z w x y (near d x z .0 h .1) (near d y w .0 k .1));
+  keeps-join = λ x y z w h k.
+      near d (marginLattice .join x y) (marginLattice .join z w) .1 (up-kept d .keeps-join x y z w (near d x z .0 h .0) (near d y w .0 k .0), up-kept d .keeps-join z w x y (near d x z .0 h .1) (near d y w .0 k .1));
+}
+
+pub near-negate : (d : ℕ) (x y : Margin) → Near d x y → Near d (negate x) (negate y)
+near-negate d x y h = near d (negate x) (negate y) .1 (up-negate d y x (near d x y .0 h .1), up-negate d x y (near d x y .0 h .0))

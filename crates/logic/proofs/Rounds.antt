@@ -1,0 +1,89 @@
+-- The rounds: the iteration on margins has come to the surround when it first rests, and that is within n rounds.
+use mathlib.Core.Path.{_≡_, refl, sym, _∙_}
+use mathlib.Core.Bool.{Bool, true, false, not, _&&_}
+use Prim.Native.Nat.{ℕ, zero, suc, pred, _<_, _≤_, zero-le, suc-le-suc}
+use native.Mathlib.Nat.{not-suc-le-zero, le-of-suc-le-suc}
+use native.Mathlib.Omega.{arith}
+use lib.Dec.{T}
+use Rattle.logic.specs.Margin.{Margin, atMost, marginLattice}
+use Rattle.logic.specs.Surround.{surround, unbounded}
+use Rattle.logic.specs.Iteration.{iterate, masked, first, atRest, rounds}
+use Rattle.logic.proofs.Tests.{and-l, and-r, and-i, all-e, all-i}
+use Rattle.logic.proofs.Order.{atMost-anti}
+use Rattle.logic.proofs.Margins.{margin-apart, margin-refl}
+use Rattle.logic.proofs.Thresholds.{limit-at, settled}
+use Rattle.logic.proofs.Masking.{corollary}
+
+-- ---- the first number that passes
+pub first-le : (t : ℕ → Bool) (d : ℕ) → first t d ≤ d
+unfolding first
+first-le t zero = zero-le
+first-le t (suc d) = go (t zero) (first-le (λ i. t (suc i)) d)
+  where
+    go : (c : Bool) → first (λ i. t (suc i)) d ≤ d → elim c as (λ _. ℕ) [ true ↦ zero | false ↦ suc (first (λ i. t (suc i)) d) ] ≤ suc d
+    go true h = zero-le
+    go false h = suc-le-suc h
+
+pub first-at : (t : ℕ → Bool) (d : ℕ) → T (t d) → T (t (first t d))
+unfolding first
+first-at t zero h = h
+first-at t (suc d) h = go (t zero) refl (first-at (λ i. t (suc i)) d h)
+  where
+    go : (c : Bool) → t zero ≡ c → T (t (suc (first (λ i. t (suc i)) d))) → T (t (elim c as (λ _. ℕ) [ true ↦ zero | false ↦ suc (first (λ i. t (suc i)) d) ]))
+    go true e h = rw e tt
+    go false e h = h
+
+pub first-not : (t : ℕ → Bool) (d j : ℕ) → j < first t d → T (not (t j))
+unfolding first
+first-not t zero j b = absurd (not-suc-le-zero b)
+first-not t (suc d) zero b = go (t zero) refl b
+  where
+    go : (c : Bool) → t zero ≡ c → zero < elim c as (λ _. ℕ) [ true ↦ zero | false ↦ suc (first (λ i. t (suc i)) d) ] → T (not (t zero))
+    go true e b = absurd (not-suc-le-zero b)
+    go false e b = rw e tt
+first-not t (suc d) (suc j) b = go (t zero) b (λ c. first-not (λ i. t (suc i)) d j c)
+  where
+    go : (c : Bool) → suc j < elim c as (λ _. ℕ) [ true ↦ zero | false ↦ suc (first (λ i. t (suc i)) d) ] → (j < first (λ i. t (suc i)) d → T (not (t (suc j)))) → T (not (t (suc j)))
+    go true b f = absurd (not-suc-le-zero b)
+    go false b f = f (le-of-suc-le-suc b)
+
+-- ---- the rounds
+module _ (joined : ℕ → ℕ → Bool) (n : ℕ) (p q : ℕ → Margin) where
+  abbrev W : ℕ → ℕ → Margin
+  W i l = iterate marginLattice joined n p q i l
+
+  abbrev same : ℕ → ℕ → Bool
+  same i l = atMost (W (suc i) l) (W i l) && atMost (W i l) (W (suc i) l)
+
+  rest-e : (i : ℕ) → T (atRest joined n p q i) → (l : ℕ) → l < n → W (suc i) l ≡ W i l
+  unfolding atRest
+  rest-e i h l b =
+      let s = all-e (λ _. true) (same i) n h l b tt in
+      atMost-anti (W (suc i) l) (W i l) (and-l (atMost (W (suc i) l) (W i l)) _ s) (and-r (atMost (W (suc i) l) (W i l)) _ s)
+
+  rest-i : (i : ℕ) → ((l : ℕ) → l < n → W (suc i) l ≡ W i l) → T (atRest joined n p q i)
+  unfolding atRest
+  rest-i i h = all-i (λ _. true) (same i) n (λ l b _. rw (h l b) (and-i (atMost (W i l) (W i l)) _ (margin-refl (W i l)) (margin-refl (W i l))))
+
+  last : ℕ
+  last = first (atRest joined n p q) (pred n)
+
+  at-last : T (atRest joined n p q last)
+  unfolding last
+  at-last = first-at (atRest joined n p q) (pred n) (rest-i (pred n) (settled marginLattice margin-apart joined n p q (pred n) (omega arith)))
+
+  pub rounds-bound : 1 ≤ n → rounds joined n p q ≤ n
+  unfolding rounds
+  rounds-bound h = omega (arith, first-le (atRest joined n p q) (pred n))
+
+  -- Theorem 4.5 for margins: what the last round leaves is the unbounded
+  pub theorem : (l : ℕ) → l < n → iterate marginLattice joined n p q (rounds joined n p q) l ≡ unbounded marginLattice joined n p q l
+  unfolding rounds last
+  theorem l b = rest-e last at-last l b ∙ limit-at marginLattice margin-apart joined n p q last (rest-e last at-last) l b
+
+-- with Corollary 4.6: the unbounded within bounds, by the iteration on the masked values
+pub theorem-in : (joined : ℕ → ℕ → Bool) (n : ℕ) (inside edge : ℕ → Bool) (p q : ℕ → Margin) (l : ℕ) → l < n
+    → iterate marginLattice joined n (masked marginLattice inside p) (masked marginLattice edge q) (rounds joined n (masked marginLattice inside p) (masked marginLattice edge q)) l
+    ≡ surround marginLattice joined n inside edge p q l
+theorem-in joined n inside edge p q l b =
+    theorem joined n (masked marginLattice inside p) (masked marginLattice edge q) l b ∙ sym (corollary marginLattice margin-apart joined n inside edge p q l)

@@ -1,0 +1,30 @@
+-- Steadiness at the level of values: over every table of lines, codes 0 to 11, recordings at most d apart give margins at most d apart or
+-- the same infinity.
+use mathlib.Core.Path.{_≡_}
+use mathlib.Core.List.{List}
+use Prim.Native.Nat.{ℕ, _≤_, _<_}
+use lib.IntN.{ℤ, negℤ, natAbs, _-ℤ_, _+ℤ_, negℤ-+ℤ, negℤ-negℤ, +ℤ-assoc, +ℤ-comm, +ℤ-invl, +ℤ-idl}
+use Rattle.logic.specs.Margin.{finite}
+use Rattle.logic.specs.Network.{Network}
+use Rattle.logic.specs.Table.{Line, Recording, margins, valueAt}
+use Rattle.logic.specs.Steadiness.{Near}
+use Rattle.logic.proofs.Margins.{near-kept, near-negate}
+use Rattle.logic.proofs.TableKeeps.{valueAt-kept}
+
+-- the two atoms: a constant taken away from both, or both from it, leaves them as far apart
+difference-turned : (x c : ℤ) → c -ℤ x ≡ negℤ (x -ℤ c)
+difference-turned x c = rw (negℤ-+ℤ, negℤ-negℤ, +ℤ-comm c (negℤ x))
+
+same-shift : (x y c : ℤ) → (x -ℤ c) -ℤ (y -ℤ c) ≡ x -ℤ y
+same-shift x y c = simp (negℤ-+ℤ, negℤ-negℤ, +ℤ-assoc, +ℤ-comm (negℤ y) c) (rw (← +ℤ-assoc (negℤ c) c (negℤ y), +ℤ-invl, +ℤ-idl))
+
+atLeast-near : (d : ℕ) (x y c : ℤ) → natAbs (x -ℤ y) ≤ d → natAbs ((x -ℤ c) -ℤ (y -ℤ c)) ≤ d
+atLeast-near d x y c h = rw same-shift h
+
+atMost-near : (d : ℕ) (x y c : ℤ) → natAbs (x -ℤ y) ≤ d → natAbs ((c -ℤ x) -ℤ (c -ℤ y)) ≤ d
+atMost-near d x y c h = rw (difference-turned x c, difference-turned y c) (near-negate d (finite (x -ℤ c)) (finite (y -ℤ c)) (atLeast-near d x y c h))
+
+pub steady : (d : ℕ) (N : Network) (x y : Recording) → ((s t l : ℕ) → natAbs (x s t l -ℤ y s t l) ≤ d) → (lines : List Line)
+    → (i t l : ℕ) → l < N.places → Near d (valueAt margins N x lines i t l) (valueAt margins N y lines i t l)
+steady d N x y h = valueAt-kept margins margins N (Near d) (near-kept d) (near-negate d) x y
+    (λ s t l c. atLeast-near d (x s t l) (y s t l) c (h s t l)) (λ s t l c. atMost-near d (x s t l) (y s t l) c (h s t l))

@@ -1,0 +1,9 @@
+pub mod Lattice
+pub mod Margin
+pub mod Distance
+pub mod Network
+pub mod Surround
+pub mod Iteration
+pub mod Table
+pub mod Counts
+pub mod Steadiness

@@ -1,0 +1,112 @@
+-- The meaning of a table of lines, codes 0 to 11 (Definitions 3.1 and 3.4), once for verdicts and margins: a reading says what values
+-- are, how they are negated and what the two atoms are worth.
+use mathlib.Core.Bool.{Bool, true, false, not}
+use mathlib.Core.List.{List, [], _∷_, _++_}
+use Prim.Native.Nat.{ℕ, zero, suc, _+_, _-_, min}
+use lib.Dec.{leb}
+use lib.ListN.{getD}
+use lib.IntN.{ℤ, _-ℤ_}
+use lib.Signed.{leZ}
+use Rattle.logic.specs.Lattice.{Lattice, verdictLattice, leastOver, greatestOver}
+use Rattle.logic.specs.Margin.{Margin, finite, negate, marginLattice}
+use Rattle.logic.specs.Network.{Network, joined, within}
+use Rattle.logic.specs.Surround.{surround}
+
+-- What a line says, in the order of the codes 0 to 11. Atoms have a signal and a constant; operands are numbers of earlier lines; bounds
+-- come last, lower before upper.
+pub data Operator : Type 0 where
+  True : Operator
+  AtLeast AtMost : ℕ → ℤ → Operator
+  Not : ℕ → Operator
+  And : ℕ → ℕ → Operator
+  Until : ℕ → ℕ → ℕ → ℕ → Operator
+  Somewhere : ℕ → ℕ → ℕ → Operator
+  Surrounded : ℕ → ℕ → ℕ → ℕ → Operator
+  Or : ℕ → ℕ → Operator
+  Eventually Always Everywhere : ℕ → ℕ → ℕ → Operator
+
+-- Length of a line, given T and the operands' lengths: verdicts are for the samples 0 to length - 1
+abbrev pub lengthOf : ℕ → (ℕ → ℕ) → Operator → ℕ
+lengthOf T operand True = T
+lengthOf T operand (AtLeast x c) = T
+lengthOf T operand (AtMost x c) = T
+lengthOf T operand (Not i) = operand i
+lengthOf T operand (And i j) = min (operand i) (operand j)
+lengthOf T operand (Until i j lower upper) = min (operand i) (operand j) - upper
+lengthOf T operand (Somewhere i lower upper) = operand i
+lengthOf T operand (Surrounded i j lower upper) = min (operand i) (operand j)
+lengthOf T operand (Or i j) = min (operand i) (operand j)
+lengthOf T operand (Eventually i lower upper) = operand i - upper
+lengthOf T operand (Always i lower upper) = operand i - upper
+lengthOf T operand (Everywhere i lower upper) = operand i
+
+pub record Line : Type 0 where
+  pub operator : Operator
+  pub length : ℕ
+
+-- line i of a table; one that is not there has no sample
+abbrev pub lineIn : List Line → ℕ → Line
+lineIn lines i = getD lines i (record { operator = True; length = 0 })
+
+-- What is recorded: signal, then sample, then place
+abbrev pub Recording : Type 0
+Recording = ℕ → ℕ → ℕ → ℤ
+
+pub record Reading : Type 1 where
+  pub lattice : Lattice
+  pub opposite : lattice .Value → lattice .Value
+  pub atLeast : ℤ → ℤ → lattice .Value
+  pub atMost : ℤ → ℤ → lattice .Value
+
+abbrev pub verdicts : Reading
+verdicts = record { lattice = verdictLattice; opposite = not; atLeast = λ x c. leZ c x; atMost = λ x c. leZ x c }
+
+abbrev pub margins : Reading
+margins = record { lattice = marginLattice; opposite = negate; atLeast = λ x c. finite (x -ℤ c); atMost = λ x c. finite (c -ℤ x) }
+
+-- the values of a line: sample, then place
+abbrev pub Signal : Reading → Type 0
+Signal R = ℕ → ℕ → R.lattice.Value
+
+module _ (R : Reading) (N : Network) where
+  -- some t' from t + lower to t + upper has right at t' and left at every sample from t to t', t' included
+  unfoldable pub untilAt : Signal R → Signal R → ℕ → ℕ → Signal R
+  untilAt left right lower upper t l = greatestOver R.lattice (leb (t + lower))
+      (λ u. R.lattice.meet (right u l) (leastOver R.lattice (leb t) (λ v. left v l) (suc u))) (suc (t + upper))
+
+  unfoldable pub somewhereAt : Signal R → ℕ → ℕ → Signal R
+  somewhereAt left lower upper t l = greatestOver R.lattice (within N l lower upper) (left t) N.places
+
+  unfoldable pub surroundAt : Signal R → Signal R → ℕ → ℕ → Signal R
+  surroundAt left right lower upper t l =
+      surround R.lattice (joined N) N.places (within N l 0 upper) (within N l lower upper) (left t) (right t) l
+
+  abbrev pub opposite : Signal R → Signal R
+  opposite left t l = R.opposite (left t l)
+
+  abbrev pub everTrue : Signal R
+  everTrue t l = R.lattice.top
+
+  -- the values of a line, given those of the lines before it
+  unfoldable pub value : Recording → (ℕ → Signal R) → Operator → Signal R
+  value x line True = everTrue
+  value x line (AtLeast signal c) = λ t l. R.atLeast (x signal t l) c
+  value x line (AtMost signal c) = λ t l. R.atMost (x signal t l) c
+  value x line (Not i) = opposite (line i)
+  value x line (And i j) = λ t l. R.lattice.meet (line i t l) (line j t l)
+  value x line (Until i j lower upper) = untilAt (line i) (line j) lower upper
+  value x line (Somewhere i lower upper) = somewhereAt (line i) lower upper
+  value x line (Surrounded i j lower upper) = surroundAt (line i) (line j) lower upper
+  value x line (Or i j) = λ t l. R.opposite (R.lattice.meet (R.opposite (line i t l)) (R.opposite (line j t l)))
+  value x line (Eventually i lower upper) = untilAt everTrue (line i) lower upper
+  value x line (Always i lower upper) = opposite (untilAt everTrue (opposite (line i)) lower upper)
+  value x line (Everywhere i lower upper) = opposite (somewhereAt (opposite (line i)) lower upper)
+
+  -- the values of all lines, line 0 first, after those already known
+  unfoldable pub valuesAfter : Recording → List (Signal R) → List Line → List (Signal R)
+  valuesAfter x known [] = known
+  valuesAfter x known (line ∷ lines) = valuesAfter x (known ++ (value x (λ i. getD known i everTrue) (line .operator) ∷ [])) lines
+
+  -- the value of line i at sample t and place l
+  unfoldable pub valueAt : Recording → List Line → ℕ → Signal R
+  valueAt x lines i = getD (valuesAfter x [] lines) i everTrue

@@ -1,0 +1,85 @@
+-- The check of a whole sheet, front to back: head, roads, samples, lines, end ("The sheet" and "Where a sheet is turned back").
+use Prim.Native.Nat.{ℕ, zero, suc, _+_, _*_}
+use mathlib.Core.Bool.{Bool, true, false, _&&_}
+use mathlib.Core.List.{List, []}
+use lib.Dec.{ltb, leb, eqb}
+use lib.ListN.{length}
+use Rattle.words.specs.Word.{bits, payloadOf}
+use Rattle.logic.specs.Table.{Line}
+use Rattle.sheet.specs.Limits.{mostPlaces, mostSignals, mostSamples, mostLines, leastDistances}
+use Rattle.sheet.specs.Checked.{Checked, accepted, refused, _>>=_, require, between, wordAt, isKind}
+use Rattle.sheet.specs.Lines.{linesFrom}
+
+-- places n, signals v, samples T
+pub record Sizes : Type 0 where
+  pub places : ℕ
+  pub signals : ℕ
+  pub samples : ℕ
+
+-- what the check of a sheet finds
+pub record Layout : Type 0 where
+  pub sizes : Sizes
+  pub roads : ℕ
+  pub lines : List Line
+
+-- the two words of a road, given how many roads stand before it; after the last the samples begin
+abbrev pub roadAt : ℕ → ℕ
+roadAt r = 1 + 2 * r
+
+abbrev pub weightAt : ℕ → ℕ
+weightAt r = 2 + 2 * r
+
+abbrev pub sampleCount : Sizes → ℕ
+sampleCount z = z .signals * z .places * z .samples
+
+abbrev pub firstPlace : ℕ → ℕ
+firstPlace w = bits 8 8 w
+
+abbrev pub secondPlace : ℕ → ℕ
+secondPlace w = bits 0 8 w
+
+module _ (s : List ℕ) where
+  -- kind 1: bits 27..20 places, 19..12 signals, 11..0 samples
+  unfoldable pub headSizes : Sizes
+  headSizes = record { places = bits 20 8 (wordAt s 0); signals = bits 12 8 (wordAt s 0); samples = bits 0 12 (wordAt s 0) }
+
+  unfoldable pub headChecked : Checked Sizes
+  headChecked =
+      require (isKind 1 s 0) 2 0
+      (require (between 1 mostPlaces (headSizes .places) && (between 1 mostSignals (headSizes .signals) && between 1 mostSamples (headSizes .samples))) 3 0
+      (accepted headSizes))
+
+  -- How many roads there are, r of them read, the last with this payload (0 before the first): the first word that is not of kind 2 ends them.
+  -- With bits 27..16 zero, the order of pairs is the order of payloads. `words` bounds the roads that may come.
+  unfoldable pub roadsFrom : ℕ → ℕ → ℕ → ℕ → Checked ℕ
+  roadsFrom n zero r last = accepted r
+  roadsFrom n (suc words) r last =
+      let w : ℕ = wordAt s (roadAt r) in
+      elim (isKind 2 s (roadAt r)) [
+        | true ↦ require (eqb (bits 16 12 w) 0) 4 (roadAt r)
+            (require (ltb (firstPlace w) (secondPlace w) && ltb (secondPlace w) n) 5 (roadAt r)
+            (require (ltb last (payloadOf w)) 6 (roadAt r)
+            (require (isKind 3 s (weightAt r) && ltb 0 (payloadOf (wordAt s (weightAt r)))) 7 (weightAt r)
+            (roadsFrom n words (suc r) (payloadOf w)))))
+        | false ↦ accepted r
+      ]
+
+  -- `count` samples from an index on, and the index after them: kind 4, bit 27 zero
+  unfoldable pub samplesFrom : ℕ → ℕ → Checked ℕ
+  samplesFrom zero at = accepted at
+  samplesFrom (suc count) at =
+      require (isKind 4 s at) 8 at (require (eqb (bits 27 1 (wordAt s at)) 0) 9 at (samplesFrom count (at + 1)))
+
+  -- kind 15, payload the count of words before it; it is the last word
+  unfoldable pub endChecked : {A : Type 0} → ℕ → A → Checked A
+  endChecked at found =
+      require (isKind 15 s at && eqb (payloadOf (wordAt s at)) at) 14 at (require (eqb (length s) (at + 1)) 14 (at + 1) (accepted found))
+
+  -- the whole check, given how many distances are lent
+  unfoldable pub checked : ℕ → Checked Layout
+  checked distances = require (leb leastDistances distances) 1 0 (do
+    sizes ← headChecked
+    roads ← roadsFrom (sizes .places) (length s) 0 0
+    linesAt ← samplesFrom (sampleCount sizes) (roadAt roads)
+    found ← linesFrom s (sizes .signals) (sizes .samples) mostLines [] linesAt
+    endChecked (found .1) (record { sizes = sizes; roads = roads; lines = found .0 }))

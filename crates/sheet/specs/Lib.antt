@@ -1,0 +1,6 @@
+pub mod Limits
+pub mod Checked
+pub mod Codes
+pub mod Lines
+pub mod Layout
+pub mod Roads

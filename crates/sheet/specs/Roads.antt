@@ -1,0 +1,42 @@
+-- The network that a sheet's roads make, its recording, and its distances as the lent table holds them.
+use Prim.Native.Nat.{ℕ, zero, suc, _+_, _-_, _*_, _^_}
+use mathlib.Core.Bool.{Bool, true, false, _&&_, _||_}
+use mathlib.Core.List.{List}
+use lib.Dec.{eqb}
+use Rattle.words.specs.Word.{payloadOf, sampleOf}
+use Rattle.words.specs.Rows.{rows, concat, row}
+use Rattle.logic.specs.Distance.{Distance, dist, none}
+use Rattle.logic.specs.Network.{Network, distanceIn}
+use Rattle.logic.specs.Table.{Recording}
+use Rattle.sheet.specs.Checked.{wordAt}
+use Rattle.sheet.specs.Layout.{Sizes, Layout, roadAt, weightAt, firstPlace, secondPlace}
+
+module _ (s : List ℕ) where
+  -- road r joins a and b; roads run both ways
+  unfoldable pub joins : ℕ → ℕ → ℕ → Bool
+  joins r a b =
+      let first : ℕ = firstPlace (wordAt s (roadAt r)) in
+      let second : ℕ = secondPlace (wordAt s (roadAt r)) in
+      eqb first a && eqb second b || eqb first b && eqb second a
+
+  -- the weight of the road between a and b among the first r roads
+  unfoldable pub weightAmong : ℕ → ℕ → ℕ → Distance
+  weightAmong zero a b = none
+  weightAmong (suc r) a b = elim (joins r a b) [ true ↦ dist (payloadOf (wordAt s (weightAt r))) | false ↦ weightAmong r a b ]
+
+  module _ (L : Layout) where
+    unfoldable pub network : Network
+    network = record { places = L.sizes.places; weight = weightAmong (L.roads) }
+
+    -- samples stand after the roads: time outermost, then place, then signal
+    unfoldable pub recording : Recording
+    recording signal t l = sampleOf (wordAt s (roadAt (L.roads) + ((t * L.sizes.places + l) * L.sizes.signals + signal)))
+
+-- 2^64 - 1 for none
+abbrev pub distanceNumber : Distance → ℕ
+distanceNumber (dist x) = x
+distanceNumber none = 2 ^ 64 - 1
+
+-- row by row
+unfoldable pub distanceTable : Network → List ℕ
+distanceTable N = rows (λ a b. distanceNumber (distanceIn N a b)) (N.places) (N.places)

@@ -1,0 +1,36 @@
+-- The words of the answer to an accepted sheet.
+use Prim.Native.Nat.{ℕ, suc, _+_, _*_, _^_}
+use mathlib.Core.Bool.{Bool}
+use mathlib.Core.List.{List, [], _∷_, _++_}
+use lib.ListN.{length}
+use Rattle.words.specs.Word.{wordOf}
+use Rattle.words.specs.Rows.{row, concat, rows}
+use Rattle.logic.specs.Network.{Network}
+use Rattle.logic.specs.Table.{Line, lineIn, Recording, verdicts, margins, valueAt}
+use Rattle.logic.specs.Counts.{sumBelow}
+use Rattle.verdicts.specs.Said.{verdictWord}
+
+module _ (n : ℕ) (lines : List Line) where
+  -- the index of line i's first word: after the head and the earlier lines
+  unfoldable pub lineIndex : ℕ → ℕ
+  lineIndex i = 1 + sumBelow (λ k. 1 + lineIn lines k .length * n) i
+
+  -- head, lines and end
+  unfoldable pub wordsNeeded : ℕ
+  wordsNeeded = 1 + lineIndex (length lines)
+
+module _ (N : Network) (T : ℕ) (x : Recording) (lines : List Line) where
+  -- verdict and margin of line i at sample t and place l
+  unfoldable pub wordFor : ℕ → ℕ → ℕ → ℕ
+  wordFor i t l = verdictWord (valueAt verdicts N x lines i t l) (valueAt margins N x lines i t l)
+
+  -- kind 14, bits 11..0 the length; then the verdicts, sample outermost, then place
+  unfoldable pub lineWords : ℕ → List ℕ
+  lineWords i = wordOf 14 (lineIn lines i .length) ∷ rows (wordFor i) (lineIn lines i .length) N.places
+
+  -- kind 13: bits 27..20 n, 19..12 line count, 11..0 T
+  unfoldable pub headWord : ℕ
+  headWord = wordOf 13 (N.places * 2 ^ 20 + length lines * 2 ^ 12 + T)
+
+  unfoldable pub answerWords : List ℕ
+  answerWords = headWord ∷ (concat lineWords (length lines) ++ (wordOf 15 (lineIndex N.places lines (length lines)) ∷ []))

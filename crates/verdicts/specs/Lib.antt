@@ -1,0 +1,5 @@
+pub mod Said
+pub mod Answer
+pub mod Judged
+pub mod Lookup
+pub mod Apart

@@ -1,0 +1,69 @@
+-- The lookup: whether words are a whole answer as laid out, and what it says at a line, sample and place.
+use Prim.Native.Nat.{ℕ, zero, suc, _+_, _*_}
+use mathlib.Core.Bool.{Bool, true, false, _&&_}
+use mathlib.Core.List.{List}
+use lib.Dec.{ltb, eqb}
+use lib.ListN.{length}
+use Rattle.words.specs.Word.{bits, payloadOf}
+use Rattle.logic.specs.Margin.{Margin}
+use Rattle.logic.specs.Lattice.{verdictLattice, leastOver}
+use Rattle.sheet.specs.Limits.{mostPlaces, mostSamples, mostLines}
+use Rattle.sheet.specs.Checked.{between, wordAt, isKind}
+use Rattle.verdicts.specs.Said.{Said, says, nothing, saidBy}
+
+abbrev pub isSaid : Said → Bool
+isSaid (says v m) = true
+isSaid nothing = false
+
+-- 1 yes, 2 no, 0 no verdict
+abbrev pub verdictNumber : Said → ℕ
+verdictNumber (says true m) = 1
+verdictNumber (says false m) = 2
+verdictNumber nothing = 0
+
+-- every number below n passes
+abbrev all : (ℕ → Bool) → ℕ → Bool
+all test n = leastOver verdictLattice (λ _. true) test n
+
+module _ (a : List ℕ) where
+  abbrev pub headPlaces : ℕ
+  headPlaces = bits 20 8 (wordAt a 0)
+
+  abbrev pub headLines : ℕ
+  headLines = bits 12 8 (wordAt a 0)
+
+  abbrev pub headSamples : ℕ
+  headSamples = bits 0 12 (wordAt a 0)
+
+  -- the index of line i's first word, by the lengths that the earlier lines' words give; of the end, where i is the line count
+  unfoldable pub lineStart : ℕ → ℕ
+  lineStart zero = 1
+  lineStart (suc i) = lineStart i + 1 + bits 0 12 (wordAt a (lineStart i)) * headPlaces
+
+  abbrev pub lineLength : ℕ → ℕ
+  lineLength i = bits 0 12 (wordAt a (lineStart i))
+
+  -- line i: kind 14, bits 27..12 zero, a length of 1 to T, and a verdict for each sample and place
+  unfoldable pub wholeLine : ℕ → Bool
+  wholeLine i =
+      isKind 14 a (lineStart i) && (eqb (bits 12 16 (wordAt a (lineStart i))) 0 && (between 1 headSamples (lineLength i)
+      && all (λ j. isSaid (saidBy (wordAt a (lineStart i + 1 + j)))) (lineLength i * headPlaces)))
+
+  -- kind 15 with the count of words before it, and only zeros after it
+  unfoldable pub wholeEnd : ℕ → Bool
+  wholeEnd at = isKind 15 a at && (eqb (payloadOf (wordAt a at)) at && leastOver verdictLattice (ltb at) (λ j. eqb (wordAt a j) 0) (length a))
+
+  unfoldable pub wholeAnswer : Bool
+  wholeAnswer =
+      isKind 13 a 0 && (between 1 mostPlaces headPlaces && (between 1 mostLines headLines && (between 1 mostSamples headSamples
+      && (all wholeLine headLines && wholeEnd (lineStart headLines)))))
+
+  -- what the answer says at a line, sample and place, nothing where it has no such line, sample or place
+  unfoldable pub saidAt : ℕ → ℕ → ℕ → Said
+  saidAt i t l = elim (ltb i headLines && (ltb t (lineLength i) && ltb l headPlaces)) [
+    | true ↦ saidBy (wordAt a (lineStart i + 1 + (t * headPlaces + l)))
+    | false ↦ nothing
+  ]
+
+  unfoldable pub lookedUp : ℕ → ℕ → ℕ → ℕ
+  lookedUp i t l = elim wholeAnswer [ true ↦ verdictNumber (saidAt i t l) | false ↦ 0 ]
