@@ -1,1 +1,77 @@
-// Words of 32 bits and numbers of 64 bits in bytes, lowest byte first: specs/ has their definitions.
+// Words of 32 bits and numbers of 64 bits in bytes, lowest byte first, and the fields of a word.
+ghost use mathlib.Core.Path.{_≡_};
+ghost use Prim.Native.Nat.{_<_};
+ghost use lib.ListN.{length, getD, set, replicate};
+ghost use Rattle.words.specs.Word.{kindOf, payloadOf, sampleOf};
+ghost use Rattle.words.specs.Bytes.{wordOfBytes, wordsOf};
+
+// Bits 31..28.
+pub fn kind(w: u32) -> u32
+    ensures { λ r. ⌜ r ≡ kindOf w ⌝ }
+{
+    w / 268435456
+}
+
+// Bits 27..0.
+pub fn payload(w: u32) -> u32
+    ensures { λ r. ⌜ r ≡ payloadOf w ⌝ }
+{
+    w % 268435456
+}
+
+// Bits 26..0 as a number in two's complement.
+pub fn sample(w: u32) -> i32
+    ensures { λ r. ⌜ r ≡ sampleOf w ⌝ }
+{
+    let field = w % 134217728;
+    if field < 67108864 {
+        field as i32
+    } else {
+        (field as i32) - 134217728
+    }
+}
+
+fn word_of_bytes(a: u8, b: u8, c: u8, d: u8) -> u32
+    ensures { λ r. ⌜ r ≡ wordOfBytes a b c d ⌝ }
+{
+    a as u32 + b as u32 * 256 + c as u32 * 65536 + d as u32 * 16777216
+}
+
+// How many whole words there are.
+pub fn word_count(s: &[u8]) -> usize
+    ensures { λ r. ⌜ r ≡ length (wordsOf (now (s .entry))) ⌝ }
+{
+    s.len() / 4
+}
+
+// The word at an index.
+pub fn word_at(s: &[u8], i: usize) -> u32
+    requires { ⌜ i < length (wordsOf (now s)) ⌝ }
+    ensures { λ r. ⌜ r ≡ getD (wordsOf (now (s .entry))) i 0 ⌝ }
+{
+    let at = i * 4;
+    word_of_bytes(s[at], s[at + 1], s[at + 2], s[at + 3])
+}
+
+// Stores a word at an index.
+pub fn put_word(s: &mut [u8], i: usize, w: u32)
+    requires { ⌜ i < length (wordsOf (now s)) ⌝ }
+    ensures { λ _. ⌜ wordsOf (now (s .exit)) ≡ set (wordsOf (now (s .entry))) i w ⌝ }
+{
+    let at = i * 4;
+    s[at] = (w % 256) as u8;
+    s[at + 1] = (w / 256 % 256) as u8;
+    s[at + 2] = (w / 65536 % 256) as u8;
+    s[at + 3] = (w / 16777216) as u8;
+}
+
+// Sets every byte to zero: lent a part of a slice, it clears that part.
+pub fn fill_zero(s: &mut [u8])
+    ensures { λ _. ⌜ now (s .exit) ≡ replicate (length (now (s .entry))) 0 ⌝ }
+{
+    let mut i = 0;
+    while i < s.len() {
+        s[i] = 0;
+        i += 1;
+    }
+}

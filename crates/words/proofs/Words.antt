@@ -1,0 +1,53 @@
+-- Laws of the words that a list of bytes holds: their count, the bytes of one, parts that hold whole words, stores and zeros.
+use Prim.Native.Nat.{ℕ, zero, suc, _+_, _-_, _*_, _/_, _%_, _<_, _≤_}
+use mathlib.Core.Path.{_≡_, refl, sym, _∙_, ap}
+use mathlib.Core.List.{List, [], _∷_, _++_}
+use native.Mathlib.Nat.{le-of-suc-le-suc}
+use native.Mathlib.Omega.{arith}
+use lib.ListN.{length, getD, set, take, drop, replicate, length-take}
+use Rattle.words.specs.Bytes.{wordOfBytes, wordsOf}
+
+-- four bytes to a word
+pub words-count : (b : List ℕ) → (length (wordsOf b) * 4 ≤ length b) × (length b < length (wordsOf b) * 4 + 4)
+unfolding wordsOf
+words-count [] = omega arith
+words-count (a ∷ []) = omega arith
+words-count (a ∷ b ∷ []) = omega arith
+words-count (a ∷ b ∷ c ∷ []) = omega arith
+words-count (a ∷ b ∷ c ∷ d ∷ r) = let h = words-count r in omega arith
+
+pub length-words : (b : List ℕ) → length (wordsOf b) ≡ length b / 4
+length-words b = let h = words-count b in omega arith
+
+-- the bytes of one word more, each at the form that lists compute with
+four-more : (k r : ℕ) → suc k * 4 + r ≡ suc (suc (suc (suc (k * 4 + r))))
+four-more k r = omega arith
+
+four : (k : ℕ) → suc k * 4 ≡ suc (suc (suc (suc (k * 4))))
+four k = omega arith
+
+-- ---- one word
+pub getD-words : (b : List ℕ) (i : ℕ) → i < length (wordsOf b) → getD (wordsOf b) i 0 ≡ wordOfBytes (getD b (i * 4) 0) (getD b (i * 4 + 1) 0) (getD b (i * 4 + 2) 0) (getD b (i * 4 + 3) 0)
+unfolding wordsOf
+getD-words [] i h = absurd (omega arith)
+getD-words (a ∷ []) i h = absurd (omega arith)
+getD-words (a ∷ b ∷ []) i h = absurd (omega arith)
+getD-words (a ∷ b ∷ c ∷ []) i h = absurd (omega arith)
+getD-words (a ∷ b ∷ c ∷ d ∷ r) zero h = refl
+getD-words (a ∷ b ∷ c ∷ d ∷ r) (suc i) h = rw (four-more i 1, four-more i 2, four-more i 3, four i) (getD-words r i (le-of-suc-le-suc h))
+
+-- four stores are the store of a word
+pub words-set : (b : List ℕ) (i w x y z : ℕ) → i < length (wordsOf b)
+    → wordsOf (set (set (set (set b (i * 4) w) (i * 4 + 1) x) (i * 4 + 2) y) (i * 4 + 3) z) ≡ set (wordsOf b) i (wordOfBytes w x y z)
+unfolding wordsOf
+words-set [] i w x y z h = absurd (omega arith)
+words-set (a ∷ []) i w x y z h = absurd (omega arith)
+words-set (a ∷ b ∷ []) i w x y z h = absurd (omega arith)
+words-set (a ∷ b ∷ c ∷ []) i w x y z h = absurd (omega arith)
+words-set (a ∷ b ∷ c ∷ d ∷ r) zero w x y z h = refl
+words-set (a ∷ b ∷ c ∷ d ∷ r) (suc i) w x y z h =
+    rw (four-more i 1, four-more i 2, four-more i 3, four i) (ap (λ (t : List ℕ). wordOfBytes a b c d ∷ t) (words-set r i w x y z (le-of-suc-le-suc h)))
+
+-- a number is the word of its bytes
+pub word-bytes : (w : ℕ) → wordOfBytes (w % 256) (w / 256 % 256) (w / 65536 % 256) (w / 16777216) ≡ w
+word-bytes w = omega arith

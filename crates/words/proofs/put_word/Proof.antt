@@ -1,0 +1,73 @@
+use Prim.Native.Nat.{ℕ, _/_, _%_}
+use mathlib.Core.Path.{_∙_, ap}
+use native.Mathlib.Omega.{arith}
+use lib.ListN.{set, length-set}
+use Rattle.words.specs.Bytes.{wordsOf}
+use Rattle.words.proofs.Words.{words-count, words-set, word-bytes}
+use borrow.Author.Needs.{needs}
+use Rattle.words.proofs.put_word.Statement.{statement}
+use Rattle.words.proofs.put_word.Tie as tie
+
+mul-at : tie.Need-mul-at
+mul-at c = omega (arith, words-count (c .args .s .now))
+
+cast-s : tie.Need-cast-s
+cast-s c = search needs
+
+slice-write-s : tie.Need-slice-write-s
+slice-write-s c = omega (arith, words-count (c .args .s .now))
+
+cast-s-2 : tie.Need-cast-s-2
+cast-s-2 c = search needs
+
+add-s : tie.Need-add-s
+add-s c = omega (arith, words-count (c .args .s .now))
+
+slice-write-s-2 : tie.Need-slice-write-s-2
+slice-write-s-2 c = simp length-set (omega (arith, words-count (c .args .s .now)))
+
+cast-s-3 : tie.Need-cast-s-3
+cast-s-3 c = search needs
+
+add-s-2 : tie.Need-add-s-2
+add-s-2 c = omega (arith, words-count (c .args .s .now))
+
+slice-write-s-3 : tie.Need-slice-write-s-3
+slice-write-s-3 c = simp length-set (omega (arith, words-count (c .args .s .now)))
+
+cast-s-4 : tie.Need-cast-s-4
+cast-s-4 c = search needs
+
+add-s-3 : tie.Need-add-s-3
+add-s-3 c = omega (arith, words-count (c .args .s .now))
+
+slice-write-s-4 : tie.Need-slice-write-s-4
+slice-write-s-4 c = simp length-set (omega (arith, words-count (c .args .s .now)))
+
+same-length : tie.Need-same-length
+same-length c = search needs
+
+returns : tie.Need-returns
+returns c =
+    let g = c .args in
+    words-set (g .s .now) (g .i) (g .w % 256) (g .w / 256 % 256) (g .w / 65536 % 256) (g .w / 16777216) (c .pre)
+    ∙ ap (set (wordsOf (g .s .now)) (g .i)) (word-bytes (g .w))
+
+pub put-word-spec : {M : Type 1} → statement M
+put-word-spec =
+    tie.close
+    (tie.spec
+    mul-at
+    cast-s
+    slice-write-s
+    cast-s-2
+    add-s
+    slice-write-s-2
+    cast-s-3
+    add-s-2
+    slice-write-s-3
+    cast-s-4
+    add-s-3
+    slice-write-s-4
+    same-length
+    returns)
