@@ -2,4 +2,3 @@ pub mod Said
 pub mod Answer
 pub mod Judged
 pub mod Lookup
-pub mod Apart
