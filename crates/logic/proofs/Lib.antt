@@ -1,5 +1,6 @@
 pub mod Tests
 pub mod Regions
+pub mod Lists
 pub mod Keeps
 pub mod VerdictLimit
 pub mod Settling
@@ -13,3 +14,4 @@ pub mod Limit
 pub mod TableKeeps
 pub mod Steadiness
 pub mod Agreement
+pub mod Small
