@@ -2,3 +2,4 @@ pub mod Refusals
 pub mod Checks
 pub mod Accepted
 pub mod AcceptedLines
+pub mod SameLayout
