@@ -1,10 +1,11 @@
 -- From the sheet's words and the lent lengths to everything that the engine leaves: the result's five numbers, every word of the answer and
 -- every distance. The contract of the engine is equations to `judged`.
-use Prim.Native.Nat.{ℕ, _-_, _*_}
-use mathlib.Core.Bool.{Bool, true, false}
-use mathlib.Core.List.{List, _++_}
+use Prim.Native.Nat.{ℕ}
+use mathlib.Core.Bool.{true, false}
+use mathlib.Core.List.{List}
 use lib.Dec.{leb}
 use lib.ListN.{length, replicate}
+use Rattle.words.specs.Rows.{padded}
 use Rattle.logic.specs.Network.{Network}
 use Rattle.logic.specs.Table.{Recording}
 use Rattle.logic.specs.Counts.{greatestRounds, yesCount}
@@ -24,10 +25,6 @@ pub record Judged : Type 0 where
   pub result : Result
   pub answer : List ℕ
   pub distances : List ℕ
-
--- a list with zeros after it, up to a length
-abbrev pub padded : List ℕ → ℕ → List ℕ
-padded xs room = xs ++ replicate (room - length xs) 0
 
 -- a refusal leaves zeros
 abbrev pub refusal : ℕ → ℕ → ℕ → ℕ → Judged

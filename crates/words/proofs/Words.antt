@@ -1,10 +1,10 @@
 -- Laws of the words that a list of bytes holds: their count, the bytes of one, parts that hold whole words, stores and zeros.
 use Prim.Native.Nat.{ℕ, zero, suc, _+_, _-_, _*_, _/_, _%_, _<_, _≤_}
-use mathlib.Core.Path.{_≡_, refl, sym, _∙_, ap}
+use mathlib.Core.Path.{_≡_, refl, _∙_, ap}
 use mathlib.Core.List.{List, [], _∷_, _++_}
 use native.Mathlib.Nat.{le-of-suc-le-suc}
 use native.Mathlib.Omega.{arith}
-use lib.ListN.{length, getD, set, take, drop, replicate, length-take}
+use lib.ListN.{length, getD, set, replicate}
 use Rattle.words.specs.Bytes.{wordOfBytes, wordsOf}
 
 -- four bytes to a word
@@ -51,3 +51,27 @@ words-set (a ∷ b ∷ c ∷ d ∷ r) (suc i) w x y z h =
 -- a number is the word of its bytes
 pub word-bytes : (w : ℕ) → wordOfBytes (w % 256) (w / 256 % 256) (w / 65536 % 256) (w / 16777216) ≡ w
 word-bytes w = omega arith
+
+-- ---- lists one after the other, and zeros
+pub words-append : (a b : List ℕ) (k : ℕ) → length a ≡ k * 4 → wordsOf (a ++ b) ≡ wordsOf a ++ wordsOf b
+unfolding wordsOf
+words-append [] b k h = refl
+words-append (x ∷ []) b k h = absurd (omega arith)
+words-append (x ∷ y ∷ []) b k h = absurd (omega arith)
+words-append (x ∷ y ∷ z ∷ []) b k h = absurd (omega arith)
+words-append (x ∷ y ∷ z ∷ w ∷ a) b k h = ap (λ (t : List ℕ). wordOfBytes x y z w ∷ t) (words-append a b (k - 1) (omega arith))
+
+-- zeros past the last whole word count for nothing
+zeros-few : (m r : ℕ) → r < 4 → wordsOf (replicate (m * 4 + r) 0) ≡ replicate m 0
+unfolding wordsOf
+zeros-few zero zero h = refl
+zeros-few zero (suc zero) h = refl
+zeros-few zero (suc (suc zero)) h = refl
+zeros-few zero (suc (suc (suc zero))) h = refl
+zeros-few zero (suc (suc (suc (suc r)))) h = absurd (omega arith)
+zeros-few (suc m) r h = rw (four-more m r) (ap (λ (t : List ℕ). 0 ∷ t) (zeros-few m r h))
+
+pub words-zeros : (k : ℕ) → wordsOf (replicate k 0) ≡ replicate (k / 4) 0
+words-zeros k =
+    let e : k ≡ k / 4 * 4 + k % 4 = omega arith in
+    ap (λ (j : ℕ). wordsOf (replicate j 0)) e ∙ zeros-few (k / 4) (k % 4) (omega arith)

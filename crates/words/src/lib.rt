@@ -1,9 +1,9 @@
 // Words of 32 bits and numbers of 64 bits in bytes, lowest byte first, and the fields of a word.
 ghost use mathlib.Core.Path.{_≡_};
-ghost use Prim.Native.Nat.{_<_};
+ghost use Prim.Native.Nat.{_+_, _*_, _<_, _^_};
 ghost use lib.ListN.{length, getD, set, replicate};
 ghost use Rattle.words.specs.Word.{kindOf, payloadOf, sampleOf};
-ghost use Rattle.words.specs.Bytes.{wordOfBytes, wordsOf};
+ghost use Rattle.words.specs.Bytes.{wordOfBytes, wordsOf, numbersOf};
 
 // Bits 31..28.
 pub fn kind(w: u32) -> u32
@@ -63,6 +63,38 @@ pub fn put_word(s: &mut [u8], i: usize, w: u32)
     s[at + 1] = (w / 256 % 256) as u8;
     s[at + 2] = (w / 65536 % 256) as u8;
     s[at + 3] = (w / 16777216) as u8;
+}
+
+fn number_of_words(low: u32, high: u32) -> u64
+    ensures { λ r. ⌜ r ≡ low + high * 2 ^ 32 ⌝ }
+{
+    low as u64 + high as u64 * 4294967296
+}
+
+// How many whole numbers there are.
+pub fn number_count(s: &[u8]) -> usize
+    ensures { λ r. ⌜ r ≡ length (numbersOf (wordsOf (now (s .entry)))) ⌝ }
+{
+    s.len() / 8
+}
+
+// The number at an index.
+pub fn number_at(s: &[u8], i: usize) -> u64
+    requires { ⌜ i < length (numbersOf (wordsOf (now s))) ⌝ }
+    ensures { λ r. ⌜ r ≡ getD (numbersOf (wordsOf (now (s .entry)))) i 0 ⌝ }
+{
+    let at = i * 2;
+    number_of_words(word_at(s, at), word_at(s, at + 1))
+}
+
+// Stores a number at an index.
+pub fn put_number(s: &mut [u8], i: usize, x: u64)
+    requires { ⌜ i < length (numbersOf (wordsOf (now s))) ⌝ }
+    ensures { λ _. ⌜ numbersOf (wordsOf (now (s .exit))) ≡ set (numbersOf (wordsOf (now (s .entry)))) i x ⌝ }
+{
+    let at = i * 2;
+    put_word(s, at, (x % 4294967296) as u32);
+    put_word(s, at + 1, (x / 4294967296) as u32);
 }
 
 // Sets every byte to zero: lent a part of a slice, it clears that part.

@@ -1,0 +1,60 @@
+-- Bytes read as words or as numbers, and written back, are the same bytes where there are only whole words or whole numbers. So the words
+-- of a buffer pin every byte of it.
+use Prim.Native.Nat.{ℕ, zero, suc, _+_, _*_, _/_, _%_, _<_, _^_}
+use mathlib.Core.Path.{_≡_, refl, _∙_, ap}
+use mathlib.Core.List.{List, [], _∷_}
+use native.Mathlib.Omega.{arith}
+use lib.ListN.{length, getD}
+use Rattle.words.specs.Bytes.{wordOfBytes, wordsOf, numbersOf, bytesOf, halvesOf}
+use Rattle.words.proofs.Words.{words-count}
+
+-- every element is below a bound; beyond the end an element counts as 0, as a slice tells it
+abbrev pub Below : ℕ → List ℕ → Type 0
+Below bound b = (i : ℕ) → getD b i 0 < bound
+
+pub words-bytes : (b : List ℕ) (k : ℕ) → Below (2 ^ 8) b → length b ≡ k * 4 → bytesOf (wordsOf b) ≡ b
+unfolding wordsOf bytesOf
+words-bytes [] k l h = refl
+words-bytes (x ∷ []) k l h = absurd (omega arith)
+words-bytes (x ∷ y ∷ []) k l h = absurd (omega arith)
+words-bytes (x ∷ y ∷ z ∷ []) k l h = absurd (omega arith)
+words-bytes (x ∷ y ∷ z ∷ u ∷ b) zero l h = absurd (omega arith)
+words-bytes (x ∷ y ∷ z ∷ u ∷ b) (suc k) l h =
+    let w = wordOfBytes x y z u in
+    let lx = l 0 in
+    let ly = l 1 in
+    let lz = l 2 in
+    let lu = l 3 in
+    let e0 : w % 2 ^ 8 ≡ x = omega arith in
+    let q1 : w / 2 ^ 8 ≡ y + z * 2 ^ 8 + u * 2 ^ 16 = omega arith in
+    let e1 : w / 2 ^ 8 % 2 ^ 8 ≡ y = rw q1 (omega arith) in
+    let q2 : w / 2 ^ 16 ≡ z + u * 2 ^ 8 = omega arith in
+    let e2 : w / 2 ^ 16 % 2 ^ 8 ≡ z = rw q2 (omega arith) in
+    let q3 : w / 2 ^ 24 ≡ u = omega arith in
+    let e3 : w / 2 ^ 24 % 2 ^ 8 ≡ u = rw q3 (omega arith) in
+    rw (e0, e1, e2, e3, words-bytes b k (λ i. l (suc (suc (suc (suc i))))) (omega arith))
+
+words-below : (b : List ℕ) → Below (2 ^ 8) b → Below (2 ^ 32) (wordsOf b)
+unfolding wordsOf
+words-below [] l i = omega arith
+words-below (x ∷ []) l i = omega arith
+words-below (x ∷ y ∷ []) l i = omega arith
+words-below (x ∷ y ∷ z ∷ []) l i = omega arith
+words-below (x ∷ y ∷ z ∷ u ∷ b) l zero = omega (arith, l 0, l 1, l 2, l 3)
+words-below (x ∷ y ∷ z ∷ u ∷ b) l (suc i) = words-below b (λ j. l (suc (suc (suc (suc j))))) i
+
+numbers-words : (w : List ℕ) (k : ℕ) → Below (2 ^ 32) w → length w ≡ k * 2 → halvesOf (numbersOf w) ≡ w
+unfolding numbersOf halvesOf
+numbers-words [] k l h = refl
+numbers-words (x ∷ []) k l h = absurd (omega arith)
+numbers-words (x ∷ y ∷ w) zero l h = absurd (omega arith)
+numbers-words (x ∷ y ∷ w) (suc k) l h =
+    let lx = l 0 in
+    let e0 : (x + y * 2 ^ 32) % 2 ^ 32 ≡ x = omega arith in
+    let e1 : (x + y * 2 ^ 32) / 2 ^ 32 ≡ y = omega arith in
+    rw (e0, e1, numbers-words w k (λ i. l (suc (suc i))) (omega arith))
+
+pub numbers-bytes : (b : List ℕ) (k : ℕ) → Below (2 ^ 8) b → length b ≡ k * 8 → bytesOf (halvesOf (numbersOf (wordsOf b))) ≡ b
+numbers-bytes b k l h =
+    ap bytesOf (numbers-words (wordsOf b) k (words-below b l) (omega (arith, words-count b)))
+    ∙ words-bytes b (k * 2) l (omega arith)
