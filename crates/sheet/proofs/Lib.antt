@@ -3,3 +3,4 @@ pub mod Checks
 pub mod Accepted
 pub mod AcceptedLines
 pub mod SameLayout
+pub mod RefusalNumbers

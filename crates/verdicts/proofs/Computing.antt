@@ -14,7 +14,7 @@ use Rattle.sheet.specs.Codes.{codes}
 use Rattle.sheet.specs.Lines.{constantAt, boundsAt, operatorAt, lineAt, linesFrom}
 use Rattle.sheet.specs.Layout.{headSizes, headChecked, roadsFrom, samplesFrom, endChecked, checked}
 use Rattle.sheet.specs.Roads.{joins, weightAmong, network, recording, distanceTable}
-use Rattle.verdicts.specs.Said.{Said, saidBy}
+use Rattle.verdicts.specs.Said.{Said, said}
 use Rattle.verdicts.specs.Answer.{lineIndex, wordsNeeded, wordFor, lineWords, headWord, answerWords}
 use Rattle.verdicts.specs.Judged.{Judged, answered, judged}
 use Rattle.verdicts.specs.Lookup.{lineStart, saidAt}
@@ -25,5 +25,5 @@ unfolding leastOver greatestOver direct distance joined distanceIn within greate
     iterate masked first atRest rounds untilAt somewhereAt surroundAt value valuesAfter valueAt mostBelow sumBelow roundsAt
     greatestRounds yesCount isKind codes constantAt boundsAt operatorAt lineAt linesFrom headSizes headChecked roadsFrom
     samplesFrom endChecked checked joins weightAmong network recording distanceTable row concat lineIndex wordsNeeded wordFor
-    lineWords headWord answerWords answered judged saidBy lineStart saidAt
+    lineWords headWord answerWords answered judged said lineStart saidAt
 answerOf s = judged s 4096 64

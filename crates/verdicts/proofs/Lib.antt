@@ -1,2 +1,5 @@
 pub mod Computing
 pub mod Examples
+pub mod ReadBack
+pub mod AnswerWords
+pub mod AnswerSays
