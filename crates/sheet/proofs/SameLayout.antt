@@ -79,7 +79,7 @@ module _ (d : ℕ) (X Y : List ℕ) (apart : SamplesApart d X Y) where
       (λ n. not-sample k i (wordAt X i) (length X) other (n .first-sample) ∙ sym (not-sample k i (wordAt Y i) (length Y) other (n .second-sample)))
       (apart.words-alike i)
 
-  word-same : (k i : ℕ) → T (not (eqb 4 k)) → T (isKind k Y i) → wordAt X i ≡ wordAt Y i
+  pub word-same : (k i : ℕ) → T (not (eqb 4 k)) → T (isKind k Y i) → wordAt X i ≡ wordAt Y i
   unfolding isKind
   word-same k i other h = ⊎-elim
       (λ e. e)
