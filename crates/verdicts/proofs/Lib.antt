@@ -3,3 +3,5 @@ pub mod Examples
 pub mod ReadBack
 pub mod AnswerWords
 pub mod AnswerSays
+pub mod Accepted
+pub mod Steadiness
