@@ -15,3 +15,4 @@ pub mod TableKeeps
 pub mod Steadiness
 pub mod Agreement
 pub mod Small
+pub mod Examples

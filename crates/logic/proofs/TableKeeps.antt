@@ -64,7 +64,7 @@ module _ (R M : Reading) (N : Network) (Rel : R.lattice.Value → M.lattice.Valu
   surroundAt-kept : (p q : Signal R) (p′ q′ : Signal M) → Alike p p′ → Alike q q′ → (lower upper : ℕ) → Alike (surroundAt R N p q lower upper) (surroundAt M N p′ q′ lower upper)
   unfolding surroundAt
   surroundAt-kept p q p′ q′ hp hq lower upper t l b =
-      surround-kept R.lattice M.lattice Rel K (joined N) N.places (p t) (q t) (p′ t) (q′ t) (hp t) (hq t) (within N l 0 upper) (within N l lower upper) l
+      surround-kept R.lattice M.lattice Rel K (joined N) N.places (p t) (q t) (p′ t) (q′ t) (hp t) (hq t) _ _ l
 
   module _ (opposite-kept : (a : R.lattice.Value) (b : M.lattice.Value) → Rel a b → Rel (R.opposite a) (M.opposite b))
       (Fit : ℤ → Type 0) (x y : Recording)
