@@ -15,7 +15,7 @@ use Rattle.sheet.specs.Roads.{network, recording}
 use Rattle.sheet.proofs.Accepted.{Stages, stages, InLimits, head-limits}
 use Rattle.sheet.proofs.AcceptedLines.{sample-bits, GoodLine, GoodLines, good-length, table-good, good-constants}
 use Rattle.sheet.proofs.RefusalNumbers.{Numbered, accepts, refuses, check-numbered}
-use Rattle.verdicts.specs.Said.{Said, says, nothing}
+use Rattle.values.specs.Said.{Said, says, nothing}
 use Rattle.verdicts.specs.Answer.{wordsNeeded}
 use Rattle.verdicts.specs.Judged.{Judged, refusal, answered, judgedBy, judged}
 use Rattle.verdicts.specs.Lookup.{saidAt}

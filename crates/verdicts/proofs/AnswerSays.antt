@@ -13,10 +13,10 @@ use Rattle.logic.proofs.Agreement.{agreement}
 use Rattle.logic.proofs.Small.{InBits, Small, margins-small}
 use Rattle.logic.proofs.TableKeeps.{ConstantsIn}
 use Rattle.sheet.specs.Checked.{wordAt}
-use Rattle.verdicts.specs.Said.{Said, says, nothing, saidBy}
+use Rattle.values.specs.Said.{Said, says, nothing, saidBy}
 use Rattle.verdicts.specs.Answer.{wordFor}
 use Rattle.verdicts.specs.Lookup.{headPlaces, headLines, lineLength, lineStart, saidAt}
-use Rattle.verdicts.proofs.ReadBack.{read-back}
+use Rattle.values.proofs.ReadBack.{read-back}
 use Rattle.verdicts.proofs.AnswerWords.{InFields, answer, places-read, lines-read, start-read, length-read, verdict-word}
 
 -- a choice by three tests in turn

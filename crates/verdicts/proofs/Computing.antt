@@ -14,7 +14,7 @@ use Rattle.sheet.specs.Codes.{codes}
 use Rattle.sheet.specs.Lines.{constantAt, boundsAt, operatorAt, lineAt, linesFrom}
 use Rattle.sheet.specs.Layout.{headSizes, headChecked, roadsFrom, samplesFrom, endChecked, checked}
 use Rattle.sheet.specs.Roads.{joins, weightAmong, network, recording, distanceTable}
-use Rattle.verdicts.specs.Said.{Said, said}
+use Rattle.values.specs.Said.{Said, said}
 use Rattle.verdicts.specs.Answer.{lineIndex, wordsNeeded, wordFor, lineWords, headWord, answerWords}
 use Rattle.verdicts.specs.Judged.{Judged, answered, judged}
 use Rattle.verdicts.specs.Lookup.{lineStart, saidAt}

@@ -12,7 +12,7 @@ use Rattle.logic.specs.Counts.{roundsAt}
 use Rattle.sheet.specs.Checked.{Checked, accepted, refused}
 use Rattle.sheet.specs.Layout.{Layout, checked}
 use Rattle.sheet.specs.Roads.{network, recording}
-use Rattle.verdicts.specs.Said.{Said, says, nothing}
+use Rattle.values.specs.Said.{Said, says, nothing}
 use Rattle.verdicts.specs.Judged.{Judged, refusal, judged}
 use Rattle.verdicts.specs.Lookup.{saidAt}
 use Rattle.verdicts.proofs.Computing.{answerOf}

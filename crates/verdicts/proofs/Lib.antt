@@ -1,6 +1,5 @@
 pub mod Computing
 pub mod Examples
-pub mod ReadBack
 pub mod AnswerWords
 pub mod AnswerSays
 pub mod Accepted

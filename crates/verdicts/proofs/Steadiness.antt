@@ -20,7 +20,7 @@ use Rattle.sheet.specs.Apart.{SamplesApart}
 use Rattle.sheet.proofs.Accepted.{Stages, stages}
 use Rattle.sheet.proofs.SameLayout.{same-layout}
 use Rattle.sheet.proofs.SameNetwork.{network-same, recordings-near}
-use Rattle.verdicts.specs.Said.{Said, says, nothing}
+use Rattle.values.specs.Said.{Said, says, nothing}
 use Rattle.verdicts.specs.Judged.{Judged, answered, judged}
 use Rattle.verdicts.specs.Lookup.{saidAt}
 use Rattle.verdicts.specs.Steady.{Steady, SteadyVerdicts}

@@ -1,4 +1,3 @@
-pub mod Said
 pub mod Answer
 pub mod Judged
 pub mod Lookup

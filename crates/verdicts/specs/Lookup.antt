@@ -9,7 +9,7 @@ use Rattle.logic.specs.Margin.{Margin}
 use Rattle.logic.specs.Lattice.{verdictLattice, leastOver}
 use Rattle.sheet.specs.Limits.{mostPlaces, mostSamples, mostLines}
 use Rattle.sheet.specs.Checked.{between, wordAt, isKind}
-use Rattle.verdicts.specs.Said.{Said, says, nothing, saidBy}
+use Rattle.values.specs.Said.{Said, says, nothing, saidBy}
 
 abbrev pub isSaid : Said → Bool
 isSaid (says v m) = true

@@ -5,7 +5,7 @@ use mathlib.Core.Bool.{Bool}
 use Prim.Native.Nat.{ℕ}
 use Rattle.logic.specs.Margin.{Margin}
 use Rattle.logic.specs.Steadiness.{Near, Beyond}
-use Rattle.verdicts.specs.Said.{Said, says, nothing}
+use Rattle.values.specs.Said.{Said, says, nothing}
 
 pub record SteadyVerdicts (d : ℕ) (v w : Bool) (m k : Margin) : Type 0 where
   pub near : Near d m k

@@ -11,7 +11,7 @@ use Rattle.words.specs.Word.{kindOf, payloadOf, wordOf, signed, unsigned}
 use Rattle.logic.specs.Margin.{Margin, minusInfinity, finite, plusInfinity}
 use Rattle.logic.specs.Steadiness.{Agree}
 use Rattle.logic.proofs.Small.{Small}
-use Rattle.verdicts.specs.Said.{verdictWord, Said, says, said, saidBy}
+use Rattle.values.specs.Said.{verdictWord, Said, says, said, saidBy}
 
 -- ---- two's complement of 28 bits, there and back
 signed-negsuc : (x : ℕ) → suc x < 2 ^ 27 → signed 28 (2 ^ 28 - suc x) ≡ negsuc x
