@@ -52,7 +52,7 @@ module _ (R M : Reading) (N : Network) (Rel : R.lattice.Value → M.lattice.Valu
   abbrev Alike : Signal R → Signal M → Type 0
   Alike f g = (t l : ℕ) → l < N.places → Rel (f t l) (g t l)
 
-  until-kept : (p q : Signal R) (p′ q′ : Signal M) → Alike p p′ → Alike q q′ → (lower upper : ℕ) → Alike (untilAt R N p q lower upper) (untilAt M N p′ q′ lower upper)
+  until-kept : (p q : Signal R) (p′ q′ : Signal M) → Alike p p′ → Alike q q′ → (lower upper : ℕ) → Alike (untilAt R p q lower upper) (untilAt M p′ q′ lower upper)
   unfolding untilAt
   until-kept p q p′ q′ hp hq lower upper t l b = greatest-kept R.lattice M.lattice Rel K (leb (t + lower)) _ _ (suc (t + upper))
       (λ u _. K.keeps-meet _ _ _ _ (hq u l b) (least-kept R.lattice M.lattice Rel K (leb t) _ _ (suc u) (λ v _. hp v l b)))
