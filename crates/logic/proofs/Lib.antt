@@ -16,3 +16,4 @@ pub mod Steadiness
 pub mod Agreement
 pub mod Small
 pub mod Examples
+pub mod Counts

@@ -3,6 +3,7 @@ use mathlib.Core.Path.{_≡_, refl, sym, ap, subst, _∙_}
 use mathlib.Core.Bool.{Bool, true, false, not, cond, _&&_}
 use mathlib.Core.List.{List, [], _∷_, _++_}
 use Prim.Native.Nat.{ℕ, zero, suc, _+_, _-_, _%_, _^_, _<_, _≤_, min}
+use native.Mathlib.Nat.{not-suc-le-zero, le-of-suc-le-suc}
 use native.Mathlib.Omega.{arith}
 use lib.Dec.{T, leb, eqb, ltb, leb→le, ltb→lt, nltb→le}
 use lib.ListN.{length, getD, length-append}
@@ -114,6 +115,11 @@ pub good-length : (T : ℕ) (lines : List Line) → All (GoodLine T) lines → (
 good-length T [] none i = omega arith
 good-length T (line ∷ lines) (more h hs) zero = h .most
 good-length T (line ∷ lines) (more h hs) (suc i) = good-length T lines hs i
+
+pub good-lengths : (T : ℕ) (lines : List Line) → All (GoodLine T) lines → (i : ℕ) → i < length lines → (1 ≤ lineIn lines i .length) × (lineIn lines i .length ≤ T)
+good-lengths T [] none i h = absurd (not-suc-le-zero h)
+good-lengths T (line ∷ lines) (more g gs) zero h = (g .least, g .most)
+good-lengths T (line ∷ lines) (more g gs) (suc i) h = good-lengths T lines gs i (le-of-suc-le-suc h)
 
 line-good : (s : List ℕ) (v T : ℕ) (lines : List Line) (at : ℕ) (read : Line × ℕ) → All (GoodLine T) lines
     → lineAt s v T (length lines) (λ i. lineIn lines i .length) at ≡ accepted read → GoodLine T (read .0)

@@ -37,7 +37,7 @@ module _ (N : Network) (T : ℕ) (x : Recording) (lines : List Line) (room : ℕ
   abbrev pub present : ℕ → ℕ → ℕ → Bool
   present i t l = ltb i (length lines) && (ltb t (lineIn lines i .length) && ltb l (N.places))
 
-  word-says : (i t l : ℕ) → l < N.places → saidBy (wordFor N T x lines i t l) ≡ meant i t l
+  pub word-says : (i t l : ℕ) → l < N.places → saidBy (wordFor N T x lines i t l) ≡ meant i t l
   unfolding wordFor
   word-says i t l b = read-back (valueAt verdicts N x lines i t l) (valueAt margins N x lines i t l)
       (agreement N x lines i t l b) (margins-small N x samples lines constants i t l b)

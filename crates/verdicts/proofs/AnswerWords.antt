@@ -1,12 +1,12 @@
 -- Where the words of an answer stand: the head's fields, line i's words from `lineIndex i` on, and the walk over the lines' lengths that finds
 -- them again (`lineStart`).
 use mathlib.Core.Path.{_≡_, refl, sym, ap, ap₂, _∙_}
-use mathlib.Core.List.{List, [], _∷_, _++_}
+use mathlib.Core.List.{List, [], _∷_, _++_, append-assoc}
 use Prim.Native.Nat.{ℕ, zero, suc, _+_, _-_, _*_, _/_, _%_, _^_, _<_, _≤_}
 use native.Mathlib.Nat.{mul-le-mul-right}
 use native.Mathlib.Omega.{arith}
 use lib.ListN.{length, getD, replicate, length-append, List·getD-append}
-use lib.Seq.{getD-append-add}
+use lib.Seq.{getD-append-add, getD-append-seam}
 use Rattle.words.specs.Word.{bits, wordOf}
 use Rattle.words.specs.Rows.{concat, rows, padded}
 use Rattle.words.proofs.Rows.{length-rows, getD-rows, in-table}
@@ -23,6 +23,27 @@ behind-head : (m e z : List ℕ) (h k : ℕ) → k < length m → getD (h ∷ ((
 behind-head m e z h k l =
     let s : 1 + k ≡ suc k = omega arith in
     rw s (List·getD-append (m ++ e) z 0 k (omega (arith, length-append m e)) ∙ List·getD-append m e 0 k l)
+
+-- the end, and the zeros after it
+at-end : (m z : List ℕ) (h e : ℕ) → getD (h ∷ ((m ++ (e ∷ [])) ++ z)) (1 + length m) 0 ≡ e
+at-end m z h e =
+    let s : 1 + length m ≡ suc (length m) = omega arith in
+    rw (s, append-assoc m (e ∷ []) z) (getD-append-seam m e z 0)
+
+zero-at : (k i : ℕ) → _≡_ {A = ℕ} (getD (replicate k 0) i 0) 0
+zero-at zero i = refl
+zero-at (suc k) zero = refl
+zero-at (suc k) (suc i) = zero-at k i
+
+after-end : (m : List ℕ) (h e k j : ℕ) → 1 + length m < j → getD (h ∷ ((m ++ (e ∷ [])) ++ replicate k 0)) j 0 ≡ 0
+after-end m h e k j b =
+    let i : ℕ = j - suc (suc (length m)) in
+    let l : length (m ++ (e ∷ [])) ≡ length m + 1 = length-append m (e ∷ []) in
+    let index : j ≡ suc (length (m ++ (e ∷ [])) + i) = omega arith in
+    ap (λ (a : ℕ). getD (h ∷ ((m ++ (e ∷ [])) ++ replicate k 0)) a 0) index ∙ getD-append-add (m ++ (e ∷ [])) (replicate k 0) i 0 ∙ zero-at k i
+
+end-below : (m : List ℕ) (e : ℕ) (z : List ℕ) (h : ℕ) → 1 + length m < length (h ∷ ((m ++ (e ∷ [])) ++ z))
+end-below m e z h = omega (arith, length-append (m ++ (e ∷ [])) z, length-append m (e ∷ []))
 
 -- what the fields of an answer have to hold
 pub record InFields (n T : ℕ) (lines : List Line) : Type 0 where
@@ -64,7 +85,7 @@ module _ (N : Network) (T : ℕ) (x : Recording) (lines : List Line) (room : ℕ
   unfolding sumBelow
   sizes-first = refl
 
-  line-word : (i j : ℕ) → i < length lines → j < 1 + lineIn lines i .length * N.places → wordAt answer (lineIndex (N.places) lines i + j) ≡ getD (lineWords N T x lines i) j 0
+  pub line-word : (i j : ℕ) → i < length lines → j < 1 + lineIn lines i .length * N.places → wordAt answer (lineIndex (N.places) lines i + j) ≡ getD (lineWords N T x lines i) j 0
   unfolding answerWords lineIndex
   line-word i j h k =
       let inLine : j < length (lineWords N T x lines i) = rw (line-size i) k in
@@ -103,3 +124,31 @@ module _ (N : Network) (T : ℕ) (x : Recording) (lines : List Line) (room : ℕ
       ap (wordAt answer) index
       ∙ line-word i (suc (t * N.places + l)) h inside
       ∙ getD-rows (wordFor N T x lines i) (lineIn lines i .length) (N.places) t l 0 k b
+
+  -- ---- the end
+  abbrev middle : List ℕ
+  middle = concat (lineWords N T x lines) (length lines)
+
+  abbrev ending : ℕ
+  ending = wordOf 15 (lineIndex (N.places) lines (length lines))
+
+  -- how many words are left over
+  abbrev spare : ℕ
+  spare = room - length (headWord N T x lines ∷ (middle ++ (ending ∷ [])))
+
+  middle-length : length middle ≡ sizes (length lines)
+  middle-length = concat-length (lineWords N T x lines) sizes sizes-first sizes-next (length lines)
+
+  pub end-word : wordAt answer (lineIndex (N.places) lines (length lines)) ≡ ending
+  unfolding answerWords lineIndex
+  end-word =
+      let index : lineIndex (N.places) lines (length lines) ≡ 1 + length middle = omega (arith, middle-length) in
+      ap (wordAt answer) index ∙ at-end middle (replicate spare 0) (headWord N T x lines) ending
+
+  pub zeros-after : (j : ℕ) → lineIndex (N.places) lines (length lines) < j → wordAt answer j ≡ 0
+  unfolding answerWords lineIndex
+  zeros-after j b = after-end middle (headWord N T x lines) ending spare j (omega (arith, middle-length))
+
+  pub end-inside : lineIndex (N.places) lines (length lines) < length answer
+  unfolding answerWords lineIndex
+  end-inside = omega (arith, middle-length, end-below middle ending (replicate spare 0) (headWord N T x lines))
