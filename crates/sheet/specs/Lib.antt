@@ -4,3 +4,5 @@ pub mod Codes
 pub mod Lines
 pub mod Layout
 pub mod Roads
+pub mod Faults
+pub mod Decoding
