@@ -6,3 +6,4 @@ pub mod Layout
 pub mod Roads
 pub mod Faults
 pub mod Decoding
+pub mod Checking
