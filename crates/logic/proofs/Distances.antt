@@ -5,7 +5,7 @@ use mathlib.Core.Bool.{Bool, true, false, not, cond}
 use Prim.Native.Nat.{ℕ, zero, suc, _+_, _<_, _≤_, zero-le}
 use native.Mathlib.Nat.{not-suc-le-zero, le-refl, le-of-lt, zero-add, add-zero}
 use native.Mathlib.Omega.{arith}
-use lib.Dec.{T, leb, eqb, leb→le, le→leb, eqb→eq, eqb-refl, nleb→lt}
+use lib.Dec.{T, T-not, leb, eqb, leb→le, le→leb, eqb→eq, eqb-refl, nleb→lt}
 use Rattle.logic.specs.Distance.{Distance, dist, none, atMost, add, lesser, Path, here, step, IsDistance, direct, distance}
 use Rattle.logic.proofs.Tests.{below}
 
@@ -50,6 +50,22 @@ add-le : (x y : Distance) (a b : ℕ) → T (atMost x (dist a)) → T (atMost y 
 add-le none y a b h k = h
 add-le (dist x) none a b h k = k
 add-le (dist x) (dist y) a b h k = omega (arith, leb→le, le→leb)
+
+lesser-first : (x y : Distance) → T (atMost x y) → lesser x y ≡ x
+lesser-first x y h = lesser-by (λ v. v ≡ x) x y (λ _. refl) (λ k. absurd (T-not (atMost x y) k h))
+
+zero-least : (y : Distance) → T (atMost (dist 0) y)
+zero-least none = tt
+zero-least (dist b) = le→leb 0 b zero-le
+
+-- a sum is no less than either part
+part-l : (x : Distance) (b : ℕ) → T (atMost x (add x (dist b)))
+part-l none b = tt
+part-l (dist a) b = le→leb a (a + b) (omega arith)
+
+part-r : (x : Distance) (b : ℕ) → T (atMost x (add (dist b) x))
+part-r none b = tt
+part-r (dist a) b = le→leb a (b + a) (omega arith)
 
 module _ (weight : ℕ → ℕ → Distance) where
   direct-self : (a : ℕ) → direct weight a a ≡ dist 0
@@ -143,3 +159,23 @@ module _ (weight : ℕ → ℕ → Distance) where
     sum = λ x e. is-path n n (le-refl n) a b x c e;
     least = λ x p. below-sum (distance weight n a b) x (least n a b x p);
   }
+
+  -- ---- the distances to and from k stay as they are when k is let in: a table can take in one place after the other within itself
+  distance-self : (k a : ℕ) → distance weight k a a ≡ dist 0
+  unfolding distance
+  distance-self zero a = direct-self a
+  distance-self (suc k) a =
+      let y = add (distance weight k a k) (distance weight k k a) in
+      rw (distance-self k a) (lesser-first (dist 0) y (zero-least y))
+
+  pub distance-to : (k a : ℕ) → distance weight (suc k) a k ≡ distance weight k a k
+  unfolding distance
+  distance-to k a =
+      let x = distance weight k a k in
+      rw (distance-self k k) (lesser-first x (add x (dist 0)) (part-l x 0))
+
+  pub distance-from : (k b : ℕ) → distance weight (suc k) k b ≡ distance weight k k b
+  unfolding distance
+  distance-from k b =
+      let x = distance weight k k b in
+      rw (distance-self k k) (lesser-first x (add (dist 0) x) (part-r x 0))

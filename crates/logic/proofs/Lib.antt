@@ -9,6 +9,7 @@ pub mod Order
 pub mod Margins
 pub mod Rounds
 pub mod Distances
+pub mod Reach
 pub mod Limit
 pub mod TableKeeps
 pub mod Steadiness
