@@ -9,7 +9,7 @@ use lib.Dec.{T, T-not, leb, eqb, leb→le, le→leb, eqb→eq, eqb-refl, nleb→
 use Rattle.logic.specs.Distance.{Distance, dist, none, atMost, add, lesser, Path, here, step, IsDistance, direct, distance}
 use Rattle.logic.proofs.Tests.{below}
 
-lesser-by : (P : Distance → Type 0) (x y : Distance) → (T (atMost x y) → P x) → (T (not (atMost x y)) → P y) → P (lesser x y)
+pub lesser-by : (P : Distance → Type 0) (x y : Distance) → (T (atMost x y) → P x) → (T (not (atMost x y)) → P y) → P (lesser x y)
 lesser-by P x y f g = go (atMost x y) f g
   where
     go : (c : Bool) → (T c → P x) → (T (not c) → P y) → P (cond c x y)
@@ -22,7 +22,7 @@ atMost-trans x none (dist c) h k = absurd k
 atMost-trans none (dist b) (dist c) h k = absurd h
 atMost-trans (dist a) (dist b) (dist c) h k = omega (arith, leb→le, le→leb)
 
-atMost-other : (x y : Distance) → T (not (atMost x y)) → T (atMost y x)
+pub atMost-other : (x y : Distance) → T (not (atMost x y)) → T (atMost y x)
 atMost-other x none h = absurd h
 atMost-other none (dist b) h = tt
 atMost-other (dist a) (dist b) h = omega (arith, nleb→lt, le→leb)

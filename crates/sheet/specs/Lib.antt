@@ -4,3 +4,4 @@ pub mod Codes
 pub mod Lines
 pub mod Layout
 pub mod Roads
+pub mod Stages

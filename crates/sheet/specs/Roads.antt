@@ -1,17 +1,25 @@
 -- The network that a sheet's roads make, its recording, and its distances as the lent table holds them.
-use Prim.Native.Nat.{ℕ, zero, suc, _+_, _-_, _*_, _^_}
+use Prim.Native.Nat.{ℕ, zero, suc, _+_, _-_, _*_, _<_, _^_}
 use mathlib.Core.Bool.{Bool, true, false, _&&_, _||_}
 use mathlib.Core.List.{List}
 use lib.Dec.{eqb}
+use lib.ListN.{length}
 use Rattle.words.specs.Word.{payloadOf, sampleOf}
-use Rattle.words.specs.Rows.{rows, concat, row}
+use Rattle.words.specs.Rows.{rows}
 use Rattle.logic.specs.Distance.{Distance, dist, none}
 use Rattle.logic.specs.Network.{Network, distanceIn}
 use Rattle.logic.specs.Table.{Recording}
 use Rattle.sheet.specs.Checked.{wordAt}
-use Rattle.sheet.specs.Layout.{Sizes, Layout, roadAt, weightAt, firstPlace, secondPlace}
+use Rattle.sheet.specs.Layout.{Layout, roadAt, weightAt, firstPlace, secondPlace}
 
 module _ (s : List ℕ) where
+  -- what the check finds of road r among n places: its two words are there, and it joins a place to a later one, with a weight
+  pub record RoadFits (n r : ℕ) : Type 0 where
+    pub inside : weightAt r < length s
+    pub ordered : firstPlace (wordAt s (roadAt r)) < secondPlace (wordAt s (roadAt r))
+    pub known : secondPlace (wordAt s (roadAt r)) < n
+    pub weighs : 0 < payloadOf (wordAt s (weightAt r))
+
   -- road r joins a and b; roads run both ways
   unfoldable pub joins : ℕ → ℕ → ℕ → Bool
   joins r a b =
@@ -24,9 +32,13 @@ module _ (s : List ℕ) where
   weightAmong zero a b = none
   weightAmong (suc r) a b = elim (joins r a b) [ true ↦ dist (payloadOf (wordAt s (weightAt r))) | false ↦ weightAmong r a b ]
 
+  -- the network of so many places and roads
+  abbrev pub networkOf : ℕ → ℕ → Network
+  networkOf places roads = record { places = places; weight = weightAmong roads }
+
   module _ (L : Layout) where
     unfoldable pub network : Network
-    network = record { places = L.sizes.places; weight = weightAmong (L.roads) }
+    network = networkOf (L.sizes.places) (L.roads)
 
     -- samples stand after the roads: time outermost, then place, then signal
     unfoldable pub recording : Recording
