@@ -9,7 +9,6 @@ use native.Mathlib.Decide.{decLt}
 use native.Mathlib.Omega.{arith}
 use lib.Dec.{T, leb→le, ltb}
 use lib.ListN.{length, getD, set}
-use lib.Seq.{set-getD}
 use borrow.Author.Tests.{lt-ltb, le-ltb}
 use Rattle.words.proofs.Rows.{in-table, length-rows, getD-rows, rows-ext, rows-set}
 use Rattle.logic.specs.Distance.{Distance, dist, none, atMost, add, lesser, distance}
@@ -45,17 +44,6 @@ saturated-least d x y = lesser-by (λ v. saturated v ≡ min (saturated d) (satu
 pub length-stage : (weight : ℕ → ℕ → Distance) (n k : ℕ) → length (stage weight n k) ≡ n * n
 unfolding stage
 length-stage weight n k = length-rows (λ a b. saturated (distance weight k a b)) n n
-
--- ---- one number brought down, or not
-pub down-kept : (x from to : ℕ) (t : List ℕ) → getD t to 0 ≤ x + getD t from 0 → t ≡ broughtDown x from to t
-down-kept x from to t h =
-    let e : min (getD t to 0) (x + getD t from 0) ≡ getD t to 0 = omega arith in
-    sym (ap (set t to) e ∙ set-getD t to 0)
-
-pub down-stored : (x from to v : ℕ) (t : List ℕ) → v ≡ x + getD t from 0 → v ≤ getD t to 0 → set t to v ≡ broughtDown x from to t
-down-stored x from to v t e h =
-    let m : v ≡ min (getD t to 0) (x + getD t from 0) = omega arith in
-    ap (set t to) m
 
 -- ---- letting place k in
 module _ (weight : ℕ → ℕ → Distance) (n k : ℕ) where

@@ -2,7 +2,7 @@
 // Paths are let through one more place at a time (Floyd and Warshall). Within one table this is right because the row and the
 // column of the place that is let in do not change in its turn.
 ghost use mathlib.Core.Path.{_≡_};
-ghost use Prim.Native.Nat.{ℕ, _+_, _-_, _*_, _<_, _≤_, _^_};
+ghost use Prim.Native.Nat.{ℕ, _+_, _-_, _*_, _<_, _≤_, _^_, min};
 ghost use lib.ListN.{length, set, drop, replicate};
 ghost use Rattle.words.specs.Bytes.{wordsOf, numbersOf};
 ghost use Rattle.words.specs.Rows.{padded};
@@ -87,20 +87,28 @@ fn put_roads(s: &[u8], n: usize, roads: usize, table: &mut [u8])
     }
 }
 
-// The distance at one index brought down to x plus that at another, where this is less. The test makes no sum that does not fit.
+// The sum of two distances, none where it is too large.
+fn sum(x: u64, y: u64) -> u64
+    ensures { λ r. ⌜ r ≡ min (x + y) (2 ^ 64 - 1) ⌝ }
+{
+    if y <= NONE - x { x + y } else { NONE }
+}
+
+fn lesser(x: u64, y: u64) -> u64
+    ensures { λ r. ⌜ r ≡ min x y ⌝ }
+{
+    if x <= y { x } else { y }
+}
+
+// The distance at one index brought down to x plus that at another, where this is less. It is stored in either case: a test before the
+// store would be one that the processor can't foresee, in the innermost loop.
 fn bring_down(x: u64, from: usize, to: usize, table: &mut [u8])
     requires { ⌜ (from < length (numbersOf (wordsOf (now table)))) × (to < length (numbersOf (wordsOf (now table)))) ⌝ }
     ensures { λ _. ⌜ numbersOf (wordsOf (now (table .exit))) ≡ broughtDown x from to (numbersOf (wordsOf (now (table .entry)))) ⌝ }
 {
     let d = words::number_at(table, to);
-    if d <= x {
-        return;
-    }
     let y = words::number_at(table, from);
-    if d - x <= y {
-        return;
-    }
-    words::put_number(table, to, x + y);
+    words::put_number(table, to, lesser(d, sum(x, y)));
 }
 
 // The distances from a, by way of k where that is less.
