@@ -18,7 +18,7 @@ use Rattle.logic.proofs.Tests.{bool-ext}
 use Rattle.logic.proofs.Keeps.{Keeps}
 use Rattle.logic.proofs.Order.{Up, le→up, up→le, up-negate, atMost-trans, atMost-total, near}
 use Rattle.logic.proofs.Margins.{meet-by, join-by}
-use Rattle.logic.proofs.TableKeeps.{valueAt-kept}
+use Rattle.logic.proofs.TableKeeps.{any-constants, valueAt-kept}
 
 abbrev zeroMargin : Margin
 zeroMargin = finite (pos 0)
@@ -71,7 +71,8 @@ agree-atom x c = go (leZ c x) (diff-sign x c)
     go false e = ⊎-elim (λ u. absurd (rw e at u)) (λ u. u) (atMost-total zeroMargin (finite (x -ℤ c)))
 
 pub agreement : (N : Network) (x : Recording) (lines : List Line) (i t l : ℕ) → l < N.places → Agree (valueAt margins N x lines i t l) (valueAt verdicts N x lines i t l)
-agreement N x = valueAt-kept margins verdicts N Agree agree-kept agree-negate x x (λ s t l c. agree-atom (x s t l) c) (λ s t l c. agree-atom c (x s t l))
+agreement N x lines = valueAt-kept margins verdicts N Agree agree-kept agree-negate (λ _. Unit {0}) x x
+    (λ s t l c _. agree-atom (x s t l) c) (λ s t l c _. agree-atom c (x s t l)) lines (any-constants lines)
 
 -- ---- verdicts are steady where the margin is beyond d
 clash : (d : ℕ) (m m′ : Margin) → Up d m m′ → Beyond d m → T (atMost zeroMargin m) → T (atMost m′ zeroMargin) → ⊥

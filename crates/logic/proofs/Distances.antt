@@ -7,6 +7,7 @@ use native.Mathlib.Nat.{not-suc-le-zero, le-refl, le-of-lt, zero-add, add-zero}
 use native.Mathlib.Omega.{arith}
 use lib.Dec.{T, T-not, leb, eqb, leb→le, le→leb, eqb→eq, eqb-refl, nleb→lt}
 use Rattle.logic.specs.Distance.{Distance, dist, none, atMost, add, lesser, Path, here, step, IsDistance, direct, distance}
+use Rattle.logic.specs.Network.{Network, distanceIn}
 use Rattle.logic.proofs.Tests.{below}
 
 pub lesser-by : (P : Distance → Type 0) (x y : Distance) → (T (atMost x y) → P x) → (T (not (atMost x y)) → P y) → P (lesser x y)
@@ -179,3 +180,7 @@ module _ (weight : ℕ → ℕ → Distance) where
   distance-from k b =
       let x = distance weight k k b in
       rw (distance-self k k) (lesser-first x (add (dist 0) x) (part-r x 0))
+
+pub network-distance : (N : Network) (a b : ℕ) → b < N.places → IsDistance (N.weight) (N.places) a b (distanceIn N a b)
+unfolding distanceIn
+network-distance N a b h = is-distance (N.weight) (N.places) a b h

@@ -1,5 +1,6 @@
 pub mod Tests
 pub mod Regions
+pub mod Lists
 pub mod Keeps
 pub mod VerdictLimit
 pub mod Settling
@@ -14,3 +15,6 @@ pub mod Limit
 pub mod TableKeeps
 pub mod Steadiness
 pub mod Agreement
+pub mod Small
+pub mod Examples
+pub mod Counts

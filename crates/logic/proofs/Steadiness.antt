@@ -9,7 +9,7 @@ use Rattle.logic.specs.Network.{Network}
 use Rattle.logic.specs.Table.{Line, Recording, margins, valueAt}
 use Rattle.logic.specs.Steadiness.{Near}
 use Rattle.logic.proofs.Margins.{near-kept, near-negate}
-use Rattle.logic.proofs.TableKeeps.{valueAt-kept}
+use Rattle.logic.proofs.TableKeeps.{any-constants, valueAt-kept}
 
 -- the two atoms: a constant taken away from both, or both from it, leaves them as far apart
 difference-turned : (x c : ℤ) → c -ℤ x ≡ negℤ (x -ℤ c)
@@ -26,5 +26,5 @@ atMost-near d x y c h = rw (difference-turned x c, difference-turned y c) (near-
 
 pub steady : (d : ℕ) (N : Network) (x y : Recording) → ((s t l : ℕ) → natAbs (x s t l -ℤ y s t l) ≤ d) → (lines : List Line)
     → (i t l : ℕ) → l < N.places → Near d (valueAt margins N x lines i t l) (valueAt margins N y lines i t l)
-steady d N x y h = valueAt-kept margins margins N (Near d) (near-kept d) (near-negate d) x y
-    (λ s t l c. atLeast-near d (x s t l) (y s t l) c (h s t l)) (λ s t l c. atMost-near d (x s t l) (y s t l) c (h s t l))
+steady d N x y h lines = valueAt-kept margins margins N (Near d) (near-kept d) (near-negate d) (λ _. Unit {0}) x y
+    (λ s t l c _. atLeast-near d (x s t l) (y s t l) c (h s t l)) (λ s t l c _. atMost-near d (x s t l) (y s t l) c (h s t l)) lines (any-constants lines)

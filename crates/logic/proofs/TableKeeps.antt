@@ -7,29 +7,52 @@ use lib.ListN.{getD}
 use lib.IntN.{ℤ}
 use Rattle.logic.specs.Network.{Network, joined, within}
 use Rattle.logic.specs.Table.{Operator, True, AtLeast, AtMost, Not, And, Until, Somewhere, Surrounded, Or, Eventually, Always, Everywhere, Line, Recording, Reading, Signal, untilAt, somewhereAt, surroundAt, value, valuesAfter, valueAt}
+use Rattle.logic.proofs.Lists.{Each, All, none, more, each-append, each-at}
 use Rattle.logic.proofs.Keeps.{Keeps, least-kept, greatest-kept, surround-kept}
 
--- two lists related element by element
-data Each {A B : Type 0} (Rel : A → B → Type 0) : List A → List B → Type 0 where
-  none : Each Rel [] []
-  more : {a : A} {b : B} {l : List A} {m : List B} → Rel a b → Each Rel l m → Each Rel (a ∷ l) (b ∷ m)
+-- what is asked of the constant of an atom
+abbrev pub ConstantIn : (ℤ → Type 0) → Operator → Type 0
+ConstantIn Fit True = Unit {0}
+ConstantIn Fit (AtLeast s c) = Fit c
+ConstantIn Fit (AtMost s c) = Fit c
+ConstantIn Fit (Not i) = Unit {0}
+ConstantIn Fit (And i j) = Unit {0}
+ConstantIn Fit (Until i j lower upper) = Unit {0}
+ConstantIn Fit (Somewhere i lower upper) = Unit {0}
+ConstantIn Fit (Surrounded i j lower upper) = Unit {0}
+ConstantIn Fit (Or i j) = Unit {0}
+ConstantIn Fit (Eventually i lower upper) = Unit {0}
+ConstantIn Fit (Always i lower upper) = Unit {0}
+ConstantIn Fit (Everywhere i lower upper) = Unit {0}
 
-module _ {A B : Type 0} {Rel : A → B → Type 0} where
-  each-append : {l k : List A} {m j : List B} → Each Rel l m → Each Rel k j → Each Rel (l ++ k) (m ++ j)
-  each-append none r = r
-  each-append (more h t) r = more h (each-append t r)
+abbrev pub ConstantsIn : (ℤ → Type 0) → List Line → Type 0
+ConstantsIn Fit lines = All (λ (line : Line). ConstantIn Fit (line .operator)) lines
 
-  each-at : {l : List A} {m : List B} → Each Rel l m → (i : ℕ) (a : A) (b : B) → Rel a b → Rel (getD l i a) (getD m i b)
-  each-at none i a b h = h
-  each-at (more k t) zero a b h = k
-  each-at (more k t) (suc i) a b h = each-at t i a b h
+-- any constant is any constant
+any-constant : (o : Operator) → ConstantIn (λ _. Unit {0}) o
+any-constant True = tt
+any-constant (AtLeast s c) = tt
+any-constant (AtMost s c) = tt
+any-constant (Not i) = tt
+any-constant (And i j) = tt
+any-constant (Until i j lower upper) = tt
+any-constant (Somewhere i lower upper) = tt
+any-constant (Surrounded i j lower upper) = tt
+any-constant (Or i j) = tt
+any-constant (Eventually i lower upper) = tt
+any-constant (Always i lower upper) = tt
+any-constant (Everywhere i lower upper) = tt
+
+pub any-constants : (lines : List Line) → ConstantsIn (λ _. Unit {0}) lines
+any-constants [] = none
+any-constants (line ∷ lines) = more (any-constant (line .operator)) (any-constants lines)
 
 module _ (R M : Reading) (N : Network) (Rel : R.lattice.Value → M.lattice.Value → Type 0) (K : Keeps R.lattice M.lattice Rel) where
   -- two signals related at every sample and place
   abbrev Alike : Signal R → Signal M → Type 0
   Alike f g = (t l : ℕ) → l < N.places → Rel (f t l) (g t l)
 
-  until-kept : (p q : Signal R) (p′ q′ : Signal M) → Alike p p′ → Alike q q′ → (lower upper : ℕ) → Alike (untilAt R N p q lower upper) (untilAt M N p′ q′ lower upper)
+  until-kept : (p q : Signal R) (p′ q′ : Signal M) → Alike p p′ → Alike q q′ → (lower upper : ℕ) → Alike (untilAt R p q lower upper) (untilAt M p′ q′ lower upper)
   unfolding untilAt
   until-kept p q p′ q′ hp hq lower upper t l b = greatest-kept R.lattice M.lattice Rel K (leb (t + lower)) _ _ (suc (t + upper))
       (λ u _. K.keeps-meet _ _ _ _ (hq u l b) (least-kept R.lattice M.lattice Rel K (leb t) _ _ (suc u) (λ v _. hp v l b)))
@@ -41,35 +64,35 @@ module _ (R M : Reading) (N : Network) (Rel : R.lattice.Value → M.lattice.Valu
   surroundAt-kept : (p q : Signal R) (p′ q′ : Signal M) → Alike p p′ → Alike q q′ → (lower upper : ℕ) → Alike (surroundAt R N p q lower upper) (surroundAt M N p′ q′ lower upper)
   unfolding surroundAt
   surroundAt-kept p q p′ q′ hp hq lower upper t l b =
-      surround-kept R.lattice M.lattice Rel K (joined N) N.places (p t) (q t) (p′ t) (q′ t) (hp t) (hq t) (within N l 0 upper) (within N l lower upper) l
+      surround-kept R.lattice M.lattice Rel K (joined N) N.places (p t) (q t) (p′ t) (q′ t) (hp t) (hq t) _ _ l
 
   module _ (opposite-kept : (a : R.lattice.Value) (b : M.lattice.Value) → Rel a b → Rel (R.opposite a) (M.opposite b))
-      (x y : Recording)
-      (atLeast-kept : (s t l : ℕ) (c : ℤ) → Rel (R.atLeast (x s t l) c) (M.atLeast (y s t l) c))
-      (atMost-kept : (s t l : ℕ) (c : ℤ) → Rel (R.atMost (x s t l) c) (M.atMost (y s t l) c)) where
-    value-kept : (line : ℕ → Signal R) (line′ : ℕ → Signal M) → ((i : ℕ) → Alike (line i) (line′ i)) → (o : Operator) → Alike (value R N x line o) (value M N y line′ o)
+      (Fit : ℤ → Type 0) (x y : Recording)
+      (atLeast-kept : (s t l : ℕ) (c : ℤ) → Fit c → Rel (R.atLeast (x s t l) c) (M.atLeast (y s t l) c))
+      (atMost-kept : (s t l : ℕ) (c : ℤ) → Fit c → Rel (R.atMost (x s t l) c) (M.atMost (y s t l) c)) where
+    value-kept : (line : ℕ → Signal R) (line′ : ℕ → Signal M) → ((i : ℕ) → Alike (line i) (line′ i)) → (o : Operator) → ConstantIn Fit o → Alike (value R N x line o) (value M N y line′ o)
     unfolding value
-    value-kept line line′ h True t l b = K.keeps-top
-    value-kept line line′ h (AtLeast s c) t l b = atLeast-kept s t l c
-    value-kept line line′ h (AtMost s c) t l b = atMost-kept s t l c
-    value-kept line line′ h (Not i) t l b = opposite-kept _ _ (h i t l b)
-    value-kept line line′ h (And i j) t l b = K.keeps-meet _ _ _ _ (h i t l b) (h j t l b)
-    value-kept line line′ h (Until i j lower upper) t l b = until-kept _ _ _ _ (h i) (h j) lower upper t l b
-    value-kept line line′ h (Somewhere i lower upper) t l b = somewhere-kept _ _ (h i) lower upper t l b
-    value-kept line line′ h (Surrounded i j lower upper) t l b = surroundAt-kept _ _ _ _ (h i) (h j) lower upper t l b
-    value-kept line line′ h (Or i j) t l b = opposite-kept _ _ (K.keeps-meet _ _ _ _ (opposite-kept _ _ (h i t l b)) (opposite-kept _ _ (h j t l b)))
-    value-kept line line′ h (Eventually i lower upper) t l b = until-kept _ _ _ _ (λ u k e. K.keeps-top) (h i) lower upper t l b
-    value-kept line line′ h (Always i lower upper) t l b =
+    value-kept line line′ h True fit t l b = K.keeps-top
+    value-kept line line′ h (AtLeast s c) fit t l b = atLeast-kept s t l c fit
+    value-kept line line′ h (AtMost s c) fit t l b = atMost-kept s t l c fit
+    value-kept line line′ h (Not i) fit t l b = opposite-kept _ _ (h i t l b)
+    value-kept line line′ h (And i j) fit t l b = K.keeps-meet _ _ _ _ (h i t l b) (h j t l b)
+    value-kept line line′ h (Until i j lower upper) fit t l b = until-kept _ _ _ _ (h i) (h j) lower upper t l b
+    value-kept line line′ h (Somewhere i lower upper) fit t l b = somewhere-kept _ _ (h i) lower upper t l b
+    value-kept line line′ h (Surrounded i j lower upper) fit t l b = surroundAt-kept _ _ _ _ (h i) (h j) lower upper t l b
+    value-kept line line′ h (Or i j) fit t l b = opposite-kept _ _ (K.keeps-meet _ _ _ _ (opposite-kept _ _ (h i t l b)) (opposite-kept _ _ (h j t l b)))
+    value-kept line line′ h (Eventually i lower upper) fit t l b = until-kept _ _ _ _ (λ u k e. K.keeps-top) (h i) lower upper t l b
+    value-kept line line′ h (Always i lower upper) fit t l b =
         opposite-kept _ _ (until-kept _ _ _ _ (λ u k e. K.keeps-top) (λ u k e. opposite-kept _ _ (h i u k e)) lower upper t l b)
-    value-kept line line′ h (Everywhere i lower upper) t l b = opposite-kept _ _ (somewhere-kept _ _ (λ u k e. opposite-kept _ _ (h i u k e)) lower upper t l b)
+    value-kept line line′ h (Everywhere i lower upper) fit t l b = opposite-kept _ _ (somewhere-kept _ _ (λ u k e. opposite-kept _ _ (h i u k e)) lower upper t l b)
 
-    values-kept : (known : List (Signal R)) (known′ : List (Signal M)) → Each Alike known known′ → (lines : List Line)
+    values-kept : (known : List (Signal R)) (known′ : List (Signal M)) → Each Alike known known′ → (lines : List Line) → ConstantsIn Fit lines
         → Each Alike (valuesAfter R N x known lines) (valuesAfter M N y known′ lines)
     unfolding valuesAfter
-    values-kept known known′ h [] = h
-    values-kept known known′ h (line ∷ lines) =
-        values-kept _ _ (each-append h (more (value-kept _ _ (λ i. each-at h i _ _ (λ t l b. K.keeps-top)) (line .operator)) none)) lines
+    values-kept known known′ h [] fits = h
+    values-kept known known′ h (line ∷ lines) (more fit fits) =
+        values-kept _ _ (each-append h (more (value-kept _ _ (λ i. each-at h i _ _ (λ t l b. K.keeps-top)) (line .operator) fit) none)) lines fits
 
-    pub valueAt-kept : (lines : List Line) (i t l : ℕ) → l < N.places → Rel (valueAt R N x lines i t l) (valueAt M N y lines i t l)
+    pub valueAt-kept : (lines : List Line) → ConstantsIn Fit lines → (i t l : ℕ) → l < N.places → Rel (valueAt R N x lines i t l) (valueAt M N y lines i t l)
     unfolding valueAt
-    valueAt-kept lines i t l b = each-at (values-kept [] [] none lines) i _ _ (λ t l b. K.keeps-top) t l b
+    valueAt-kept lines fits i t l b = each-at (values-kept [] [] none lines fits) i _ _ (λ t l b. K.keeps-top) t l b

@@ -68,18 +68,11 @@ margins = record { lattice = marginLattice; opposite = negate; atLeast = λ x c.
 abbrev pub Signal : Reading → Type 0
 Signal R = ℕ → ℕ → R.lattice.Value
 
-module _ (R : Reading) (N : Network) where
+module _ (R : Reading) where
   -- some t' from t + lower to t + upper has right at t' and left at every sample from t to t', t' included
   unfoldable pub untilAt : Signal R → Signal R → ℕ → ℕ → Signal R
   untilAt left right lower upper t l = greatestOver R.lattice (leb (t + lower))
       (λ u. R.lattice.meet (right u l) (leastOver R.lattice (leb t) (λ v. left v l) (suc u))) (suc (t + upper))
-
-  unfoldable pub somewhereAt : Signal R → ℕ → ℕ → Signal R
-  somewhereAt left lower upper t l = greatestOver R.lattice (within N l lower upper) (left t) N.places
-
-  unfoldable pub surroundAt : Signal R → Signal R → ℕ → ℕ → Signal R
-  surroundAt left right lower upper t l =
-      surround R.lattice (joined N) N.places (within N l 0 upper) (within N l lower upper) (left t) (right t) l
 
   abbrev pub opposite : Signal R → Signal R
   opposite left t l = R.opposite (left t l)
@@ -87,26 +80,34 @@ module _ (R : Reading) (N : Network) where
   abbrev pub everTrue : Signal R
   everTrue t l = R.lattice.top
 
+module _ (R : Reading) (N : Network) where
+  unfoldable pub somewhereAt : Signal R → ℕ → ℕ → Signal R
+  somewhereAt left lower upper t l = greatestOver R.lattice (within N l lower upper) (left t) N.places
+
+  unfoldable pub surroundAt : Signal R → Signal R → ℕ → ℕ → Signal R
+  surroundAt left right lower upper t l =
+      surround R.lattice (joined N) N.places (within N l 0 upper) (within N l lower upper) (left t) (right t) l
+
   -- the values of a line, given those of the lines before it
   unfoldable pub value : Recording → (ℕ → Signal R) → Operator → Signal R
-  value x line True = everTrue
+  value x line True = everTrue R
   value x line (AtLeast signal c) = λ t l. R.atLeast (x signal t l) c
   value x line (AtMost signal c) = λ t l. R.atMost (x signal t l) c
-  value x line (Not i) = opposite (line i)
+  value x line (Not i) = opposite R (line i)
   value x line (And i j) = λ t l. R.lattice.meet (line i t l) (line j t l)
-  value x line (Until i j lower upper) = untilAt (line i) (line j) lower upper
+  value x line (Until i j lower upper) = untilAt R (line i) (line j) lower upper
   value x line (Somewhere i lower upper) = somewhereAt (line i) lower upper
   value x line (Surrounded i j lower upper) = surroundAt (line i) (line j) lower upper
   value x line (Or i j) = λ t l. R.opposite (R.lattice.meet (R.opposite (line i t l)) (R.opposite (line j t l)))
-  value x line (Eventually i lower upper) = untilAt everTrue (line i) lower upper
-  value x line (Always i lower upper) = opposite (untilAt everTrue (opposite (line i)) lower upper)
-  value x line (Everywhere i lower upper) = opposite (somewhereAt (opposite (line i)) lower upper)
+  value x line (Eventually i lower upper) = untilAt R (everTrue R) (line i) lower upper
+  value x line (Always i lower upper) = opposite R (untilAt R (everTrue R) (opposite R (line i)) lower upper)
+  value x line (Everywhere i lower upper) = opposite R (somewhereAt (opposite R (line i)) lower upper)
 
   -- the values of all lines, line 0 first, after those already known
   unfoldable pub valuesAfter : Recording → List (Signal R) → List Line → List (Signal R)
   valuesAfter x known [] = known
-  valuesAfter x known (line ∷ lines) = valuesAfter x (known ++ (value x (λ i. getD known i everTrue) (line .operator) ∷ [])) lines
+  valuesAfter x known (line ∷ lines) = valuesAfter x (known ++ (value x (λ i. getD known i (everTrue R)) (line .operator) ∷ [])) lines
 
   -- the value of line i at sample t and place l
   unfoldable pub valueAt : Recording → List Line → ℕ → Signal R
-  valueAt x lines i = getD (valuesAfter x [] lines) i everTrue
+  valueAt x lines i = getD (valuesAfter x [] lines) i (everTrue R)

@@ -1,3 +1,10 @@
-pub mod Stages
-pub mod Starting
-pub mod CheckedRoads
+pub mod Refusals
+pub mod Checks
+pub mod Accepted
+pub mod AcceptedLines
+pub mod AcceptedRoads
+pub mod SameLayout
+pub mod RefusalNumbers
+pub mod SameNetwork
+pub mod DistanceStages
+pub mod DistanceStart

@@ -4,4 +4,5 @@ pub mod Codes
 pub mod Lines
 pub mod Layout
 pub mod Roads
-pub mod Stages
+pub mod DistanceStages
+pub mod Apart

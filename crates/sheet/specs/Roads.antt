@@ -2,23 +2,24 @@
 use Prim.Native.Nat.{ℕ, zero, suc, _+_, _-_, _*_, _<_, _^_}
 use mathlib.Core.Bool.{Bool, true, false, _&&_, _||_}
 use mathlib.Core.List.{List}
-use lib.Dec.{eqb}
-use lib.ListN.{length}
+use lib.Dec.{T, eqb}
 use Rattle.words.specs.Word.{payloadOf, sampleOf}
 use Rattle.words.specs.Rows.{rows}
 use Rattle.logic.specs.Distance.{Distance, dist, none}
 use Rattle.logic.specs.Network.{Network, distanceIn}
 use Rattle.logic.specs.Table.{Recording}
-use Rattle.sheet.specs.Checked.{wordAt}
+use Rattle.sheet.specs.Checked.{wordAt, isKind}
 use Rattle.sheet.specs.Layout.{Layout, roadAt, weightAt, firstPlace, secondPlace}
 
 module _ (s : List ℕ) where
-  -- what the check finds of road r among n places: its two words are there, and it joins a place to a later one, with a weight
-  pub record RoadFits (n r : ℕ) : Type 0 where
-    pub inside : weightAt r < length s
-    pub ordered : firstPlace (wordAt s (roadAt r)) < secondPlace (wordAt s (roadAt r))
-    pub known : secondPlace (wordAt s (roadAt r)) < n
-    pub weighs : 0 < payloadOf (wordAt s (weightAt r))
+  -- a road as the check lets it pass: a first word of kind 2 and a second of kind 3, a first place below the second and that below n, a
+  -- weight above 0
+  pub record GoodRoad (n r : ℕ) : Type 0 where
+    pub road : T (isKind 2 s (roadAt r))
+    pub weight : T (isKind 3 s (weightAt r))
+    pub order : firstPlace (wordAt s (roadAt r)) < secondPlace (wordAt s (roadAt r))
+    pub inside : secondPlace (wordAt s (roadAt r)) < n
+    pub positive : 0 < payloadOf (wordAt s (weightAt r))
 
   -- road r joins a and b; roads run both ways
   unfoldable pub joins : ℕ → ℕ → ℕ → Bool

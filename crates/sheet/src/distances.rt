@@ -8,8 +8,8 @@ ghost use Rattle.words.specs.Bytes.{wordsOf, numbersOf};
 ghost use Rattle.words.specs.Rows.{padded};
 ghost use Rattle.logic.specs.Distance.{Distance, none};
 ghost use Rattle.sheet.specs.Layout.{firstPlace, secondPlace};
-ghost use Rattle.sheet.specs.Roads.{RoadFits, weightAmong, networkOf, distanceTable};
-ghost use Rattle.sheet.specs.Stages.{stage, lettingIn, broughtDown};
+ghost use Rattle.sheet.specs.Roads.{GoodRoad, weightAmong, networkOf, distanceTable};
+ghost use Rattle.sheet.specs.DistanceStages.{stage, lettingIn, broughtDown};
 
 const NONE: u64 = 18446744073709551615;
 
@@ -63,7 +63,7 @@ fn put_both(n: usize, a: usize, b: usize, weight: u64, table: &mut [u8])
 
 // One road more.
 fn put_road(s: &[u8], n: usize, r: usize, table: &mut [u8])
-    requires { ⌜ RoadFits (wordsOf (now s)) n r × (numbersOf (wordsOf (now table)) ≡ stage (weightAmong (wordsOf (now s)) r) n 0) ⌝ }
+    requires { ⌜ GoodRoad (wordsOf (now s)) n r × (numbersOf (wordsOf (now table)) ≡ stage (weightAmong (wordsOf (now s)) r) n 0) ⌝ }
     ensures { λ _. ⌜ numbersOf (wordsOf (now (table .exit))) ≡ stage (weightAmong (wordsOf (now (s .entry))) (r + 1)) n 0 ⌝ }
 {
     let road = words::word_at(s, 1 + 2 * r);
@@ -79,7 +79,7 @@ fn put_road(s: &[u8], n: usize, r: usize, table: &mut [u8])
 
 // All roads, in order.
 fn put_roads(s: &[u8], n: usize, roads: usize, table: &mut [u8])
-    requires { ⌜ ((r : ℕ) → r < roads → RoadFits (wordsOf (now s)) n r) × (numbersOf (wordsOf (now table)) ≡ stage (λ _ _. none) n 0) ⌝ }
+    requires { ⌜ ((r : ℕ) → r < roads → GoodRoad (wordsOf (now s)) n r) × (numbersOf (wordsOf (now table)) ≡ stage (λ _ _. none) n 0) ⌝ }
     ensures { λ _. ⌜ numbersOf (wordsOf (now (table .exit))) ≡ stage (weightAmong (wordsOf (now (s .entry))) roads) n 0 ⌝ }
 {
     for r in 0..roads {
@@ -146,7 +146,7 @@ fn let_in_all(n: usize, table: &mut [u8])
 
 // The distances alone, in a table of just their size.
 fn find_distances(s: &[u8], places: usize, roads: usize, table: &mut [u8])
-    requires { ⌜ ((r : ℕ) → r < roads → RoadFits (wordsOf (now s)) places r) × (length (numbersOf (wordsOf (now table))) ≡ places * places) ⌝ }
+    requires { ⌜ ((r : ℕ) → r < roads → GoodRoad (wordsOf (now s)) places r) × (length (numbersOf (wordsOf (now table))) ≡ places * places) ⌝ }
     ensures { λ _. ⌜ numbersOf (wordsOf (now (table .exit))) ≡ distanceTable (networkOf (wordsOf (now (s .entry))) places roads) ⌝ }
 {
     start(places, table);
@@ -156,7 +156,7 @@ fn find_distances(s: &[u8], places: usize, roads: usize, table: &mut [u8])
 
 // The distances of the first roads of a sheet, row by row, and zeros in all the bytes after them, whatever they held.
 pub fn fill_distances(s: &[u8], places: usize, roads: usize, table: &mut [u8])
-    requires { ⌜ ((r : ℕ) → r < roads → RoadFits (wordsOf (now s)) places r) × (places * places ≤ length (numbersOf (wordsOf (now table)))) ⌝ }
+    requires { ⌜ ((r : ℕ) → r < roads → GoodRoad (wordsOf (now s)) places r) × (places * places ≤ length (numbersOf (wordsOf (now table)))) ⌝ }
     ensures numbers { λ _. ⌜ numbersOf (wordsOf (now (table .exit))) ≡ padded (distanceTable (networkOf (wordsOf (now (s .entry))) places roads)) (length (numbersOf (wordsOf (now (table .entry))))) ⌝ }
     ensures tail { λ _. ⌜ drop (places * places * 8) (now (table .exit)) ≡ replicate (length (now (table .entry)) - places * places * 8) 0 ⌝ }
 {

@@ -1,33 +1,152 @@
--- trial
+-- The settled examples of document 01, from the words of a sheet to the words of its answer, computed on the definitions: the joint theorem
+-- of the starred ones, A to K, and after it the others.
 use mathlib.Core.Path.{_≡_, refl}
 use mathlib.Core.Bool.{Bool, true, false}
 use mathlib.Core.List.{List, [], _∷_, _++_}
-use Prim.Native.Nat.{ℕ, zero, suc}
+use Prim.Native.Nat.{ℕ, _+_}
 use lib.ListN.{replicate}
-use Rattle.words.specs.Rows.{row, concat}
-use Rattle.logic.specs.Lattice.{leastOver, greatestOver}
-use Rattle.logic.specs.Distance.{direct, distance}
-use Rattle.logic.specs.Network.{joined, distanceIn, within}
-use Rattle.logic.specs.Surround.{greatestRegion, boundary, allowed, regionValue, surround}
-use Rattle.logic.specs.Iteration.{iterate, masked, first, atRest, rounds}
-use Rattle.logic.specs.Table.{untilAt, somewhereAt, surroundAt, value, valuesAfter, valueAt}
-use Rattle.logic.specs.Counts.{mostBelow, sumBelow, roundsAt, greatestRounds, yesCount}
-use Rattle.sheet.specs.Checked.{isKind}
-use Rattle.sheet.specs.Codes.{codes}
-use Rattle.sheet.specs.Lines.{constantAt, boundsAt, operatorAt, lineAt, linesFrom}
-use Rattle.sheet.specs.Layout.{headSizes, headChecked, roadsFrom, samplesFrom, endChecked, checked}
-use Rattle.sheet.specs.Roads.{joins, weightAmong, network, recording, distanceTable}
-use Rattle.verdicts.specs.Said.{saidBy}
-use Rattle.verdicts.specs.Answer.{lineIndex, wordsNeeded, wordFor, lineWords, headWord, answerWords}
-use Rattle.verdicts.specs.Judged.{Judged, answered, judged}
+use lib.IntN.{ℤ, pos, negsuc}
+use Rattle.logic.specs.Margin.{Margin, minusInfinity, finite, plusInfinity}
+use Rattle.logic.specs.Table.{AtLeast, Surrounded, Line, margins, valueAt}
+use Rattle.logic.specs.Counts.{roundsAt}
+use Rattle.sheet.specs.Checked.{Checked, accepted, refused}
+use Rattle.sheet.specs.Layout.{Layout, checked}
+use Rattle.sheet.specs.Roads.{network, recording}
+use Rattle.values.specs.Said.{Said, says, nothing}
+use Rattle.verdicts.specs.Judged.{Judged, refusal, judged}
+use Rattle.verdicts.specs.Lookup.{saidAt}
+use Rattle.verdicts.proofs.Computing.{answerOf}
 
-abbrev sheetA : List ℕ
-sheetA = 0x10201002 ∷ 0x20000001 ∷ 0x30000003 ∷ 0x40000005 ∷ 0x47FFFFFE ∷ 0x40000001 ∷ 0x40000004 ∷ 0x50100000 ∷ 0x80000000 ∷ 0x50900000 ∷ 0x60000000 ∷ 0x70000001 ∷ 0x50600000 ∷ 0x60000001 ∷ 0x70000003 ∷ 0x50700800 ∷ 0x60000000 ∷ 0x70000003 ∷ 0xF0000012 ∷ []
+-- ---- the sheets
+abbrev pub sheetA : List ℕ
+sheetA =
+    0x10201002 ∷ 0x20000001 ∷ 0x30000003 ∷ 0x40000005 ∷ 0x47FFFFFE ∷ 0x40000001 ∷ 0x40000004 ∷ 0x50100000 ∷ 0x80000000 ∷ 0x50900000
+    ∷ 0x60000000 ∷ 0x70000001 ∷ 0x50600000 ∷ 0x60000001 ∷ 0x70000003 ∷ 0x50700800 ∷ 0x60000000 ∷ 0x70000003 ∷ 0xF0000012 ∷ []
 
-A : judged sheetA 4096 20 ≡ record {
-  result = record { number = 0; place = 0; words = 20; rounds = 1; yes = 11 };
-  answer = 0xD0204002 ∷ 0xE0000002 ∷ 0x90000005 ∷ 0xAFFFFFFE ∷ 0x90000001 ∷ 0x90000004 ∷ 0xE0000001 ∷ 0x90000005 ∷ 0x90000004 ∷ 0xE0000002 ∷ 0xAFFFFFFE ∷ 0x90000005 ∷ 0x90000004 ∷ 0x90000001 ∷ 0xE0000002 ∷ 0xAFFFFFFE ∷ 0x90000005 ∷ 0x90000004 ∷ 0x90000001 ∷ 0xF0000013 ∷ [];
-  distances = 0 ∷ 3 ∷ 3 ∷ 0 ∷ replicate 4092 0;
+-- one place with the sample 7: line 0 is "at least 0", line 1 true, line 2 the surround 0..0 of line 0, line 3 that of line 1
+abbrev sheetBC : List ℕ
+sheetBC =
+    0x10101001 ∷ 0x40000007 ∷ 0x50100000 ∷ 0x80000000 ∷ 0x50000000 ∷ 0x50700001 ∷ 0x60000000 ∷ 0x70000000 ∷ 0x50700401 ∷ 0x60000000
+    ∷ 0x70000000 ∷ 0xF000000B ∷ []
+
+-- two places without a road, samples -1 and 8: lines 1 and 2 are somewhere 0..9 and 1..9, line 3 everywhere 1..9
+abbrev sheetDEF : List ℕ
+sheetDEF =
+    0x10201001 ∷ 0x47FFFFFF ∷ 0x40000008 ∷ 0x50100000 ∷ 0x80000000 ∷ 0x50600000 ∷ 0x60000000 ∷ 0x70000009 ∷ 0x50600000 ∷ 0x60000001
+    ∷ 0x70000009 ∷ 0x50B00000 ∷ 0x60000001 ∷ 0x70000009 ∷ 0xF000000E ∷ []
+
+-- a sample equal to its constant, and its not
+abbrev sheetG : List ℕ
+sheetG = 0x10101001 ∷ 0x40000005 ∷ 0x50100000 ∷ 0x80000005 ∷ 0x50300000 ∷ 0xF0000005 ∷ []
+
+-- places 0-1-2 with weights 1, two signals: line 2 is the surround of signal 0 by signal 1
+abbrev sheetH : List ℕ
+sheetH =
+    0x10302001 ∷ 0x20000001 ∷ 0x30000001 ∷ 0x20000102 ∷ 0x30000001 ∷ 0x40000004 ∷ 0x40000009 ∷ 0x40000004 ∷ 0x47FFFFFD ∷ 0x40000004
+    ∷ 0x40000009 ∷ 0x50100000 ∷ 0x80000000 ∷ 0x50100400 ∷ 0x80000000 ∷ 0x50700001 ∷ 0x60000001 ∷ 0x70000001 ∷ 0xF0000012 ∷ []
+
+abbrev sheetI : List ℕ
+sheetI = 0x10101001 ∷ 0x44000000 ∷ 0x50100000 ∷ 0x83FFFFFF ∷ 0xF0000004 ∷ []
+
+-- roads 0-1 of 5, 0-2 of 1 and 1-2 of 1
+abbrev sheetJ : List ℕ
+sheetJ =
+    0x10301001 ∷ 0x20000001 ∷ 0x30000005 ∷ 0x20000002 ∷ 0x30000001 ∷ 0x20000102 ∷ 0x30000001 ∷ 0x40000000 ∷ 0x40000000 ∷ 0x40000000
+    ∷ 0x50000000 ∷ 0xF000000B ∷ []
+
+abbrev sheetK : List ℕ
+sheetK =
+    0x10302001 ∷ 0x20000001 ∷ 0x30000001 ∷ 0x20000102 ∷ 0x30000001 ∷ 0x40000004 ∷ 0x40000009 ∷ 0x40000001 ∷ 0x40000009 ∷ 0x40000001
+    ∷ 0x40000009 ∷ 0x50100000 ∷ 0x80000000 ∷ 0x50100400 ∷ 0x80000000 ∷ 0x50700001 ∷ 0x60000002 ∷ 0x70000002 ∷ 0xF0000012 ∷ []
+
+-- what the check of sheet H finds
+abbrev layoutH : Layout
+layoutH = record {
+  sizes = record { places = 3; signals = 2; samples = 1 };
+  roads = 2;
+  lines =
+      record { operator = AtLeast 0 (pos 0); length = 1 } ∷ record { operator = AtLeast 1 (pos 0); length = 1 } ∷ record { operator = Surrounded 0 1 1 1; length = 1 } ∷ [];
 }
-unfolding row concat leastOver greatestOver direct distance joined distanceIn within greatestRegion boundary allowed regionValue surround iterate masked first atRest rounds untilAt somewhereAt surroundAt value valuesAfter valueAt mostBelow sumBelow roundsAt greatestRounds yesCount isKind codes constantAt boundsAt operatorAt lineAt linesFrom headSizes headChecked roadsFrom samplesFrom endChecked checked joins weightAmong network recording distanceTable saidBy lineIndex wordsNeeded wordFor lineWords headWord answerWords answered judged
-A = refl
+
+-- ---- what is said of them
+-- the answer's word at a line, sample 0 and place 0
+abbrev saidOf : List ℕ → ℕ → Said
+saidOf s line = saidAt (answerOf s .answer) line 0 0
+
+pub record StarredExamples : Type 0 where
+  pub A : judged sheetA 4096 20 ≡ record {
+    result = record { number = 0; place = 0; words = 20; rounds = 1; yes = 11 };
+    answer =
+        0xD0204002 ∷ 0xE0000002 ∷ 0x90000005 ∷ 0xAFFFFFFE ∷ 0x90000001 ∷ 0x90000004 ∷ 0xE0000001 ∷ 0x90000005 ∷ 0x90000004 ∷ 0xE0000002
+        ∷ 0xAFFFFFFE ∷ 0x90000005 ∷ 0x90000004 ∷ 0x90000001 ∷ 0xE0000002 ∷ 0xAFFFFFFE ∷ 0x90000005 ∷ 0x90000004 ∷ 0x90000001 ∷ 0xF0000013 ∷ [];
+    distances = 0 ∷ 3 ∷ 3 ∷ 0 ∷ replicate 4092 0;
+  }
+  pub B : saidOf sheetBC 2 ≡ says true (finite (pos 7))
+  pub C : saidOf sheetBC 3 ≡ says true plusInfinity
+  pub D : saidOf sheetDEF 1 ≡ says false (finite (negsuc 0))
+  pub E : saidOf sheetDEF 2 ≡ says false minusInfinity
+  pub F : saidOf sheetDEF 3 ≡ says true plusInfinity
+  pub G : saidOf sheetG 0 ≡ says true (finite (pos 0))
+  pub G-not : saidOf sheetG 1 ≡ says false (finite (pos 0))
+  pub H : saidOf sheetH 2 ≡ says false (finite (negsuc 2))
+  pub H-layout : checked sheetH 4096 ≡ accepted layoutH
+  pub H-rounds : roundsAt (network sheetH layoutH) (valueAt margins (network sheetH layoutH) (recording sheetH layoutH) (layoutH .lines)) (Surrounded 0 1 1 1) 0 0 ≡ 3
+  pub H-result : answerOf sheetH .result .rounds ≡ 3
+  pub I : saidOf sheetI 0 ≡ says false (finite (negsuc 134217726))
+  pub J : answerOf sheetJ .distances ≡ 0 ∷ 2 ∷ 1 ∷ 2 ∷ 0 ∷ 1 ∷ 1 ∷ 1 ∷ 0 ∷ replicate 4087 0
+  pub K : saidOf sheetK 2 ≡ says true (finite (pos 1))
+
+pub starred-examples : StarredExamples
+unfolding answerOf
+starred-examples = record {
+  A = refl;
+  B = refl;
+  C = refl;
+  D = refl;
+  E = refl;
+  F = refl;
+  G = refl;
+  G-not = refl;
+  H = refl;
+  H-layout = refl;
+  H-rounds = refl;
+  H-result = refl;
+  I = refl;
+  J = refl;
+  K = refl;
+}
+
+-- ---- the other settled examples
+-- a table of true and the until 0..2 of true by true, over T samples
+abbrev untilSheet : ℕ → ℕ → List ℕ
+untilSheet head samples = head ∷ (replicate samples 0x40000000 ++ (0x50000000 ∷ 0x50500000 ∷ 0x60000000 ∷ 0x70000002 ∷ (0xF0000005 + samples) ∷ []))
+
+-- with T = 3 the length is 1: sample 0 has a verdict and sample 1 none
+until-of-three : (saidOf (untilSheet 0x10101003 3) 1 ≡ says true plusInfinity) × (saidAt (answerOf (untilSheet 0x10101003 3) .answer) 1 1 0 ≡ nothing)
+unfolding answerOf
+until-of-three = (refl, refl)
+
+until-of-two : checked (untilSheet 0x10101002 2) 4096 ≡ refused 13 4
+unfolding answerOf
+until-of-two = refl
+
+-- one line, true, over as many samples as the head says
+abbrev trueSheet : ℕ → ℕ → List ℕ
+trueSheet head samples = head ∷ (replicate samples 0x40000000 ++ (0x50000000 ∷ (0xF0000002 + samples) ∷ []))
+
+abbrev acceptance : Checked Layout → Bool
+acceptance (accepted L) = true
+acceptance (refused number place) = false
+
+most-places : (acceptance (checked (trueSheet 0x14001001 64) 4096) ≡ true) × (checked (trueSheet 0x14101001 65) 4096 ≡ refused 3 0)
+unfolding answerOf
+most-places = (refl, refl)
+
+most-samples : (acceptance (checked (trueSheet 0x10101400 1024) 4096) ≡ true) × (checked (trueSheet 0x10101401 1025) 4096 ≡ refused 3 0)
+unfolding answerOf
+most-samples = (refl, refl)
+
+-- example A with 19 answer words
+short-answer : judged sheetA 4096 19 ≡ refusal 4096 19 15 19
+unfolding answerOf
+short-answer = refl

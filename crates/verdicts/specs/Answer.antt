@@ -8,7 +8,7 @@ use Rattle.words.specs.Rows.{row, concat, rows}
 use Rattle.logic.specs.Network.{Network}
 use Rattle.logic.specs.Table.{Line, lineIn, Recording, verdicts, margins, valueAt}
 use Rattle.logic.specs.Counts.{sumBelow}
-use Rattle.verdicts.specs.Said.{verdictWord}
+use Rattle.values.specs.Said.{verdictWord}
 
 module _ (n : ℕ) (lines : List Line) where
   -- the index of line i's first word: after the head and the earlier lines

@@ -1,7 +1,7 @@
 -- From the sheet's words and the lent lengths to everything that the engine leaves: the result's five numbers, every word of the answer and
 -- every distance. The contract of the engine is equations to `judged`.
 use Prim.Native.Nat.{ℕ}
-use mathlib.Core.Bool.{true, false}
+use mathlib.Core.Bool.{cond}
 use mathlib.Core.List.{List}
 use lib.Dec.{leb}
 use lib.ListN.{length, replicate}
@@ -54,10 +54,7 @@ module _ (s : List ℕ) (distances answer : ℕ) where
   -- 15 comes last: fewer words than needed, told at the sheet's length
   abbrev pub judgedBy : Checked Layout → Judged
   judgedBy (refused number place) = refusal distances answer number place
-  judgedBy (accepted L) = elim (leb (wordsNeeded (L.sizes.places) L.lines) answer) [
-    | true ↦ answered L
-    | false ↦ refusal distances answer 15 (length s)
-  ]
+  judgedBy (accepted L) = cond (leb (wordsNeeded (L.sizes.places) L.lines) answer) (answered L) (refusal distances answer 15 (length s))
 
   -- `distances` and `answer` are how many distances and answer words are lent
   unfoldable pub judged : Judged

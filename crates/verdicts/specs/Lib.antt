@@ -1,5 +1,4 @@
-pub mod Said
 pub mod Answer
 pub mod Judged
 pub mod Lookup
-pub mod Apart
+pub mod Steady

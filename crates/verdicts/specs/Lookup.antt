@@ -1,6 +1,6 @@
 -- The lookup: whether words are a whole answer as laid out, and what it says at a line, sample and place.
 use Prim.Native.Nat.{ℕ, zero, suc, _+_, _*_}
-use mathlib.Core.Bool.{Bool, true, false, _&&_}
+use mathlib.Core.Bool.{Bool, true, false, cond, _&&_}
 use mathlib.Core.List.{List}
 use lib.Dec.{ltb, eqb}
 use lib.ListN.{length}
@@ -9,7 +9,7 @@ use Rattle.logic.specs.Margin.{Margin}
 use Rattle.logic.specs.Lattice.{verdictLattice, leastOver}
 use Rattle.sheet.specs.Limits.{mostPlaces, mostSamples, mostLines}
 use Rattle.sheet.specs.Checked.{between, wordAt, isKind}
-use Rattle.verdicts.specs.Said.{Said, says, nothing, saidBy}
+use Rattle.values.specs.Said.{Said, says, nothing, saidBy}
 
 abbrev pub isSaid : Said → Bool
 isSaid (says v m) = true
@@ -60,10 +60,7 @@ module _ (a : List ℕ) where
 
   -- what the answer says at a line, sample and place, nothing where it has no such line, sample or place
   unfoldable pub saidAt : ℕ → ℕ → ℕ → Said
-  saidAt i t l = elim (ltb i headLines && (ltb t (lineLength i) && ltb l headPlaces)) [
-    | true ↦ saidBy (wordAt a (lineStart i + 1 + (t * headPlaces + l)))
-    | false ↦ nothing
-  ]
+  saidAt i t l = cond (ltb i headLines && (ltb t (lineLength i) && ltb l headPlaces)) (saidBy (wordAt a (lineStart i + 1 + (t * headPlaces + l)))) nothing
 
   unfoldable pub lookedUp : ℕ → ℕ → ℕ → ℕ
-  lookedUp i t l = elim wholeAnswer [ true ↦ verdictNumber (saidAt i t l) | false ↦ 0 ]
+  lookedUp i t l = cond wholeAnswer (verdictNumber (saidAt i t l)) 0

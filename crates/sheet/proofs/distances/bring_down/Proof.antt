@@ -1,3 +1,4 @@
+-- What is stored is the least of the old number and the sum: a sum that is too large counts as none, and none is never less.
 use Prim.Native.Nat.{_+_, min}
 use mathlib.Core.Path.{_≡_, _∙_, ap}
 use native.Mathlib.Omega.{arith}

@@ -1,3 +1,5 @@
+-- The distances are found in the front part, lent for them alone; then the rest is cleared. The law of bytes with zeros after them says
+-- what numbers the whole table holds.
 use Prim.Native.Nat.{ℕ, _+_, _-_, _*_, _/_, _≤_}
 use mathlib.Core.Path.{_≡_, sym, _∙_, ap, ap₂}
 use mathlib.Core.List.{List, _++_}
@@ -81,7 +83,8 @@ returns c =
     c .before .before .fill-zero .ensures
     ∙ ap (λ (k : ℕ). replicate k 0) (ap length (tail-list u (count * 8) w) ∙ length-drop (count * 8) u ∙ rest) in
     let all = tail-back u (c .before .before .fill-zero .last .0) (count * 8) w ∙ ap₂ _++_ (take-at v (drop (count * 8) t) (count * 8) exact) zeros in
-    let numbers : count + (length t - count * 8) / 8 ≡ length (numbersOf (wordsOf t)) = omega (arith, length-numbers t, room (c .before .before .before .before .before .before .before .before)) in (
+    let numbers : count + (length t - count * 8) / 8 ≡ length (numbersOf (wordsOf t)) =
+    omega (arith, length-numbers t, room (c .before .before .before .before .before .before .before .before)) in (
       ap (λ (b : List ℕ). numbersOf (wordsOf b)) all ∙ padded-bytes v count (length t - count * 8) exact ∙ ap₂ padded (f .ensures) numbers,
       ap (drop (count * 8)) all ∙ drop-at v (replicate (length t - count * 8) 0) (count * 8) exact,
     )

@@ -1,3 +1,4 @@
+-- The loop's invariant: the numbers before i are none, the others are as they were.
 use Prim.Native.Nat.{ℕ, _-_, _<_, _≤_, _^_}
 use mathlib.Core.Path.{_≡_, _∙_, ap}
 use mathlib.Core.List.{List, _++_, append-nil}
@@ -12,7 +13,9 @@ use Rattle.sheet.proofs.distances.fill_none.Statement.{statement}
 use Rattle.sheet.proofs.distances.fill_none.Tie as tie
 
 abbrev Inv-loop : tie.InvT-loop
-Inv-loop table₀ count i₀ table i = (i ≤ count) × (length table ≡ length table₀) × (numbersOf (wordsOf table) ≡ replicate i (2 ^ 64 - 1) ++ drop i (numbersOf (wordsOf table₀)))
+Inv-loop table₀ count i₀ table i =
+    (i ≤ count) × (length table ≡ length table₀)
+    × (numbersOf (wordsOf table) ≡ replicate i (2 ^ 64 - 1) ++ drop i (numbersOf (wordsOf table₀)))
 
 abbrev μ-loop : tie.MeasureT-loop
 μ-loop table₀ count i₀ table i = count - i

@@ -1,3 +1,4 @@
+-- A table in memory has so few places that no finite distance is too large, so the last stage is the table of the distances.
 use Prim.Native.Nat.{_*_, _<_, _^_}
 use mathlib.Core.Path.{_∙_, ap}
 use native.Mathlib.Omega.{arith}
@@ -5,8 +6,8 @@ use lib.ListN.{length}
 use Rattle.words.specs.Bytes.{wordsOf}
 use Rattle.words.proofs.Numbers.{length-numbers}
 use Rattle.sheet.specs.Roads.{weightAmong}
-use Rattle.sheet.proofs.Stages.{length-stage, few-places, stage-all}
-use Rattle.sheet.proofs.Starting.{light}
+use Rattle.sheet.proofs.DistanceStages.{length-stage, few-places, stage-all}
+use Rattle.sheet.proofs.DistanceStart.{light}
 use borrow.Author.Needs.{needs}
 use Rattle.sheet.proofs.distances.find_distances.Statement.{statement}
 use Rattle.sheet.proofs.distances.find_distances.Tie as tie
@@ -27,10 +28,11 @@ same-length c = search needs
 
 returns : tie.Need-returns
 returns c =
-    let g = c .before .before .before .before .before .before .before .before .before .before .before .before .before .before .args in
+    let entry = c .before .before .before .before .before .before .before .before .before .before .before .before .before .before in
+    let g = entry .args in
     let w = weightAmong (wordsOf (g .s .now)) (g .roads) in
     let n = g .places in
-    let small = few-places n (omega (arith, length-numbers (g .table .now), c .before .before .before .before .before .before .before .before .before .before .before .before .before .before .pre .1)) in
+    let small = few-places n (omega (arith, length-numbers (g .table .now), entry .pre .1)) in
     let bound : n * 2 ^ 28 < 2 ^ 64 = omega arith in
     c .before .before .let-in-all .ensures w (c .before .before .before .before .before .before .put-roads .ensures)
     ∙ stage-all w n (2 ^ 28) (light (wordsOf (g .s .now)) (g .roads)) bound

@@ -1,3 +1,4 @@
+-- The loop's invariant, for every network whose table this is: k is let in at the rows before a.
 use Prim.Native.Nat.{ℕ, _+_, _-_, _*_, _≤_}
 use mathlib.Core.Path.{_≡_, refl, sym, _∙_, ap}
 use native.Mathlib.Numerals.{add-one}
@@ -6,8 +7,8 @@ use lib.ListN.{length}
 use Rattle.words.specs.Bytes.{wordsOf, numbersOf}
 use Rattle.words.proofs.Numbers.{same-count}
 use Rattle.logic.specs.Distance.{Distance}
-use Rattle.sheet.specs.Stages.{stage, lettingIn}
-use Rattle.sheet.proofs.Stages.{letting-none, letting-all}
+use Rattle.sheet.specs.DistanceStages.{stage, lettingIn}
+use Rattle.sheet.proofs.DistanceStages.{letting-none, letting-all}
 use borrow.Author.Needs.{needs}
 use Rattle.sheet.proofs.distances.let_in.Statement.{statement}
 use Rattle.sheet.proofs.distances.let_in.Tie as tie

@@ -1,3 +1,4 @@
+-- The loop's invariant, for every network whose table this is: the places before k are let in.
 use Prim.Native.Nat.{ℕ, _-_, _≤_}
 use mathlib.Core.Path.{_≡_, refl, _∙_, ap}
 use native.Mathlib.Omega.{arith}
@@ -5,7 +6,7 @@ use lib.ListN.{length}
 use Rattle.words.specs.Bytes.{wordsOf, numbersOf}
 use Rattle.words.proofs.Numbers.{same-count}
 use Rattle.logic.specs.Distance.{Distance}
-use Rattle.sheet.specs.Stages.{stage}
+use Rattle.sheet.specs.DistanceStages.{stage}
 use borrow.Author.Needs.{needs}
 use Rattle.sheet.proofs.distances.let_in_all.Statement.{statement}
 use Rattle.sheet.proofs.distances.let_in_all.Tie as tie

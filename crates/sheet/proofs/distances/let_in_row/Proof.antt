@@ -1,3 +1,5 @@
+-- The loop's invariant, for every network whose table this is: k is let in at the entries before a * n + b. The distance from a to k that
+-- was read before the loop is the same after it.
 use Prim.Native.Nat.{ℕ, suc, _+_, _-_, _*_, _<_, _≤_}
 use mathlib.Core.Path.{_≡_, refl, _∙_, ap}
 use mathlib.Core.List.{List}
@@ -7,8 +9,8 @@ use Rattle.words.specs.Bytes.{wordsOf, numbersOf}
 use Rattle.words.proofs.Numbers.{length-numbers, same-count}
 use Rattle.words.proofs.Rows.{in-table}
 use Rattle.logic.specs.Distance.{Distance, distance}
-use Rattle.sheet.specs.Stages.{saturated, lettingIn}
-use Rattle.sheet.proofs.Stages.{letting-to, letting-more}
+use Rattle.sheet.specs.DistanceStages.{saturated, lettingIn}
+use Rattle.sheet.proofs.DistanceStages.{letting-to, letting-more}
 use borrow.Author.Needs.{needs}
 use Rattle.sheet.proofs.distances.let_in_row.Statement.{statement}
 use Rattle.sheet.proofs.distances.let_in_row.Tie as tie
@@ -43,10 +45,14 @@ loop-holds c =
     (search needs, refl, λ w e. e ∙ ap (lettingIn w (g .n) (g .k)) z)
 
 add-bring-down : tie.Need-add-bring-down Inv-loop μ-loop
-add-bring-down c = omega (arith, in-table (c .before .before .before .before .before .pre .0) (c .loop-test .taken), length-numbers (c .before .before .before .before .before .args .table .now))
+add-bring-down c =
+    let o = c .before .before .before .before .before in
+    omega (arith, in-table (o .pre .0) (c .loop-test .taken), length-numbers (o .args .table .now))
 
 add-bring-down-2 : tie.Need-add-bring-down-2 Inv-loop μ-loop
-add-bring-down-2 c = omega (arith, in-table (c .before .before .before .before .before .pre .1) (c .loop-test .taken), length-numbers (c .before .before .before .before .before .args .table .now))
+add-bring-down-2 c =
+    let o = c .before .before .before .before .before in
+    omega (arith, in-table (o .pre .1) (c .loop-test .taken), length-numbers (o .args .table .now))
 
 bring-down-requires : tie.Need-bring-down-requires Inv-loop μ-loop
 bring-down-requires c κs =
@@ -71,6 +77,7 @@ loop-again c =
     let h = c .before .before .before .before .before .loop in
     let d = c .before .before .bring-down in
     let x = c .before .before .before .before .before .before .number-at in
+    let taken = c .before .before .before .before .loop-test .taken in
     let z : suc (g .a * g .n + h .b) ≡ g .a * g .n + (h .b + 1) = omega arith in (
       omega arith,
       d .kept .1 .1 .1 .0 ∙ h .inv .1,
@@ -78,7 +85,7 @@ loop-again c =
           let q : x .result ≡ saturated (distance w (g .k) (g .a) (g .k)) =
           x .ensures ∙ ap (λ (t : List ℕ). getD t (g .a * g .n + g .k) 0) e ∙ letting-to w (g .n) (g .k) (g .a * g .n) (g .a) (p .1) (p .0) in
           d .ensures
-          ∙ letting-more w (g .n) (g .k) (g .a) (h .b) (x .result) (numbersOf (wordsOf (h .table))) (p .1) (c .before .before .before .before .loop-test .taken) (p .0) q (h .inv .2 w e)
+          ∙ letting-more w (g .n) (g .k) (g .a) (h .b) (x .result) (numbersOf (wordsOf (h .table))) (p .1) taken (p .0) q (h .inv .2 w e)
           ∙ ap (lettingIn w (g .n) (g .k)) z,
     )
 

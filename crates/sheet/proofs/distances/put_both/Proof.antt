@@ -1,3 +1,4 @@
+-- Both entries are in the table, whose numbers are then stored one after the other.
 use Prim.Native.Nat.{ℕ, _+_, _*_, _<_}
 use mathlib.Core.Path.{_∙_, ap}
 use mathlib.Core.List.{List}

@@ -1,11 +1,12 @@
+-- The loop's invariant: the table is that of the first r roads.
 use Prim.Native.Nat.{ℕ, _-_, _≤_}
 use mathlib.Core.Path.{_≡_, refl, _∙_, ap}
 use native.Mathlib.Omega.{arith}
 use lib.ListN.{length}
 use Rattle.words.specs.Bytes.{wordsOf, numbersOf}
 use Rattle.sheet.specs.Roads.{weightAmong}
-use Rattle.sheet.specs.Stages.{stage}
-use Rattle.sheet.proofs.Starting.{no-roads}
+use Rattle.sheet.specs.DistanceStages.{stage}
+use Rattle.sheet.proofs.DistanceStart.{no-roads}
 use borrow.Author.Needs.{needs}
 use Rattle.sheet.proofs.distances.put_roads.Statement.{statement}
 use Rattle.sheet.proofs.distances.put_roads.Tie as tie

@@ -1,3 +1,4 @@
+-- The loop's invariant: the diagonal of the first a rows is zero, and every other number is none.
 use Prim.Native.Nat.{ℕ, _+_, _-_, _*_, _<_, _≤_, _^_}
 use mathlib.Core.Path.{_≡_, refl, _∙_, ap}
 use mathlib.Core.List.{List}
@@ -6,7 +7,7 @@ use lib.ListN.{length, set, replicate}
 use Rattle.words.specs.Bytes.{wordsOf, numbersOf}
 use Rattle.words.proofs.Numbers.{length-numbers, same-count}
 use Rattle.words.proofs.Rows.{in-table}
-use Rattle.sheet.proofs.Starting.{begun, begun-none, begun-more, begun-all}
+use Rattle.sheet.proofs.DistanceStart.{begun, begun-none, begun-more, begun-all}
 use borrow.Author.Needs.{needs}
 use Rattle.sheet.proofs.distances.start.Statement.{statement}
 use Rattle.sheet.proofs.distances.start.Tie as tie

@@ -16,7 +16,7 @@ use Rattle.logic.specs.Network.{distanceIn}
 use Rattle.logic.proofs.Distances.{lesser-by, atMost-other, distance-to, distance-from}
 use Rattle.logic.proofs.Reach.{distance-bound}
 use Rattle.sheet.specs.Roads.{distanceNumber, distanceTable}
-use Rattle.sheet.specs.Stages.{saturated, stage, lettingIn, broughtDown}
+use Rattle.sheet.specs.DistanceStages.{saturated, stage, lettingIn, broughtDown}
 
 -- ---- numbers of 64 bits for distances
 saturated-order : (d e : Distance) → T (atMost d e) → saturated d ≤ saturated e

@@ -1,6 +1,6 @@
 -- The word of a verdict and its margin, and what such a word says: kinds 9 to 12 of "The answer".
 use Prim.Native.Nat.{ℕ, _^_}
-use mathlib.Core.Bool.{Bool, true, false, _&&_, _||_}
+use mathlib.Core.Bool.{Bool, true, false, cond, _&&_, _||_}
 use lib.Dec.{ltb, eqb}
 use lib.IntN.{ℤ}
 use Rattle.words.specs.Word.{kindOf, payloadOf, wordOf, signed, unsigned}
@@ -19,20 +19,14 @@ pub data Said : Type 0 where
   says : Bool → Margin → Said
   nothing : Said
 
--- kind 9 is not negative, kind 10 not positive, a payload never -2^27, an infinity's payload 0
-unfoldable pub saidBy : ℕ → Said
-saidBy w =
-    let p : ℕ = payloadOf w in
-    elim (eqb (kindOf w) 9 && ltb p (2 ^ 27)) [
-      | true ↦ says true (finite (signed 28 p))
-      | false ↦ elim (eqb (kindOf w) 10 && (eqb p 0 || ltb (2 ^ 27) p)) [
-        | true ↦ says false (finite (signed 28 p))
-        | false ↦ elim (eqb (kindOf w) 11 && eqb p 0) [
-          | true ↦ says true plusInfinity
-          | false ↦ elim (eqb (kindOf w) 12 && eqb p 0) [
-            | true ↦ says false minusInfinity
-            | false ↦ nothing
-          ]
-        ]
-      ]
-    ]
+-- what a kind and a payload say: kind 9 is not negative, kind 10 not positive, a payload never -2^27, an infinity's payload 0
+unfoldable pub said : ℕ → ℕ → Said
+said kind payload =
+    cond (eqb kind 9 && ltb payload (2 ^ 27)) (says true (finite (signed 28 payload)))
+    (cond (eqb kind 10 && (eqb payload 0 || ltb (2 ^ 27) payload)) (says false (finite (signed 28 payload)))
+    (cond (eqb kind 11 && eqb payload 0) (says true plusInfinity)
+    (cond (eqb kind 12 && eqb payload 0) (says false minusInfinity)
+    nothing)))
+
+abbrev pub saidBy : ℕ → Said
+saidBy w = said (kindOf w) (payloadOf w)

@@ -16,8 +16,8 @@ use Rattle.words.proofs.Rows.{in-table, list-rows, rows-ext, rows-set}
 use Rattle.logic.specs.Distance.{dist, none, direct, distance}
 use Rattle.sheet.specs.Checked.{wordAt}
 use Rattle.sheet.specs.Layout.{roadAt, weightAt, firstPlace, secondPlace}
-use Rattle.sheet.specs.Roads.{RoadFits, joins, weightAmong}
-use Rattle.sheet.specs.Stages.{saturated, stage}
+use Rattle.sheet.specs.Roads.{GoodRoad, joins, weightAmong}
+use Rattle.sheet.specs.DistanceStages.{saturated, stage}
 
 -- ---- the diagonal
 abbrev diagonal : ℕ → ℕ → ℕ → ℕ
@@ -65,7 +65,7 @@ light s (suc r) a b x e = go (joins s r a b) e (light s r a b x)
     go true e f = let q : payloadOf (wordAt s (weightAt r)) ≡ x = cc in omega arith
     go false e f = f e
 
-module _ (s : List ℕ) (n r : ℕ) (fits : RoadFits s n r) where
+module _ (s : List ℕ) (n r : ℕ) (good : GoodRoad s n r) where
   abbrev first : ℕ
   first = firstPlace (wordAt s (roadAt r))
 
@@ -114,9 +114,9 @@ module _ (s : List ℕ) (n r : ℕ) (fits : RoadFits s n r) where
   road-stored : set (set (stage (weightAmong s r) n 0) (first * n + second) weight) (second * n + first) weight ≡ stage (weightAmong s (suc r)) n 0
   unfolding stage before after between joins
   road-stored =
-      let known : first < n = omega (arith, fits .ordered, fits .known) in
-      ap (λ (t : List ℕ). set t (second * n + first) weight) (rows-set before between n n first second weight known (fits .known) there once)
-      ∙ rows-set between after n n second first weight (fits .known) known back twice
+      let known : first < n = omega (arith, good .order, good .inside) in
+      ap (λ (t : List ℕ). set t (second * n + first) weight) (rows-set before between n n first second weight known (good .inside) there once)
+      ∙ rows-set between after n n second first weight (good .inside) known back twice
     where
       there : between first second ≡ weight
       there = rw (eq-eqb first first refl, eq-eqb second second refl)
@@ -125,8 +125,8 @@ module _ (s : List ℕ) (n r : ℕ) (fits : RoadFits s n r) where
       once p q _ _ o = rw (elsewhere first second p q o)
 
       back : after second first ≡ weight
-      back = joined-entry second first (λ e. omega (arith, fits .ordered))
-          (rw (ne-eqb first second (λ e. omega (arith, fits .ordered)), eq-eqb first first refl, eq-eqb second second refl))
+      back = joined-entry second first (λ e. omega (arith, good .order))
+          (rw (ne-eqb first second (λ e. omega (arith, good .order)), eq-eqb first first refl, eq-eqb second second refl))
 
       twice : (p q : ℕ) → p < n → q < n → (p * n + q ≡ second * n + first → ⊥) → between p q ≡ after p q
       twice p q _ _ o = go (ℕ-discrete first p) (ℕ-discrete second q)
@@ -137,7 +137,7 @@ module _ (s : List ℕ) (n r : ℕ) (fits : RoadFits s n r) where
           go : Dec (first ≡ p) → Dec (second ≡ q) → between p q ≡ after p q
           go (yes e) (yes f) =
               rw (eq-eqb first p e, eq-eqb second q f)
-              (sym (joined-entry p q (λ x. omega (arith, fits .ordered)) (rw (eq-eqb first p e, eq-eqb second q f))))
+              (sym (joined-entry p q (λ x. omega (arith, good .order)) (rw (eq-eqb first p e, eq-eqb second q f))))
           go (yes e) (no f) =
               rw (ne-eqb second q f, and-false (eqb first p))
               (other-entry p q (rw (ne-eqb second q f, and-false (eqb first p), not-back)))

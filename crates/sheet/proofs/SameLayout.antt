@@ -1,0 +1,151 @@
+-- Two accepted sheets alike in every word but their samples have the same layout: the check reads every other word alike, and of the samples
+-- it keeps only their count.
+use mathlib.Core.Path.{_≡_, refl, sym, ap, ap₂, subst, _∙_}
+use mathlib.Core.Logic.{_⊎_, inl, inr, ⊎-elim}
+use mathlib.Core.Bool.{Bool, true, false, not, _&&_, and-false}
+use mathlib.Core.List.{List, [], _∷_, _++_}
+use Prim.Native.Nat.{ℕ, zero, suc, _+_}
+use native.Mathlib.Omega.{arith}
+use lib.Dec.{T, eqb, ltb}
+use lib.ListN.{length}
+use Rattle.words.specs.Word.{bits, kindOf, payloadOf}
+use Rattle.logic.specs.Table.{Operator, Line, lineIn}
+use Rattle.sheet.specs.Limits.{mostLines}
+use Rattle.sheet.specs.Checked.{Checked, accepted, refused, _>>=_, require, wordAt, isKind}
+use Rattle.sheet.specs.Codes.{Code, constant, atom, unary, binary, unaryBounded, binaryBounded, unknown, codeOf}
+use Rattle.sheet.specs.Lines.{constantAt, boundsAt, operatorBy, operatorAt, lineAt, linesFrom}
+use Rattle.sheet.specs.Layout.{Sizes, Layout, headSizes, headChecked, roadAt, weightAt, firstPlace, secondPlace, roadsFrom, samplesFrom, sampleCount}
+use Rattle.sheet.specs.Apart.{SamplesApart, SamplesNear}
+use Rattle.sheet.proofs.Checks.{require-e, accepted-inj}
+use Rattle.sheet.proofs.Accepted.{Stages}
+
+pub samples-end : (s : List ℕ) (count at next : ℕ) → samplesFrom s count at ≡ accepted next → next ≡ at + count
+unfolding samplesFrom
+samples-end s zero at next e = let same = accepted-inj at next e in omega arith
+samples-end s (suc count) at next e =
+    let clear : Bool = eqb (bits 27 1 (wordAt s at)) 0 in
+    let rest = require-e (isKind 4 s at) 8 at (require clear 9 at (samplesFrom s count (at + 1))) next e .1 in
+    let onward = samples-end s count (at + 1) next (require-e clear 9 at (samplesFrom s count (at + 1)) next rest .1) in
+    omega arith
+
+-- where the lines begin, of an accepted sheet
+lines-begin : (s : List ℕ) (L : Layout) (x : Stages s L) → x .linesAt ≡ roadAt (L.roads) + sampleCount (L.sizes)
+lines-begin s L x = samples-end s (sampleCount (L.sizes)) (roadAt (L.roads)) (x .linesAt) (x .samples-read)
+
+untrue : (t : Bool) → T (not t) → t ≡ false
+untrue true h = absurd h
+untrue false h = refl
+
+-- ---- the same checks from the same parts
+bind-same : {A B : Type 0} (c d : Checked A) (f g : A → Checked B) → c ≡ d → ((a : A) → f a ≡ g a) → (c >>= f) ≡ (d >>= g)
+bind-same c d f g e h = ap₂ _>>=_ e (λ i a. h a i)
+
+require-same : {A : Type 0} (t u : Bool) (number place : ℕ) (c d : Checked A) → t ≡ u → (T u → c ≡ d) → require t number place c ≡ require u number place d
+require-same t true number place c d e h = rw e (h tt)
+require-same t false number place c d e h = rw e refl
+
+-- a choice between two checks
+abbrev choose : {A : Type 0} → Bool → Checked A → Checked A → Checked A
+choose t a c = elim t [ true ↦ a | false ↦ c ]
+
+choice-same : {A : Type 0} (t u : Bool) (a b c : Checked A) → t ≡ u → (T u → a ≡ b) → choose t a c ≡ choose u b c
+choice-same t true a b c e h = rw e (h tt)
+choice-same t false a b c e h = rw e refl
+
+-- what is checked of road r, and then the roads after it
+abbrev road : List ℕ → ℕ → ℕ → ℕ → ℕ → ℕ → Checked ℕ
+road s n words r last w =
+    require (eqb (bits 16 12 w) 0) 4 (roadAt r)
+    (require (ltb (firstPlace w) (secondPlace w) && ltb (secondPlace w) n) 5 (roadAt r)
+    (require (ltb last (payloadOf w)) 6 (roadAt r)
+    (require (isKind 3 s (weightAt r) && ltb 0 (payloadOf (wordAt s (weightAt r)))) 7 (weightAt r)
+    (roadsFrom s n words (suc r) (payloadOf w)))))
+
+-- the line at an index, and then the lines after it
+abbrev lineThen : List ℕ → ℕ → ℕ → ℕ → List Line → ℕ → Checked (List Line × ℕ)
+lineThen s v T room lines at =
+    lineAt s v T (length lines) (λ i. lineIn lines i .length) at >>= (λ read. linesFrom s v T room (lines ++ (read .0 ∷ [])) (read .1))
+
+module _ (d : ℕ) (X Y : List ℕ) (apart : SamplesApart d X Y) where
+  -- ---- words of a kind other than a sample's
+  not-sample : (k i w n : ℕ) → T (not (eqb 4 k)) → kindOf w ≡ 4 → (ltb i n && eqb (kindOf w) k) ≡ false
+  not-sample k i w n other e = rw (e, untrue (eqb 4 k) other) (and-false (ltb i n))
+
+  -- the test of a kind, with a further test of the word, comes out alike; where it passes, the words are the same
+  kind-same : (k i : ℕ) → T (not (eqb 4 k)) → isKind k X i ≡ isKind k Y i
+  unfolding isKind
+  kind-same k i other = ⊎-elim
+      (λ e. ap₂ (λ w n. ltb i n && eqb (kindOf w) k) e apart.same-length)
+      (λ n. not-sample k i (wordAt X i) (length X) other (n .first-sample) ∙ sym (not-sample k i (wordAt Y i) (length Y) other (n .second-sample)))
+      (apart.words-alike i)
+
+  pub word-same : (k i : ℕ) → T (not (eqb 4 k)) → T (isKind k Y i) → wordAt X i ≡ wordAt Y i
+  unfolding isKind
+  word-same k i other h = ⊎-elim
+      (λ e. e)
+      (λ n. absurd (subst T (not-sample k i (wordAt Y i) (length Y) other (n .second-sample)) h))
+      (apart.words-alike i)
+
+  test-same : (k i : ℕ) (f : ℕ → Bool) → T (not (eqb 4 k)) → (isKind k X i && f (wordAt X i)) ≡ (isKind k Y i && f (wordAt Y i))
+  test-same k i f other = go (isKind k Y i) (kind-same k i other) (word-same k i other)
+    where
+      go : (t : Bool) → isKind k X i ≡ t → (T t → wordAt X i ≡ wordAt Y i) → (isKind k X i && f (wordAt X i)) ≡ (t && f (wordAt Y i))
+      go true e h = rw (e, h tt) refl
+      go false e h = rw e refl
+
+  -- ---- the stages
+  head-same : headChecked X ≡ headChecked Y
+  unfolding headChecked headSizes
+  head-same = require-same (isKind 1 X 0) (isKind 1 Y 0) 2 0 _ _ (kind-same 1 0 tt) (λ h. rw (word-same 1 0 tt h) refl)
+
+  roads-same : (n words r last : ℕ) → roadsFrom X n words r last ≡ roadsFrom Y n words r last
+  unfolding roadsFrom
+  roads-same n zero r last = refl
+  roads-same n (suc words) r last = choice-same (isKind 2 X (roadAt r)) (isKind 2 Y (roadAt r))
+      (road X n words r last (wordAt X (roadAt r))) (road Y n words r last (wordAt Y (roadAt r))) (accepted r)
+      (kind-same 2 (roadAt r) tt)
+      (λ h. rw (word-same 2 (roadAt r) tt h, test-same 3 (weightAt r) (λ w. ltb 0 (payloadOf w)) tt, roads-same n words (suc r) (payloadOf (wordAt Y (roadAt r)))) refl)
+
+  constant-same : (at : ℕ) → constantAt X at ≡ constantAt Y at
+  unfolding constantAt
+  constant-same at = require-same (isKind 8 X at) (isKind 8 Y at) 12 at _ _ (kind-same 8 at tt) (λ h. rw (word-same 8 at tt h) refl)
+
+  bounds-same : (at : ℕ) → boundsAt X at ≡ boundsAt Y at
+  unfolding boundsAt
+  bounds-same at = require-same (isKind 6 X at) (isKind 6 Y at) 12 at _ _ (kind-same 6 at tt)
+      (λ h. require-same (isKind 7 X (at + 1)) (isKind 7 Y (at + 1)) 12 (at + 1) _ _ (kind-same 7 (at + 1) tt)
+      (λ k. rw (word-same 6 at tt h, word-same 7 (at + 1) tt k) refl))
+
+  operator-same : (code : Code) (at left right v lines : ℕ) → operatorBy X code at left right v lines ≡ operatorBy Y code at left right v lines
+  operator-same (constant o) at left right v lines = refl
+  operator-same (atom o) at left right v lines = rw (constant-same (at + 1)) refl
+  operator-same (unary o) at left right v lines = refl
+  operator-same (binary o) at left right v lines = refl
+  operator-same (unaryBounded o) at left right v lines = rw (bounds-same (at + 1)) refl
+  operator-same (binaryBounded o) at left right v lines = rw (bounds-same (at + 1)) refl
+  operator-same unknown at left right v lines = refl
+
+  line-same : (v T lines : ℕ) (lengths : ℕ → ℕ) (at : ℕ) → wordAt X at ≡ wordAt Y at → lineAt X v T lines lengths at ≡ lineAt Y v T lines lengths at
+  unfolding lineAt operatorAt
+  line-same v T lines lengths at e =
+      let by : ℕ → Checked (Operator × ℕ) = λ w. operatorBy X (codeOf (bits 20 8 w)) at (bits 10 10 w) (bits 0 10 w) v lines in
+      let w : ℕ = wordAt Y at in
+      bind-same (operatorAt X v lines at) (operatorAt Y v lines at) _ _
+      (ap by e ∙ operator-same (codeOf (bits 20 8 w)) at (bits 10 10 w) (bits 0 10 w) v lines) (λ _. refl)
+
+  lines-same : (v T room : ℕ) (lines : List Line) (at : ℕ) → linesFrom X v T room lines at ≡ linesFrom Y v T room lines at
+  unfolding linesFrom
+  lines-same v T zero lines at = rw (kind-same 5 at tt) refl
+  lines-same v T (suc room) lines at = choice-same (isKind 5 X at) (isKind 5 Y at) (lineThen X v T room lines at) (lineThen Y v T room lines at) _ (kind-same 5 at tt)
+      (λ h. bind-same _ _ _ _ (line-same v T (length lines) (λ i. lineIn lines i .length) at (word-same 5 at tt h)) (λ read. lines-same v T room (lines ++ (read .0 ∷ [])) (read .1)))
+
+  -- ---- the whole
+  pub same-layout : (L M : Layout) → Stages X L → Stages Y M → L ≡ M
+  same-layout L M x y =
+      let sizes = accepted-inj (L.sizes) (M.sizes) (sym (x .head) ∙ head-same ∙ y .head) in
+      let roads = accepted-inj (L.roads) (M.roads) (sym (x .roads-read) ∙ roads-same (L.sizes.places) (length X) 0 0
+      ∙ ap₂ (λ (z : Sizes) (n : ℕ). roadsFrom Y (z .places) n 0 0) sizes apart.same-length ∙ y .roads-read) in
+      let begins : x .linesAt ≡ y .linesAt = lines-begin X L x ∙ ap₂ (λ (r : ℕ) (z : Sizes). roadAt r + sampleCount z) roads sizes ∙ sym (lines-begin Y M y) in
+      let found = accepted-inj (L.lines, x .endAt) (M.lines, y .endAt) (sym (x .lines-read) ∙ lines-same (L.sizes.signals) (L.sizes.samples) mostLines [] (x .linesAt)
+      ∙ ap₂ (λ (z : Sizes) (at : ℕ). linesFrom Y (z .signals) (z .samples) mostLines [] at) sizes begins ∙ y .lines-read) in
+      λ i. record { sizes = sizes i; roads = roads i; lines = found i .0 }

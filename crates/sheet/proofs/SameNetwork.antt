@@ -1,0 +1,57 @@
+-- Two accepted sheets alike in every word but their samples, the samples at most d apart, have the same network, and recordings at most d apart.
+use mathlib.Core.Path.{_≡_, refl, ap, _∙_}
+use mathlib.Core.Logic.{⊎-elim}
+use mathlib.Core.Bool.{Bool, true, false, _&&_, _||_}
+use mathlib.Core.List.{List}
+use Prim.Native.Nat.{ℕ, zero, suc, _+_, _*_, _<_, _≤_, zero-le}
+use native.Mathlib.Nat.{le-of-lt}
+use native.Mathlib.Omega.{arith}
+use lib.Dec.{eqb}
+use lib.ListN.{length}
+use lib.IntN.{ℤ, pos, negsuc, natAbs, _-ℤ_}
+use Rattle.words.specs.Word.{payloadOf, sampleOf}
+use Rattle.logic.specs.Distance.{Distance, dist}
+use Rattle.logic.specs.Network.{Network}
+use Rattle.logic.proofs.Order.{UpZ, nearZ}
+use Rattle.sheet.specs.Checked.{wordAt}
+use Rattle.sheet.specs.Layout.{Layout, roadAt, weightAt, firstPlace, secondPlace}
+use Rattle.sheet.specs.Roads.{GoodRoad, joins, weightAmong, network, recording}
+use Rattle.sheet.specs.Apart.{SamplesApart, SamplesNear}
+use Rattle.sheet.proofs.Accepted.{Stages}
+use Rattle.sheet.proofs.AcceptedRoads.{road-good}
+use Rattle.sheet.proofs.SameLayout.{word-same}
+
+itself-near : (d : ℕ) (z : ℤ) → natAbs (z -ℤ z) ≤ d
+itself-near d (pos x) = nearZ d (pos x) (pos x) .1 (omega arith, omega arith)
+itself-near d (negsuc x) = nearZ d (negsuc x) (negsuc x) .1 (omega arith, omega arith)
+
+-- the weight of a road, given its two words, where it joins a and b, else what the roads before it say
+abbrev weightOr : ℕ → ℕ → ℕ → ℕ → Distance → Distance
+weightOr w v a b others = elim (eqb (firstPlace w) a && eqb (secondPlace w) b || eqb (firstPlace w) b && eqb (secondPlace w) a) [
+  | true ↦ dist (payloadOf v)
+  | false ↦ others
+]
+
+module _ (d : ℕ) (X Y : List ℕ) (apart : SamplesApart d X Y) (L : Layout) (y : Stages Y L) where
+  weight-same : (r : ℕ) → r ≤ L.roads → (a b : ℕ) → weightAmong X r a b ≡ weightAmong Y r a b
+  unfolding weightAmong joins
+  weight-same zero h a b = refl
+  weight-same (suc r) h a b =
+      let good : GoodRoad Y (L.sizes.places) r = road-good Y (L.sizes.places) (length Y) 0 0 (L.roads) (y .roads-read) r zero-le h in
+      let road = word-same d X Y apart 2 (roadAt r) tt (good .road) in
+      let weight = word-same d X Y apart 3 (weightAt r) tt (good .weight) in
+      let others = weight-same r (le-of-lt h) a b in
+      λ i. weightOr (road i) (weight i) a b (others i)
+
+  pub network-same : network X L ≡ network Y L
+  unfolding network
+  network-same = λ i. record { places = L.sizes.places; weight = λ a b. weight-same (L.roads) (omega arith) a b i }
+
+  pub recordings-near : (signal t l : ℕ) → natAbs (recording X L signal t l -ℤ recording Y L signal t l) ≤ d
+  unfolding recording
+  recordings-near signal t l =
+      let at : ℕ = roadAt (L.roads) + ((t * L.sizes.places + l) * L.sizes.signals + signal) in
+      ⊎-elim
+      (λ e. rw e (itself-near d (sampleOf (wordAt Y at))))
+      (λ n. n .near)
+      (apart.words-alike at)

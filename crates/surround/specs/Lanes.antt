@@ -1,0 +1,40 @@
+-- What the kernel computes: the surround of two signals at one sample and centre, with its rounds, from words, roads and distances. Several
+-- samples lie side by side in the lanes of a row: entry place · lanes + lane.
+use mathlib.Core.Bool.{Bool}
+use mathlib.Core.List.{List}
+use Prim.Native.Nat.{ℕ, _+_, _*_}
+use lib.ListN.{getD}
+use Rattle.logic.specs.Margin.{Margin, marginLattice}
+use Rattle.logic.specs.Network.{isRoad}
+use Rattle.logic.specs.Surround.{surround}
+use Rattle.logic.specs.Iteration.{masked, rounds}
+use Rattle.logic.specs.Counts.{mostBelow}
+use Rattle.sheet.specs.Roads.{weightAmong}
+use Rattle.values.specs.Chain.{chainLattice, chainMargin}
+use Rattle.values.specs.Signals.{signalIn, inTable}
+
+abbrev pub lanes : ℕ
+lanes = 16
+
+-- a lane of a row, by place
+abbrev pub laneOf : List ℕ → ℕ → ℕ → ℕ
+laneOf row lane place = getD row (place * lanes + lane) 0
+
+-- one of the first roads of a sheet leads from a to b
+unfoldable pub joinedBy : List ℕ → ℕ → ℕ → ℕ → Bool
+joinedBy sheet roads a b = isRoad (weightAmong sheet roads a b)
+
+-- words with the signals of the operands, n to a sample, which begin at `left` and `right`; a sheet with its roads; distances; bounds
+module _ (words : List ℕ) (left right n : ℕ) (sheet : List ℕ) (roads : ℕ) (distances : List ℕ) (lower upper : ℕ) where
+  unfoldable pub surroundValue : ℕ → ℕ → ℕ
+  surroundValue t centre = surround chainLattice (joinedBy sheet roads) n (inTable distances n centre 0 upper) (inTable distances n centre lower upper)
+      (signalIn words left n t) (signalIn words right n t) centre
+
+  unfoldable pub surroundRounds : ℕ → ℕ → ℕ
+  surroundRounds t centre = rounds (joinedBy sheet roads) n
+      (masked marginLattice (inTable distances n centre 0 upper) (λ l. chainMargin (signalIn words left n t l)))
+      (masked marginLattice (inTable distances n centre lower upper) (λ l. chainMargin (signalIn words right n t l)))
+
+  -- the greatest rounds of `count` samples from `first` on, over all centres
+  unfoldable pub blockRounds : ℕ → ℕ → ℕ
+  blockRounds first count = mostBelow (λ centre. mostBelow (λ lane. surroundRounds (first + lane) centre) count) n

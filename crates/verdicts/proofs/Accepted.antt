@@ -1,0 +1,111 @@
+-- What the number 0 of a result says: the sheet was accepted and answered, and its answer says at every line, sample and place what is meant.
+use mathlib.Core.Path.{_≡_, refl, sym, ap, subst, _∙_}
+use mathlib.Core.Bool.{Bool, true, false, cond, _&&_}
+use mathlib.Core.List.{List}
+use Prim.Native.Nat.{ℕ, _+_, _*_, _≤_}
+use native.Mathlib.Omega.{arith}
+use lib.Dec.{T, ltb, leb}
+use lib.ListN.{length}
+use Rattle.logic.specs.Table.{Line, lineIn, verdicts, margins, valueAt}
+use Rattle.logic.proofs.Counts.{rounds-at-most-places}
+use Rattle.logic.proofs.TableKeeps.{ConstantsIn}
+use Rattle.logic.proofs.Small.{InBits}
+use Rattle.sheet.specs.Checked.{Checked, accepted, refused, between, wordAt}
+use Rattle.sheet.specs.Layout.{Layout, roadAt, checked}
+use Rattle.sheet.specs.Roads.{network, recording}
+use Rattle.sheet.proofs.Accepted.{Stages, stages, InLimits, head-limits}
+use Rattle.sheet.proofs.AcceptedLines.{sample-bits, GoodLines, good-length, good-lengths, table-good, good-constants}
+use Rattle.sheet.proofs.RefusalNumbers.{Numbered, accepts, refuses, check-numbered}
+use Rattle.values.specs.Said.{Said, says, nothing}
+use Rattle.verdicts.specs.Answer.{wordsNeeded}
+use Rattle.verdicts.specs.Judged.{Judged, refusal, answered, judgedBy, judged}
+use Rattle.verdicts.specs.Lookup.{verdictNumber, wholeAnswer, saidAt, lookedUp}
+use Rattle.verdicts.proofs.AnswerWords.{InFields}
+use Rattle.verdicts.proofs.AnswerSays.{answer-says}
+use Rattle.verdicts.proofs.WholeAnswer.{InAnswer, answer-whole}
+
+pub record Answered (s : List ℕ) (distances answer : ℕ) : Type 0 where
+  pub layout : Layout
+  pub found : checked s distances ≡ accepted layout
+  pub enough : T (leb (wordsNeeded (layout .sizes .places) (layout .lines)) answer)
+  pub left : judged s distances answer ≡ answered s distances answer layout
+
+number-zero : (number : ℕ) → T (between 1 14 number) → number ≡ 0 → ⊥
+number-zero number h e = subst (λ k. T (between 1 14 k)) e h
+
+module _ (s : List ℕ) (distances answer : ℕ) where
+  -- a sheet that the check accepts is answered where there is room, and refused with 15 otherwise
+  by-room : (L : Layout) → checked s distances ≡ accepted L → judged s distances answer .result .number ≡ 0 → Answered s distances answer
+  unfolding judged
+  by-room L c z = go (leb (wordsNeeded (L.sizes.places) (L.lines)) answer) refl
+    where
+      judged-by : (t : Bool) → leb (wordsNeeded (L.sizes.places) (L.lines)) answer ≡ t → judged s distances answer ≡ cond t (answered s distances answer L) (refusal distances answer 15 (length s))
+      judged-by t e = ap (judgedBy s distances answer) c ∙ ap (λ (b : Bool). cond b (answered s distances answer L) (refusal distances answer 15 (length s))) e
+
+      go : (t : Bool) → leb (wordsNeeded (L.sizes.places) (L.lines)) answer ≡ t → Answered s distances answer
+      go true e = record { layout = L; found = c; enough = rw e tt; left = judged-by true e }
+      go false e = absurd (let fifteen : _≡_ {A = ℕ} 15 0 = sym (ap (λ j. j .result .number) (judged-by false e)) ∙ z in omega arith)
+
+  pub accepted-answered : judged s distances answer .result .number ≡ 0 → Answered s distances answer
+  unfolding judged
+  accepted-answered z = go (checked s distances) refl (check-numbered s distances)
+    where
+      go : (c : Checked Layout) → checked s distances ≡ c → Numbered c → Answered s distances answer
+      go (accepted L) e n = by-room L e z
+      go (refused number place) e (refuses n) = absurd (number-zero number n (sym (ap (λ (c : Checked Layout). judgedBy s distances answer c .result .number) e) ∙ z))
+
+looked : (t : Bool) (number : ℕ) → T t → cond t number 0 ≡ number
+looked true number h = refl
+looked false number h = absurd h
+
+module _ (s : List ℕ) (L : Layout) (read : Stages s L) where
+  limits : InLimits (L.sizes)
+  limits = head-limits s (L.sizes) (read .head)
+
+  table : GoodLines (L.sizes.samples) 64 (L.lines)
+  table = table-good s (L.sizes.signals) (L.sizes.samples) (read .linesAt) (L.lines, read .endAt) (read .lines-read)
+
+  fields : InFields (L.sizes.places) (L.sizes.samples) (L.lines)
+  fields = record {
+    places = omega (arith, limits .places .1);
+    count = omega (arith, table .bound);
+    samples = omega (arith, limits .samples .1);
+    lengths = λ i. omega (arith, good-length (L.sizes.samples) (L.lines) (table .good) i, limits .samples .1);
+  }
+
+  -- the answer says what is meant, and nothing elsewhere
+  pub answered-says : (distances answer i t l : ℕ) → saidAt (answered s distances answer L .answer) i t l
+      ≡ cond (ltb i (length (L.lines)) && (ltb t (lineIn (L.lines) i .length) && ltb l (L.sizes.places)))
+      (says (valueAt verdicts (network s L) (recording s L) (L.lines) i t l) (valueAt margins (network s L) (recording s L) (L.lines) i t l)) nothing
+  unfolding answered network recording
+  answered-says distances answer = answer-says (network s L) (L.sizes.samples) (recording s L) (L.lines) answer fields
+      (λ signal t l. sample-bits (wordAt s (roadAt (L.roads) + ((t * L.sizes.places + l) * L.sizes.signals + signal))))
+      (good-constants (L.sizes.samples) (L.lines) (table .good))
+
+  sizes : InAnswer (L.sizes.places) (L.sizes.samples) (L.lines)
+  sizes = record {
+    places = limits .places;
+    samples = limits .samples;
+    count = (table .some, table .bound);
+    lengths = λ i h. good-lengths (L.sizes.samples) (L.lines) (table .good) i h;
+  }
+
+  whole : (distances answer : ℕ) → T (wholeAnswer (answered s distances answer L .answer))
+  unfolding answered network recording
+  whole distances answer = answer-whole (network s L) (L.sizes.samples) (recording s L) (L.lines) answer fields
+      (λ signal t l. sample-bits (wordAt s (roadAt (L.roads) + ((t * L.sizes.places + l) * L.sizes.signals + signal))))
+      (good-constants (L.sizes.samples) (L.lines) (table .good)) sizes
+
+  -- so the lookup gives the verdict that is meant, and 0 elsewhere
+  pub answered-lookup : (distances answer i t l : ℕ) → lookedUp (answered s distances answer L .answer) i t l
+      ≡ verdictNumber (cond (ltb i (length (L.lines)) && (ltb t (lineIn (L.lines) i .length) && ltb l (L.sizes.places)))
+      (says (valueAt verdicts (network s L) (recording s L) (L.lines) i t l) (valueAt margins (network s L) (recording s L) (L.lines) i t l)) nothing)
+  unfolding lookedUp
+  answered-lookup distances answer i t l =
+      looked (wholeAnswer (answered s distances answer L .answer)) (verdictNumber (saidAt (answered s distances answer L .answer) i t l)) (whole distances answer)
+      ∙ ap verdictNumber (answered-says distances answer i t l)
+
+  -- rounds are at most n
+  pub answered-rounds : (distances answer : ℕ) → answered s distances answer L .result .rounds ≤ L.sizes.places
+  unfolding answered network
+  answered-rounds distances answer = rounds-at-most-places (network s L) (recording s L) (L.lines) (limits .places .0)

@@ -1,0 +1,73 @@
+-- Demand 3 whole, about the words of two answers: X and Y are sheets alike in every word but their samples, these at most d apart, each
+-- accepted, whatever was lent to either. At every line, sample and place both answers have a verdict or neither has; the margins are at most
+-- d apart or the same infinity; and the verdict is the same where the margin is beyond d.
+use mathlib.Core.Path.{_≡_, refl, sym, ap, subst, subst₂, _∙_}
+use mathlib.Core.Bool.{Bool, true, false, cond, _&&_}
+use mathlib.Core.List.{List}
+use Prim.Native.Nat.{ℕ, _<_, _≤_}
+use lib.Dec.{T, ltb, ltb→lt}
+use lib.ListN.{length}
+use lib.IntN.{natAbs, _-ℤ_}
+use Rattle.logic.specs.Margin.{Margin}
+use Rattle.logic.specs.Network.{Network}
+use Rattle.logic.specs.Table.{Line, lineIn, Recording, verdicts, margins, valueAt}
+use Rattle.logic.proofs.Tests.{and-r}
+use Rattle.logic.proofs.Steadiness.{steady}
+use Rattle.logic.proofs.Agreement.{agreement, same-verdict}
+use Rattle.sheet.specs.Layout.{Layout}
+use Rattle.sheet.specs.Roads.{network, recording}
+use Rattle.sheet.specs.Apart.{SamplesApart}
+use Rattle.sheet.proofs.Accepted.{Stages, stages}
+use Rattle.sheet.proofs.SameLayout.{same-layout}
+use Rattle.sheet.proofs.SameNetwork.{network-same, recordings-near}
+use Rattle.values.specs.Said.{Said, says, nothing}
+use Rattle.verdicts.specs.Judged.{Judged, answered, judged}
+use Rattle.verdicts.specs.Lookup.{saidAt}
+use Rattle.verdicts.specs.Steady.{Steady, SteadyVerdicts}
+use Rattle.verdicts.proofs.Accepted.{Answered, accepted-answered, answered-says}
+
+-- what is meant of two recordings at most d apart is steady
+meant-steady : (d : ℕ) (N : Network) (x y : Recording) → ((s t l : ℕ) → natAbs (x s t l -ℤ y s t l) ≤ d) → (lines : List Line) (i t l : ℕ) → l < N.places
+    → SteadyVerdicts d (valueAt verdicts N x lines i t l) (valueAt verdicts N y lines i t l) (valueAt margins N x lines i t l) (valueAt margins N y lines i t l)
+meant-steady d N x y h lines i t l b =
+    let n = steady d N x y h lines i t l b in
+    record {
+      near = n;
+      same = λ beyond. same-verdict d _ _ _ _ n beyond (agreement N x lines i t l b) (agreement N y lines i t l b);
+    }
+
+-- where a line, sample or place is not there, both say nothing
+both : (d : ℕ) (p : Bool) (v w : Bool) (m k : Margin) → (T p → SteadyVerdicts d v w m k) → Steady d (cond p (says v m) nothing) (cond p (says w k) nothing)
+both d true v w m k h = h tt
+both d false v w m k h = tt
+
+module _ (d : ℕ) (X Y : List ℕ) (apart : SamplesApart d X Y) where
+  -- the same, with what the check of the two sheets has found
+  found-steady : (L : Layout) → Stages X L → Stages Y L → (dx ax dy ay i t l : ℕ)
+      → Steady d (saidAt (answered X dx ax L .answer) i t l) (saidAt (answered Y dy ay L .answer) i t l)
+  unfolding network
+  found-steady L x y dx ax dy ay i t l =
+      let N : Network = network X L in
+      let lines : List Line = L.lines in
+      let there : Bool = ltb i (length lines) && (ltb t (lineIn lines i .length) && ltb l (L.sizes.places)) in
+      let place : T there → l < L.sizes.places =
+      λ h. ltb→lt l (L.sizes.places) (and-r (ltb t (lineIn lines i .length)) _ (and-r (ltb i (length lines)) _ h)) in
+      subst₂ (Steady d) (sym (answered-says X L x dx ax i t l)) (sym (answered-says Y L y dy ay i t l))
+      (both d there _ _ _ _ (λ h. subst
+      (λ (M : Network). SteadyVerdicts d (valueAt verdicts N (recording X L) lines i t l) (valueAt verdicts M (recording Y L) lines i t l)
+      (valueAt margins N (recording X L) lines i t l) (valueAt margins M (recording Y L) lines i t l))
+      (network-same d X Y apart L y)
+      (meant-steady d N (recording X L) (recording Y L) (recordings-near d X Y apart L y) lines i t l (place h))))
+
+  pub steadiness : (dx ax dy ay : ℕ) → judged X dx ax .result .number ≡ 0 → judged Y dy ay .result .number ≡ 0
+      → (i t l : ℕ) → Steady d (saidAt (judged X dx ax .answer) i t l) (saidAt (judged Y dy ay .answer) i t l)
+  steadiness dx ax dy ay zx zy i t l =
+      let x : Answered X dx ax = accepted-answered X dx ax zx in
+      let y : Answered Y dy ay = accepted-answered Y dy ay zy in
+      let inX : Stages X (x .layout) = stages X dx (x .layout) (x .found) in
+      let inY : Stages Y (y .layout) = stages Y dy (y .layout) (y .found) in
+      let same : x .layout ≡ y .layout = same-layout d X Y apart (x .layout) (y .layout) inX inY in
+      subst₂ (λ (a b : List ℕ). Steady d (saidAt a i t l) (saidAt b i t l))
+      (sym (ap (λ (j : Judged). j .answer) (x .left)))
+      (sym (ap (λ (j : Judged). j .answer) (y .left ∙ ap (answered Y dy ay) (sym same))))
+      (found-steady (x .layout) inX (subst (Stages Y) (sym same) inY) dx ax dy ay i t l)

@@ -1,0 +1,82 @@
+//! A small helper that lays out the words of a sheet.
+
+use crate::words::{self, kinds};
+
+/// The words of a sheet as they grow, front to back. Nothing is checked, so
+/// that sheets with faults can be built as well.
+#[derive(Clone, Debug, Default)]
+pub struct SheetBuilder {
+    words: Vec<u32>,
+}
+
+impl SheetBuilder {
+    /// A sheet that begins with a head of so many places, signals and samples.
+    pub fn new(places: u32, signals: u32, samples: u32) -> Self {
+        let payload = places << 20 | signals << 12 | samples;
+        SheetBuilder::default().word(kinds::HEAD, payload)
+    }
+
+    /// Adds any word.
+    pub fn word(mut self, kind: u32, payload: u32) -> Self {
+        self.words.push(words::word(kind, payload));
+        self
+    }
+
+    /// Adds a road's two words.
+    pub fn road(self, first: u32, second: u32, weight: u32) -> Self {
+        self.word(kinds::ROAD_PLACES, first << 8 | second).word(kinds::ROAD_WEIGHT, weight)
+    }
+
+    /// Adds samples.
+    pub fn samples(self, numbers: &[i32]) -> Self {
+        let add =
+            |sheet: Self, &number: &i32| sheet.word(kinds::SAMPLE, words::sample_payload(number));
+        numbers.iter().fold(self, add)
+    }
+
+    /// Adds a line word.
+    pub fn line(self, code: u32, left: u32, right: u32) -> Self {
+        self.word(kinds::LINE, code << 20 | left << 10 | right)
+    }
+
+    /// Adds a constant.
+    pub fn constant(self, number: i32) -> Self {
+        self.word(kinds::CONSTANT, words::sample_payload(number))
+    }
+
+    /// Adds a lower and an upper bound.
+    pub fn bounds(self, lower: u32, upper: u32) -> Self {
+        self.word(kinds::LOWER, lower).word(kinds::UPPER, upper)
+    }
+
+    /// A line of code 0.
+    pub fn truth(self) -> Self {
+        self.line(0, 0, 0)
+    }
+
+    /// A line of code 1.
+    pub fn at_least(self, signal: u32, number: i32) -> Self {
+        self.line(1, signal, 0).constant(number)
+    }
+
+    /// A line of code 2.
+    pub fn at_most(self, signal: u32, number: i32) -> Self {
+        self.line(2, signal, 0).constant(number)
+    }
+
+    /// A line of a code with bounds.
+    pub fn bounded(self, code: u32, left: u32, right: u32, bounds: (u32, u32)) -> Self {
+        self.line(code, left, right).bounds(bounds.0, bounds.1)
+    }
+
+    /// The words so far.
+    pub fn words(self) -> Vec<u32> {
+        self.words
+    }
+
+    /// The words with the end that belongs to them.
+    pub fn end(self) -> Vec<u32> {
+        let count = self.words.len() as u32;
+        self.word(kinds::END, count).words()
+    }
+}

@@ -1,0 +1,49 @@
+//! Aims at what is lent: refusals 1, 15 and 16.
+
+use crate::answer;
+use crate::generate::random::Random;
+use crate::generate::Case;
+use crate::judge::{BYTES_PER_DISTANCE, RESULT_BYTES};
+use crate::sheet::{self, DISTANCE_ENTRIES};
+use crate::words::{self, BYTES_PER_WORD};
+
+/// 1: under 4,096 entries of the distance table.
+pub fn few_distances(random: &mut Random, case: &mut Case) {
+    let any = random.below(DISTANCE_ENTRIES);
+    let entries = random.pick(&[0, 1, DISTANCE_ENTRIES - 1, any]);
+    case.distances = entries * BYTES_PER_DISTANCE;
+}
+
+/// 15: fewer words of the answer than needed, often by one.
+pub fn short_answer(random: &mut Random, case: &mut Case) {
+    let words = words::from_bytes(&case.sheet).unwrap_or_default();
+    let needed = match sheet::check(&words, DISTANCE_ENTRIES) {
+        Ok(sheet) => answer::needed(&sheet),
+        Err(_) => 1,
+    };
+    let any = random.below(needed);
+    case.answer = random.pick(&[needed - 1, needed - 1, any, 0]) * BYTES_PER_WORD;
+}
+
+/// 16: a length in bytes that cannot be, of one buffer or of several.
+pub fn odd_bytes(random: &mut Random, case: &mut Case) {
+    let mask = random.field(1, 15);
+    if mask & 1 != 0 {
+        let odd = random.count(1, BYTES_PER_WORD - 1);
+        let length = case.sheet.len();
+        if random.chance(50) && length > odd {
+            case.sheet.truncate(length - odd);
+        } else {
+            case.sheet.resize(length + odd, 0);
+        }
+    }
+    if mask & 2 != 0 {
+        case.answer += random.count(1, BYTES_PER_WORD - 1);
+    }
+    if mask & 4 != 0 {
+        case.distances += random.count(1, BYTES_PER_DISTANCE - 1);
+    }
+    if mask & 8 != 0 {
+        case.result = random.pick(&[0, 1, 8, 32, RESULT_BYTES - 1, RESULT_BYTES + 1, 80]);
+    }
+}

@@ -1,0 +1,68 @@
+//! Answers, whole and damaged, and what is looked up in them.
+
+use super::random::Random;
+use crate::words::{self, kinds};
+
+/// A line, a sample and a place to look up.
+pub type Query = (u64, u64, u64);
+
+/// The bytes of an answer after a blow or none, for the lookup.
+pub fn damaged(random: &mut Random, answer: &[u8]) -> Vec<u8> {
+    let mut words = words::from_bytes(answer).unwrap_or_default();
+    if !words.is_empty() {
+        strike(random, &mut words);
+    }
+    let mut bytes = words::to_bytes(&words);
+    if random.chance(3) {
+        bytes.resize(bytes.len() + random.count(1, 3), 0);
+    }
+    bytes
+}
+
+fn strike(random: &mut Random, words: &mut Vec<u32>) {
+    let at = position(random, words);
+    let word = words[at];
+    let (kind, payload) = (words::kind(word), words::payload(word));
+    match random.below(14) {
+        0..=2 => {}
+        3 => words.extend([0; 3]),
+        4 => words.extend([0, random.pick(&[1, 0xF000_0000, 0x8000_0000])]),
+        5 => words[at] ^= 1 << random.below(32),
+        6 => words[at] = words::word(random.field(9, 15), payload),
+        7 => words[at] = words::word(kind, random.pick(&[0, 1, 1 << 27, (1 << 28) - 1])),
+        8 => words[at] = words::word(kind, payload.wrapping_neg()),
+        9 => words[at] = word.wrapping_add(random.pick(&[1, u32::MAX])),
+        10 => words.truncate(at),
+        11 => drop(words.remove(at)),
+        12 => words.insert(at, word),
+        _ => words[at] = head_or_length(random, word),
+    }
+}
+
+/// An index, often of one of the rare words that frame the verdicts.
+fn position(random: &mut Random, words: &[u32]) -> usize {
+    let frame: Vec<usize> =
+        (0..words.len()).filter(|&index| words::kind(words[index]) >= kinds::ANSWER_HEAD).collect();
+    if frame.is_empty() || random.chance(50) {
+        random.below(words.len())
+    } else {
+        random.pick(&frame)
+    }
+}
+
+/// The word with one of its fields at or beyond a limit.
+fn head_or_length(random: &mut Random, word: u32) -> u32 {
+    let (shift, mask) = random.pick(&[(20, 0xFF), (12, 0xFF), (0, 0xFFF)]);
+    let field = random.pick(&[0, 1, 16, 64, 65, 1024, 1025, mask]) & mask;
+    (word & !(mask << shift)) | (field << shift)
+}
+
+/// A query that is mostly inside sizes like these and sometimes beyond.
+pub fn query(random: &mut Random, lines: u64, samples: u64, places: u64) -> Query {
+    let mut number = |count: u64| match random.below(12) {
+        0 => count,
+        1 => random.pick(&[u64::MAX, 1 << 32, 1 << 63, count + 1]),
+        _ => random.bits() % count.max(1),
+    };
+    (number(lines), number(samples), number(places))
+}

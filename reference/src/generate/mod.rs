@@ -1,0 +1,85 @@
+//! Seeded sheets, valid and damaged, with what a host lends beside them.
+//!
+//! A seed determines its case wholly, so a case on which two engines differ
+//! can be told by one number.
+
+pub mod aim;
+pub mod answers;
+pub mod damage;
+pub mod network;
+pub mod random;
+pub mod table;
+pub mod valid;
+
+use crate::answer;
+use crate::judge::{BYTES_PER_DISTANCE, RESULT_BYTES};
+use crate::sheet::{self, DISTANCE_ENTRIES};
+use crate::words::{self, BYTES_PER_WORD};
+use random::Random;
+
+/// A sheet and the lengths in bytes of the buffers lent beside it.
+#[derive(Clone, Debug, PartialEq, Eq)]
+pub struct Case {
+    /// The sheet's bytes.
+    pub sheet: Vec<u8>,
+    /// The length of the distance table.
+    pub distances: usize,
+    /// The length of the answer.
+    pub answer: usize,
+    /// The length of the result.
+    pub result: usize,
+}
+
+impl Case {
+    /// A sheet with enough lent beside it: the whole distance table, an answer
+    /// of at least what is needed, and the 40 bytes of the result.
+    pub fn lend(random: &mut Random, words: &[u32]) -> Self {
+        let needed = match sheet::check(words, DISTANCE_ENTRIES) {
+            Ok(sheet) => answer::needed(&sheet),
+            Err(_) => random.below(64),
+        };
+        let spare = random.pick(&[0, 0, 1, 2, 17]);
+        let entries = DISTANCE_ENTRIES + random.pick(&[0, 0, 0, 1, 100]);
+        Case {
+            sheet: words::to_bytes(words),
+            distances: entries * BYTES_PER_DISTANCE,
+            answer: (needed + spare) * BYTES_PER_WORD,
+            result: RESULT_BYTES,
+        }
+    }
+}
+
+/// The case of a seed: of a hundred about 50 valid ones, 36 aimed at a certain
+/// refusal and 14 damaged without an aim, none of more than so many places.
+pub fn case(seed: u64, most_places: usize) -> Case {
+    let mut random = Random::new(seed);
+    match random.below(100) {
+        0..=49 => valid_case(&mut random, most_places),
+        50..=85 => {
+            let number = random.between(1, 16) as u64;
+            aim::aimed(&mut random, number, most_places)
+        }
+        _ => damaged_case(&mut random, most_places),
+    }
+}
+
+/// A valid sheet with enough lent beside it.
+pub fn valid_case(random: &mut Random, most_places: usize) -> Case {
+    let words = valid::sheet(random, most_places);
+    Case::lend(random, &words)
+}
+
+/// A sheet damaged anywhere; now and then too little is lent as well, so that
+/// the order of the refusals is seen.
+pub fn damaged_case(random: &mut Random, most_places: usize) -> Case {
+    let mut words = valid::small_sheet(random, most_places);
+    damage::damage(random, &mut words);
+    let mut case = Case::lend(random, &words);
+    match random.below(40) {
+        0 => aim::lent::few_distances(random, &mut case),
+        1 => aim::lent::short_answer(random, &mut case),
+        2 => aim::lent::odd_bytes(random, &mut case),
+        _ => {}
+    }
+    case
+}

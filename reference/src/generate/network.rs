@@ -1,0 +1,90 @@
+//! Networks of many shapes.
+
+use super::random::Random;
+use std::collections::BTreeMap;
+
+/// The greatest weight of a road and the greatest bound: 2^28 - 1.
+pub const GREATEST: u32 = (1 << 28) - 1;
+
+/// A road: first place, second place, weight.
+pub type Triple = (u32, u32, u32);
+
+#[derive(Clone, Copy)]
+enum Shape {
+    Unconnected,
+    Path,
+    Ring,
+    Star,
+    Grid,
+    Full,
+    Tree,
+    Sparse,
+    Split,
+}
+
+#[derive(Clone, Copy)]
+enum Weights {
+    Ones,
+    Small,
+    Huge,
+    Any,
+}
+
+const SHAPES: [Shape; 9] = [
+    Shape::Unconnected,
+    Shape::Path,
+    Shape::Ring,
+    Shape::Star,
+    Shape::Grid,
+    Shape::Full,
+    Shape::Tree,
+    Shape::Sparse,
+    Shape::Split,
+];
+
+const WEIGHTS: [Weights; 4] = [Weights::Ones, Weights::Small, Weights::Huge, Weights::Any];
+
+/// The roads of a random network, in the order a sheet wants them.
+pub fn roads(random: &mut Random, places: usize) -> Vec<Triple> {
+    let shape = random.pick(&SHAPES);
+    let weights = random.pick(&WEIGHTS);
+    let mut names: Vec<u32> = (0..places as u32).collect();
+    if random.chance(60) {
+        random.shuffle(&mut names);
+    }
+    let mut roads = BTreeMap::new();
+    for (a, b) in pairs(random, shape, places) {
+        let (first, second) = (names[a].min(names[b]), names[a].max(names[b]));
+        roads.insert((first, second), weight(random, weights));
+    }
+    let triple = |((first, second), weight)| (first, second, weight);
+    roads.into_iter().map(triple).collect()
+}
+
+/// The pairs that a shape joins, the lower place second.
+fn pairs(random: &mut Random, shape: Shape, places: usize) -> Vec<(usize, usize)> {
+    let width = random.count(1, 8);
+    let density = random.count(5, 60);
+    let all = (0..places).flat_map(|a| (0..a).map(move |b| (a, b)));
+    let joined = |&(a, b): &(usize, usize)| match shape {
+        Shape::Unconnected => false,
+        Shape::Path => a == b + 1,
+        Shape::Ring => a == b + 1 || (b == 0 && a + 1 == places),
+        Shape::Star => b == 0,
+        Shape::Grid => a == b + width || (a == b + 1 && a % width != 0),
+        Shape::Full => true,
+        Shape::Tree => (a - 1) / 2 == b,
+        Shape::Sparse => random.chance(density),
+        Shape::Split => (a < places / 2) == (b < places / 2) && a <= b + 2,
+    };
+    all.filter(joined).collect()
+}
+
+fn weight(random: &mut Random, weights: Weights) -> u32 {
+    match weights {
+        Weights::Ones => 1,
+        Weights::Small => random.field(1, 4),
+        Weights::Huge => random.field(GREATEST - 1, GREATEST),
+        Weights::Any => random.field(1, GREATEST),
+    }
+}

@@ -1,0 +1,134 @@
+//! Tables of lines for valid sheets.
+
+use super::network::GREATEST;
+use super::random::Random;
+use super::valid::Numbers;
+use crate::builder::SheetBuilder;
+
+/// What the lines of a sheet draw on.
+pub struct Source<'a> {
+    /// The number of signals.
+    pub signals: usize,
+    /// The number of samples T.
+    pub samples: usize,
+    /// The numbers that constants are drawn from.
+    pub numbers: Numbers,
+    /// The sheet's samples, as constants that tie.
+    pub readings: &'a [i32],
+    /// The weights of the sheet's roads, of which bounds are made.
+    pub weights: Vec<u32>,
+}
+
+/// Codes of lines, those with the most to go wrong more often.
+const CODES: [u32; 20] = [0, 1, 1, 2, 2, 3, 3, 4, 4, 5, 5, 6, 7, 7, 7, 8, 9, 10, 11, 11];
+
+/// Codes that need no earlier line.
+const FIRST_CODES: [u32; 7] = [0, 1, 1, 1, 2, 2, 2];
+
+/// Adds so many valid lines to a sheet.
+pub fn lines(
+    random: &mut Random,
+    mut sheet: SheetBuilder,
+    source: &Source,
+    count: usize,
+) -> SheetBuilder {
+    let mut lengths: Vec<usize> = Vec::new();
+    for number in 0..count {
+        let early = number == 0 || (number < 3 && random.chance(60));
+        let code = random.pick(if early { &FIRST_CODES[..] } else { &CODES[..] });
+        let (extended, length) = line(random, sheet, source, &lengths, code);
+        sheet = extended;
+        lengths.push(length);
+    }
+    sheet
+}
+
+/// Adds one line of a code; gives its length too.
+fn line(
+    random: &mut Random,
+    sheet: SheetBuilder,
+    source: &Source,
+    lengths: &[usize],
+    code: u32,
+) -> (SheetBuilder, usize) {
+    if code == 0 {
+        return (sheet.truth(), source.samples);
+    }
+    if code <= 2 {
+        let signal = random.below(source.signals) as u32;
+        let number = constant(random, source);
+        return (sheet.line(code, signal, 0).constant(number), source.samples);
+    }
+    let left = operand(random, lengths);
+    let binary = matches!(code, 4 | 5 | 7 | 8);
+    let right = if binary { operand(random, lengths) } else { 0 };
+    let length = if binary { lengths[left].min(lengths[right]) } else { lengths[left] };
+    let sheet = sheet.line(code, left as u32, right as u32);
+    match code {
+        3 | 4 | 8 => (sheet, length),
+        6 | 7 | 11 => {
+            let (lower, upper) = distance_bounds(random, source);
+            (sheet.bounds(lower, upper), length)
+        }
+        _ => {
+            let (lower, upper) = time_bounds(random, length);
+            (sheet.bounds(lower, upper), length - upper as usize)
+        }
+    }
+}
+
+/// A constant, often one that a sample equals.
+fn constant(random: &mut Random, source: &Source) -> i32 {
+    if random.chance(50) {
+        random.pick(source.readings)
+    } else {
+        source.numbers.draw(random)
+    }
+}
+
+/// An earlier line, often one of the last, so that formulas nest.
+fn operand(random: &mut Random, lengths: &[usize]) -> usize {
+    let count = lengths.len();
+    if random.chance(50) {
+        count - 1 - random.below(count.min(3))
+    } else {
+        random.below(count)
+    }
+}
+
+/// Bounds of time that leave the line a length of at least 1.
+fn time_bounds(random: &mut Random, length: usize) -> (u32, u32) {
+    let most = length - 1;
+    let upper = match random.below(10) {
+        0..=5 => random.count(0, most.min(2)),
+        6 => most,
+        7 => 0,
+        _ => random.count(0, most),
+    };
+    let lower = match random.below(4) {
+        0 => 0,
+        1 => upper,
+        _ => random.count(0, upper),
+    };
+    (lower as u32, upper as u32)
+}
+
+/// Bounds of distance: empty, equal, huge, or near sums of the sheet's weights.
+fn distance_bounds(random: &mut Random, source: &Source) -> (u32, u32) {
+    let near = |random: &mut Random| {
+        let weight = if source.weights.is_empty() { 1 } else { random.pick(&source.weights) };
+        let sum = u64::from(weight) * random.below(4) as u64;
+        (sum as u32).min(GREATEST)
+    };
+    let (a, b) = (near(random), near(random));
+    match random.below(12) {
+        0 => (0, 0),
+        1 => (0, GREATEST),
+        2 => (GREATEST, GREATEST),
+        3 => (a, a),
+        4 => (a, GREATEST),
+        5 => (1, b.max(1)),
+        6..=8 => (0, b),
+        _ => (a.min(b), a.max(b)),
+    }
+}

@@ -1,0 +1,41 @@
+//! A reference implementation of the station-network verdict engine.
+//!
+//! The engine reads a sheet of 32-bit words (a network of places, the samples
+//! recorded there and a table of formulas), checks it, and writes an answer
+//! of 32-bit words: for every formula, sample and place a verdict and a
+//! margin. Comments call the document that lays the engine out *the scope*
+//! and quote it; *the paper* is its source on the logic SSTL, from which the
+//! numbered definitions are taken.
+//!
+//! Two evaluators stand side by side and share nothing but the sheet and the
+//! distances:
+//!
+//! * [`meaning::Meaning`] follows the definitions to the letter and
+//!   enumerates every region of a surround: slow, made to be trusted;
+//! * [`fast::Fast`] iterates Definition 4.4 to its fixed point, as Algorithm 2
+//!   of the paper does: made for networks of any size up to 64 places.
+//!
+//! [`judge()`], [`lookup()`] and [`print()`] are what a host and the printing
+//! program see.
+
+#![forbid(unsafe_code)]
+#![warn(missing_docs)]
+
+pub mod answer;
+pub mod builder;
+pub mod distance;
+pub mod evaluation;
+pub mod fast;
+pub mod generate;
+pub mod judge;
+pub mod lookup;
+pub mod margin;
+pub mod meaning;
+pub mod print;
+pub mod refusal;
+pub mod sheet;
+pub mod words;
+
+pub use judge::judge;
+pub use lookup::lookup;
+pub use print::print;

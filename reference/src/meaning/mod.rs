@@ -1,0 +1,112 @@
+//! Evaluation by the definitions, to the letter.
+//!
+//! Verdicts follow the Boolean semantics (Definition 3.1, [`boolean`]), margins
+//! the quantitative one (Definition 3.4, [`quantitative`]), each from the
+//! operands' verdicts and margins alone. A surround tries all 2^n regions, so
+//! networks should not have more than about a dozen places.
+
+mod boolean;
+mod quantitative;
+mod regions;
+mod rounds;
+
+use crate::distance::Distances;
+use crate::evaluation::Evaluation;
+use crate::margin::{Margin, Verdict};
+use crate::sheet::{Bounds, Line, Operator, Sheet};
+use regions::Region;
+
+/// The verdicts of a sheet by the definitions.
+pub struct Meaning {
+    places: usize,
+    lines: Vec<Vec<Verdict>>,
+    rounds: u64,
+}
+
+impl Evaluation for Meaning {
+    fn evaluate(sheet: &Sheet, distances: &Distances) -> Self {
+        let mut world =
+            World { sheet, distances, neighbours: sheet.neighbours(), lines: Vec::new() };
+        let mut rounds = 0;
+        for line in &sheet.lines {
+            rounds = rounds.max(rounds::of_line(&world, line));
+            let verdicts = verdicts(&world, line);
+            world.lines.push(verdicts);
+        }
+        Meaning { places: sheet.head.places, lines: world.lines, rounds }
+    }
+
+    fn verdict(&self, line: usize, sample: usize, place: usize) -> Verdict {
+        self.lines[line][sample * self.places + place]
+    }
+
+    fn rounds(&self) -> u64 {
+        self.rounds
+    }
+}
+
+/// What a formula may look at: the sheet, the distances, and the verdicts of
+/// the lines before it.
+struct World<'a> {
+    sheet: &'a Sheet,
+    distances: &'a Distances,
+    neighbours: Vec<Vec<usize>>,
+    lines: Vec<Vec<Verdict>>,
+}
+
+impl World<'_> {
+    fn places(&self) -> usize {
+        self.sheet.head.places
+    }
+
+    /// An earlier line's verdict.
+    fn yes(&self, line: usize, sample: usize, place: usize) -> bool {
+        self.lines[line][sample * self.places() + place].yes
+    }
+
+    /// An earlier line's margin.
+    fn margin(&self, line: usize, sample: usize, place: usize) -> Margin {
+        self.lines[line][sample * self.places() + place].margin
+    }
+
+    /// The places within bounds of a centre.
+    fn range(&self, centre: usize, bounds: Bounds) -> impl Iterator<Item = usize> + '_ {
+        (0..self.places()).filter(move |&place| self.distances.within(centre, place, bounds))
+    }
+}
+
+/// Where a formula is looked at: the sample, the place, and for a surround the
+/// regions that place allows (no formula of another code asks for them).
+struct Point<'a> {
+    sample: usize,
+    place: usize,
+    regions: &'a [Region],
+}
+
+/// All verdicts of a line, "sample outermost, then place".
+fn verdicts(world: &World, line: &Line) -> Vec<Verdict> {
+    let regions: Vec<Vec<Region>> =
+        (0..world.places()).map(|centre| allowed_regions(world, &line.operator, centre)).collect();
+    let mut verdicts = Vec::new();
+    for sample in 0..line.length {
+        for (place, regions) in regions.iter().enumerate() {
+            let point = Point { sample, place, regions };
+            verdicts.push(Verdict {
+                yes: boolean::holds(world, &line.operator, &point),
+                margin: quantitative::margin(world, &line.operator, &point),
+            });
+        }
+    }
+    verdicts
+}
+
+/// The regions of a surround at one centre. They do not depend on the sample,
+/// so they are enumerated once.
+fn allowed_regions(world: &World, operator: &Operator, centre: usize) -> Vec<Region> {
+    match *operator {
+        Operator::Surround { bounds, .. } => {
+            regions::allowed(&world.neighbours, world.distances, centre, bounds)
+        }
+        _ => Vec::new(),
+    }
+}

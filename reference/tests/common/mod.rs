@@ -1,0 +1,133 @@
+//! Judging in tests: both evaluators, dirty buffers, every lent byte compared.
+
+#![allow(dead_code)]
+
+use reference::builder::SheetBuilder;
+use reference::evaluation::Evaluation;
+use reference::fast::Fast;
+use reference::generate::Case;
+use reference::judge::{judge, Outcome};
+use reference::margin::{Margin, Verdict};
+use reference::meaning::Meaning;
+use reference::words;
+
+/// Everything a judge leaves behind.
+#[derive(Clone, Debug, PartialEq, Eq)]
+pub struct Left {
+    pub number: u64,
+    pub distances: Vec<u8>,
+    pub answer: Vec<u8>,
+    pub result: Vec<u8>,
+}
+
+impl Left {
+    pub fn outcome(&self) -> Outcome {
+        Outcome::from_bytes(&self.result).expect("40 bytes were lent")
+    }
+
+    pub fn answer_words(&self) -> Vec<u32> {
+        words::from_bytes(&self.answer).expect("whole words were lent")
+    }
+
+    pub fn distance(&self, index: usize) -> u64 {
+        let entry = &self.distances[8 * index..8 * index + 8];
+        u64::from_le_bytes(entry.try_into().expect("eight bytes"))
+    }
+}
+
+/// Judges a case in buffers that are not clean.
+pub fn judged_by<E: Evaluation>(case: &Case) -> Left {
+    let mut distances = vec![0xA5; case.distances];
+    let mut answer = vec![0x5A; case.answer];
+    let mut result = vec![0xC3; case.result];
+    let number = judge::<E>(&case.sheet, &mut distances, &mut answer, &mut result);
+    Left { number, distances, answer, result }
+}
+
+/// Judges a case with both evaluators, which must leave the same bytes.
+pub fn judged(case: &Case) -> Left {
+    let left = judged_by::<Meaning>(case);
+    assert_eq!(left, judged_by::<Fast>(case));
+    left
+}
+
+/// A case of words with the whole distance table and so many answer words.
+pub fn case(words: &[u32], answer_words: usize) -> Case {
+    Case {
+        sheet: words::to_bytes(words),
+        distances: 4096 * 8,
+        answer: answer_words * 4,
+        result: 40,
+    }
+}
+
+/// What judging words leaves, with plenty lent.
+pub fn judged_words(words: &[u32]) -> Left {
+    judged(&case(words, 16_384))
+}
+
+/// The number and place that words are refused with; all else must be zero.
+pub fn refused(words: &[u32]) -> (u64, u64) {
+    let left = judged_words(words);
+    assert_refused(&left);
+    let outcome = left.outcome();
+    assert_eq!(left.number, outcome.number);
+    (outcome.number, outcome.place)
+}
+
+/// "A refusal has words, rounds and yes count 0, and sets the whole answer and
+/// the whole distance table to zero."
+pub fn assert_refused(left: &Left) {
+    assert_ne!(left.number, 0);
+    assert!(left.distances.iter().all(|&byte| byte == 0));
+    assert!(left.answer.iter().all(|&byte| byte == 0));
+    if left.result.len() == 40 {
+        let expected =
+            Outcome { number: left.number, place: left.outcome().place, ..Outcome::default() };
+        assert_eq!(left.outcome(), expected);
+    } else {
+        assert!(left.result.iter().all(|&byte| byte == 0));
+    }
+}
+
+/// The verdicts of the last line of an accepted sheet, row by row.
+pub fn last_line(words: &[u32]) -> Vec<Verdict> {
+    let left = judged_words(words);
+    assert_eq!(left.number, 0);
+    let answer = reference::answer::Answer::read(&left.answer_words());
+    answer.expect("a whole answer").lines.pop().expect("a line")
+}
+
+pub fn yes(number: i64) -> Verdict {
+    finite(true, number)
+}
+
+pub fn no(number: i64) -> Verdict {
+    finite(false, number)
+}
+
+fn finite(yes: bool, number: i64) -> Verdict {
+    let margin = Margin::Finite(number);
+    Verdict { yes, margin }
+}
+
+pub const YES_PLUS_INFINITY: Verdict = Verdict { yes: true, margin: Margin::PlusInfinity };
+
+pub const NO_MINUS_INFINITY: Verdict = Verdict { yes: false, margin: Margin::MinusInfinity };
+
+/// The 19 words of example A.
+pub const EXAMPLE_A: [u32; 19] = [
+    0x10201002, 0x20000001, 0x30000003, 0x40000005, 0x47FFFFFE, 0x40000001, 0x40000004, 0x50100000,
+    0x80000000, 0x50900000, 0x60000000, 0x70000001, 0x50600000, 0x60000001, 0x70000003, 0x50700800,
+    0x60000000, 0x70000003, 0xF0000012,
+];
+
+/// Three places in a row with weights 1, two signals, one sample each.
+pub fn row_of_three(left: [i32; 3], right: [i32; 3]) -> SheetBuilder {
+    SheetBuilder::new(3, 2, 1)
+        .road(0, 1, 1)
+        .road(1, 2, 1)
+        .samples(&[left[0], right[0], left[1], right[1], left[2], right[2]])
+        .at_least(0, 0)
+        .at_least(1, 0)
+}
