@@ -36,7 +36,7 @@ saturated-add (dist a) none = omega arith
 saturated-add (dist a) (dist b) = omega arith
 
 -- the least of a distance and a sum, without a bound on either
-pub saturated-least : (d x y : Distance) → saturated (lesser d (add x y)) ≡ min (saturated d) (saturated x + saturated y)
+saturated-least : (d x y : Distance) → saturated (lesser d (add x y)) ≡ min (saturated d) (saturated x + saturated y)
 saturated-least d x y = lesser-by (λ v. saturated v ≡ min (saturated d) (saturated x + saturated y)) d (add x y)
     (λ h. omega (arith, saturated-order d (add x y) h, saturated-add x y, saturated-most d))
     (λ h. omega (arith, saturated-order (add x y) d (atMost-other d (add x y) h), saturated-add x y, saturated-most d))

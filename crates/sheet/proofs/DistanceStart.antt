@@ -54,7 +54,7 @@ unfolding weightAmong
 no-roads s n = refl
 
 -- ---- roads
--- no road weighs 2^28 or more: its weight is a payload
+-- a road's weight is a payload
 pub light : (s : List ℕ) (r a b x : ℕ) → weightAmong s r a b ≡ dist x → x ≤ 2 ^ 28
 unfolding weightAmong
 light s zero a b x e = let z : _≡_ {A = ℕ} 0 1 = cc in absurd (omega arith)

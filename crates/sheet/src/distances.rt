@@ -100,8 +100,8 @@ fn lesser(x: u64, y: u64) -> u64
     if x <= y { x } else { y }
 }
 
-// The distance at one index brought down to x plus that at another, where this is less. It is stored in either case: a test before the
-// store would be one that the processor can't foresee, in the innermost loop.
+// The distance at one index brought down to x plus that at another, where this is less. It is stored in either case: in the innermost
+// loop a test before the store would cost more, as its outcome can't be foreseen.
 fn bring_down(x: u64, from: usize, to: usize, table: &mut [u8])
     requires { ⌜ (from < length (numbersOf (wordsOf (now table)))) × (to < length (numbersOf (wordsOf (now table)))) ⌝ }
     ensures { λ _. ⌜ numbersOf (wordsOf (now (table .exit))) ≡ broughtDown x from to (numbersOf (wordsOf (now (table .entry)))) ⌝ }
@@ -154,7 +154,7 @@ fn find_distances(s: &[u8], places: usize, roads: usize, table: &mut [u8])
     let_in_all(places, table);
 }
 
-// The distances of the first roads of a sheet, row by row, and zeros in all the bytes after them, whatever they held.
+// The distances of all places along a sheet's roads, row by row, and zeros in all the bytes after them, whatever these held.
 pub fn fill_distances(s: &[u8], places: usize, roads: usize, table: &mut [u8])
     requires { ⌜ ((r : ℕ) → r < roads → GoodRoad (wordsOf (now s)) places r) × (places * places ≤ length (numbersOf (wordsOf (now table)))) ⌝ }
     ensures numbers { λ _. ⌜ numbersOf (wordsOf (now (table .exit))) ≡ padded (distanceTable (networkOf (wordsOf (now (s .entry))) places roads)) (length (numbersOf (wordsOf (now (table .entry))))) ⌝ }
