@@ -5,12 +5,12 @@ use mathlib.Core.Bool.{Bool, true, false, not, cond}
 use Prim.Native.Nat.{ℕ, zero, suc, _+_, _<_, _≤_, zero-le}
 use native.Mathlib.Nat.{not-suc-le-zero, le-refl, le-of-lt, zero-add, add-zero}
 use native.Mathlib.Omega.{arith}
-use lib.Dec.{T, leb, eqb, leb→le, le→leb, eqb→eq, eqb-refl, nleb→lt}
+use lib.Dec.{T, T-not, leb, eqb, leb→le, le→leb, eqb→eq, eqb-refl, nleb→lt}
 use Rattle.logic.specs.Distance.{Distance, dist, none, atMost, add, lesser, Path, here, step, IsDistance, direct, distance}
 use Rattle.logic.specs.Network.{Network, distanceIn}
 use Rattle.logic.proofs.Tests.{below}
 
-lesser-by : (P : Distance → Type 0) (x y : Distance) → (T (atMost x y) → P x) → (T (not (atMost x y)) → P y) → P (lesser x y)
+pub lesser-by : (P : Distance → Type 0) (x y : Distance) → (T (atMost x y) → P x) → (T (not (atMost x y)) → P y) → P (lesser x y)
 lesser-by P x y f g = go (atMost x y) f g
   where
     go : (c : Bool) → (T c → P x) → (T (not c) → P y) → P (cond c x y)
@@ -23,7 +23,7 @@ atMost-trans x none (dist c) h k = absurd k
 atMost-trans none (dist b) (dist c) h k = absurd h
 atMost-trans (dist a) (dist b) (dist c) h k = omega (arith, leb→le, le→leb)
 
-atMost-other : (x y : Distance) → T (not (atMost x y)) → T (atMost y x)
+pub atMost-other : (x y : Distance) → T (not (atMost x y)) → T (atMost y x)
 atMost-other x none h = absurd h
 atMost-other none (dist b) h = tt
 atMost-other (dist a) (dist b) h = omega (arith, nleb→lt, le→leb)
@@ -51,6 +51,22 @@ add-le : (x y : Distance) (a b : ℕ) → T (atMost x (dist a)) → T (atMost y 
 add-le none y a b h k = h
 add-le (dist x) none a b h k = k
 add-le (dist x) (dist y) a b h k = omega (arith, leb→le, le→leb)
+
+lesser-first : (x y : Distance) → T (atMost x y) → lesser x y ≡ x
+lesser-first x y h = lesser-by (λ v. v ≡ x) x y (λ _. refl) (λ k. absurd (T-not (atMost x y) k h))
+
+zero-least : (y : Distance) → T (atMost (dist 0) y)
+zero-least none = tt
+zero-least (dist b) = le→leb 0 b zero-le
+
+-- a sum is no less than either part
+part-l : (x : Distance) (b : ℕ) → T (atMost x (add x (dist b)))
+part-l none b = tt
+part-l (dist a) b = le→leb a (a + b) (omega arith)
+
+part-r : (x : Distance) (b : ℕ) → T (atMost x (add (dist b) x))
+part-r none b = tt
+part-r (dist a) b = le→leb a (b + a) (omega arith)
 
 module _ (weight : ℕ → ℕ → Distance) where
   direct-self : (a : ℕ) → direct weight a a ≡ dist 0
@@ -144,6 +160,26 @@ module _ (weight : ℕ → ℕ → Distance) where
     sum = λ x e. is-path n n (le-refl n) a b x c e;
     least = λ x p. below-sum (distance weight n a b) x (least n a b x p);
   }
+
+  -- ---- the distances to and from k stay as they are when k is let in: a table can take in one place after the other within itself
+  distance-self : (k a : ℕ) → distance weight k a a ≡ dist 0
+  unfolding distance
+  distance-self zero a = direct-self a
+  distance-self (suc k) a =
+      let y = add (distance weight k a k) (distance weight k k a) in
+      rw (distance-self k a) (lesser-first (dist 0) y (zero-least y))
+
+  pub distance-to : (k a : ℕ) → distance weight (suc k) a k ≡ distance weight k a k
+  unfolding distance
+  distance-to k a =
+      let x = distance weight k a k in
+      rw (distance-self k k) (lesser-first x (add x (dist 0)) (part-l x 0))
+
+  pub distance-from : (k b : ℕ) → distance weight (suc k) k b ≡ distance weight k k b
+  unfolding distance
+  distance-from k b =
+      let x = distance weight k k b in
+      rw (distance-self k k) (lesser-first x (add (dist 0) x) (part-r x 0))
 
 pub network-distance : (N : Network) (a b : ℕ) → b < N.places → IsDistance (N.weight) (N.places) a b (distanceIn N a b)
 unfolding distanceIn

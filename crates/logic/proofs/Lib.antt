@@ -12,6 +12,7 @@ pub mod Margins
 pub mod Monotone
 pub mod Rounds
 pub mod Distances
+pub mod Reach
 pub mod Limit
 pub mod TableKeeps
 pub mod ValueSame

@@ -26,7 +26,7 @@ module _ (joined : ℕ → ℕ → Bool) (n : ℕ) (p q : ℕ → Bool) where
   unfolding iterate
   step-i i l h f = and-i (held i l) _ h (all-i (joined l) (λ k. held i k || q k) n f)
 
-  start : (i l : ℕ) → T (held i l) → T (p l)
+  pub start : (i l : ℕ) → T (held i l) → T (p l)
   unfolding iterate
   start zero l h = h
   start (suc i) l h = start i l (step-e i l h .0)

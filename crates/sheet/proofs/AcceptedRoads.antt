@@ -1,24 +1,21 @@
 -- What the roads of an accepted sheet are: words of kinds 2 and 3, a first place below the second and that below n, a weight above 0.
-use mathlib.Core.Path.{_≡_, refl, sym, subst}
+use mathlib.Core.Path.{_≡_, refl, subst}
 use mathlib.Core.Logic.{⊎-elim}
 use mathlib.Core.Bool.{Bool, true, false, _&&_}
 use mathlib.Core.List.{List}
-use Prim.Native.Nat.{ℕ, zero, suc, _<_, _≤_}
-use native.Mathlib.Nat.{eq-or-lt-of-le}
+use Prim.Native.Nat.{ℕ, zero, suc, _*_, _<_, _≤_, zero-le}
+use native.Mathlib.Nat.{eq-or-lt-of-le, mul-le-mul}
 use native.Mathlib.Omega.{arith}
-use lib.Dec.{T, eqb, ltb, ltb→lt}
+use lib.Dec.{eqb, ltb, leb, ltb→lt, leb→le}
+use lib.ListN.{length}
 use Rattle.words.specs.Word.{bits, payloadOf}
 use Rattle.logic.proofs.Tests.{and-l, and-r}
+use Rattle.sheet.specs.Limits.{leastDistances}
 use Rattle.sheet.specs.Checked.{Checked, accepted, require, wordAt, isKind}
-use Rattle.sheet.specs.Layout.{roadAt, weightAt, firstPlace, secondPlace, roadsFrom}
+use Rattle.sheet.specs.Layout.{Layout, roadAt, weightAt, firstPlace, secondPlace, roadsFrom, checked}
+use Rattle.sheet.specs.Roads.{GoodRoad}
 use Rattle.sheet.proofs.Checks.{require-e, accepted-inj}
-
-pub record GoodRoad (s : List ℕ) (n r : ℕ) : Type 0 where
-  pub road : T (isKind 2 s (roadAt r))
-  pub weight : T (isKind 3 s (weightAt r))
-  pub order : firstPlace (wordAt s (roadAt r)) < secondPlace (wordAt s (roadAt r))
-  pub inside : secondPlace (wordAt s (roadAt r)) < n
-  pub positive : 0 < payloadOf (wordAt s (weightAt r))
+use Rattle.sheet.proofs.Found.{stages, head-limits}
 
 module _ (s : List ℕ) (n : ℕ) where
   -- road r and the roads after it
@@ -67,3 +64,13 @@ module _ (s : List ℕ) (n : ℕ) where
           (λ l. later e₄ q l k)
           (eq-or-lt-of-le h)
       go false is later e = absurd (let same = accepted-inj r roads e in omega arith)
+
+-- what an accepted sheet gives the distances: good roads, and room for the distances of all places
+pub accepted-roads : (s : List ℕ) (distances : ℕ) (L : Layout) → checked s distances ≡ accepted L
+    → ((r : ℕ) → r < L.roads → GoodRoad s (L.sizes.places) r) × (L.sizes.places * L.sizes.places ≤ distances)
+unfolding checked
+accepted-roads s distances L e =
+    let found = stages s distances L e in
+    let few = head-limits s (L.sizes) (found .head) .places .1 in
+    let enough = leb→le leastDistances distances (require-e (leb leastDistances distances) 1 0 _ L e .0) in
+    (λ r h. road-good s (L.sizes.places) (length s) 0 0 (L.roads) (found .roads-read) r zero-le h, omega (arith, mul-le-mul few few))

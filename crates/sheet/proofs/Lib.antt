@@ -12,3 +12,5 @@ pub mod AcceptedRoads
 pub mod SameLayout
 pub mod SameNetwork
 pub mod RefusalNumbers
+pub mod DistanceStages
+pub mod DistanceStart

@@ -15,10 +15,10 @@ use Rattle.logic.specs.Network.{Network}
 use Rattle.logic.proofs.Order.{UpZ, nearZ}
 use Rattle.sheet.specs.Checked.{wordAt}
 use Rattle.sheet.specs.Layout.{Layout, roadAt, weightAt, firstPlace, secondPlace}
-use Rattle.sheet.specs.Roads.{joins, weightAmong, network, recording}
+use Rattle.sheet.specs.Roads.{GoodRoad, joins, weightAmong, network, recording}
 use Rattle.sheet.specs.Apart.{SamplesApart, SamplesNear}
 use Rattle.sheet.proofs.Found.{Stages}
-use Rattle.sheet.proofs.AcceptedRoads.{GoodRoad, road-good}
+use Rattle.sheet.proofs.AcceptedRoads.{road-good}
 use Rattle.sheet.proofs.SameLayout.{word-same}
 
 itself-near : (d : ℕ) (z : ℤ) → natAbs (z -ℤ z) ≤ d

@@ -4,6 +4,7 @@ pub mod Codes
 pub mod Lines
 pub mod Layout
 pub mod Roads
+pub mod DistanceStages
 pub mod Apart
 pub mod Faults
 pub mod Decoding

@@ -1,17 +1,26 @@
 -- The network that a sheet's roads make, its recording, and its distances as the lent table holds them.
-use Prim.Native.Nat.{ℕ, zero, suc, _+_, _-_, _*_, _^_}
+use Prim.Native.Nat.{ℕ, zero, suc, _+_, _-_, _*_, _<_, _^_}
 use mathlib.Core.Bool.{Bool, true, false, _&&_, _||_}
 use mathlib.Core.List.{List}
-use lib.Dec.{eqb}
+use lib.Dec.{T, eqb}
 use Rattle.words.specs.Word.{payloadOf, sampleOf}
-use Rattle.words.specs.Rows.{rows, concat, row}
+use Rattle.words.specs.Rows.{rows}
 use Rattle.logic.specs.Distance.{Distance, dist, none}
 use Rattle.logic.specs.Network.{Network, distanceIn}
 use Rattle.logic.specs.Table.{Recording}
-use Rattle.sheet.specs.Checked.{wordAt}
-use Rattle.sheet.specs.Layout.{Sizes, Layout, roadAt, weightAt, firstPlace, secondPlace}
+use Rattle.sheet.specs.Checked.{wordAt, isKind}
+use Rattle.sheet.specs.Layout.{Layout, roadAt, weightAt, firstPlace, secondPlace}
 
 module _ (s : List ℕ) where
+  -- a road as the check lets it pass: a first word of kind 2 and a second of kind 3, a first place below the second and that below n, a
+  -- weight above 0
+  pub record GoodRoad (n r : ℕ) : Type 0 where
+    pub road : T (isKind 2 s (roadAt r))
+    pub weight : T (isKind 3 s (weightAt r))
+    pub order : firstPlace (wordAt s (roadAt r)) < secondPlace (wordAt s (roadAt r))
+    pub inside : secondPlace (wordAt s (roadAt r)) < n
+    pub positive : 0 < payloadOf (wordAt s (weightAt r))
+
   -- road r joins a and b; roads run both ways
   unfoldable pub joins : ℕ → ℕ → ℕ → Bool
   joins r a b =
@@ -24,9 +33,13 @@ module _ (s : List ℕ) where
   weightAmong zero a b = none
   weightAmong (suc r) a b = elim (joins r a b) [ true ↦ dist (payloadOf (wordAt s (weightAt r))) | false ↦ weightAmong r a b ]
 
+  -- the network of so many places and roads
+  abbrev pub networkOf : ℕ → ℕ → Network
+  networkOf places roads = record { places = places; weight = weightAmong roads }
+
   module _ (L : Layout) where
     unfoldable pub network : Network
-    network = record { places = L.sizes.places; weight = weightAmong (L.roads) }
+    network = networkOf (L.sizes.places) (L.roads)
 
     -- samples stand after the roads: time outermost, then place, then signal
     unfoldable pub recording : Recording

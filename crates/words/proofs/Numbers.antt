@@ -1,12 +1,13 @@
 -- Laws of the 64-bit numbers that a list of words holds: their count, the words of one, stores, lists one after the other, zeros; and of
 -- the numbers in bytes.
-use Prim.Native.Nat.{ℕ, zero, suc, _+_, _*_, _/_, _%_, _<_, _≤_, _^_}
+use Prim.Native.Nat.{ℕ, zero, suc, _+_, _-_, _*_, _/_, _%_, _<_, _≤_, _^_}
 use mathlib.Core.Path.{_≡_, refl, _∙_, ap}
 use mathlib.Core.List.{List, [], _∷_, _++_}
 use native.Mathlib.Nat.{le-of-suc-le-suc}
 use native.Mathlib.Omega.{arith}
 use lib.ListN.{length, getD, set, replicate}
 use Rattle.words.specs.Bytes.{wordsOf, numbersOf}
+use Rattle.words.specs.Rows.{padded}
 use Rattle.words.proofs.Words.{words-count, words-append, words-zeros}
 
 -- two words to a number
@@ -19,6 +20,9 @@ numbers-count (a ∷ b ∷ r) = let h = numbers-count r in omega arith
 -- eight bytes to a number
 pub length-numbers : (b : List ℕ) → length (numbersOf (wordsOf b)) ≡ length b / 8
 length-numbers b = omega (arith, words-count b, numbers-count (wordsOf b))
+
+pub same-count : (a b : List ℕ) → length a ≡ length b → length (numbersOf (wordsOf a)) ≡ length (numbersOf (wordsOf b))
+same-count a b e = omega (arith, length-numbers a, length-numbers b)
 
 -- the words of one number more, each at the form that lists compute with
 two-more : (k r : ℕ) → suc k * 2 + r ≡ suc (suc (k * 2 + r))
@@ -70,12 +74,18 @@ numbers-zeros k =
     ap (λ (j : ℕ). numbersOf (replicate j 0)) e ∙ zeros-few (k / 2) (k % 2) (omega arith)
 
 -- the same of bytes
-pub bytes-append : (a b : List ℕ) (k : ℕ) → length a ≡ k * 8 → numbersOf (wordsOf (a ++ b)) ≡ numbersOf (wordsOf a) ++ numbersOf (wordsOf b)
+bytes-append : (a b : List ℕ) (k : ℕ) → length a ≡ k * 8 → numbersOf (wordsOf (a ++ b)) ≡ numbersOf (wordsOf a) ++ numbersOf (wordsOf b)
 bytes-append a b k h =
     ap numbersOf (words-append a b (k * 2) (omega arith))
     ∙ numbers-append (wordsOf a) (wordsOf b) k (omega (arith, words-count a))
 
-pub bytes-zeros : (k : ℕ) → numbersOf (wordsOf (replicate k 0)) ≡ replicate (k / 8) 0
+bytes-zeros : (k : ℕ) → numbersOf (wordsOf (replicate k 0)) ≡ replicate (k / 8) 0
 bytes-zeros k =
     let e : k / 4 / 2 ≡ k / 8 = omega arith in
     ap numbersOf (words-zeros k) ∙ numbers-zeros (k / 4) ∙ ap (λ (j : ℕ). replicate j 0) e
+
+pub padded-bytes : (v : List ℕ) (k m : ℕ) → length v ≡ k * 8 → numbersOf (wordsOf (v ++ replicate m 0)) ≡ padded (numbersOf (wordsOf v)) (k + m / 8)
+padded-bytes v k m h =
+    let e : m / 8 ≡ k + m / 8 - length (numbersOf (wordsOf v)) = omega (arith, length-numbers v) in
+    bytes-append v (replicate m 0) k h
+    ∙ ap (λ (t : List ℕ). numbersOf (wordsOf v) ++ t) (bytes-zeros m ∙ ap (λ (j : ℕ). replicate j 0) e)

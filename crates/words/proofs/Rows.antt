@@ -1,14 +1,11 @@
 -- Laws of lists by index: how long a row and a table of rows are, the element at an index, a store, and when a list is a table.
 use Prim.Native.Nat.{ℕ, zero, suc, _+_, _*_, _/_, _%_, _<_}
-use mathlib.Core.Path.{_≡_, refl, sym, _∙_, ap}
-use mathlib.Core.Bool.{cond, _&&_}
+use mathlib.Core.Path.{_≡_, refl, sym, _∙_, ap, ap₂}
 use mathlib.Core.List.{List, [], _∷_}
 use mathlib.Core.Logic.{⊎-elim}
 use native.Mathlib.Nat.{le-of-suc-le-suc, eq-or-lt-of-le, suc-mul, mul-le-mul-right, not-suc-le-zero, mod-lt, div-add-mod', div-lt-iff-lt-mul}
 use native.Mathlib.Decide.{ℕ-discrete, decLt}
 use native.Mathlib.Omega.{arith}
-use lib.Dec.{eqb}
-use borrow.Author.Tests.{eq-eqb, ne-eqb}
 use lib.ListN.{length, getD, set, length-append, length-set, List·getD-append}
 use lib.Seq.{getD-append-add, getD-at, getD-set-same, getD-set-other, ext-getD}
 use Rattle.words.specs.Rows.{row, concat, rows}
@@ -89,21 +86,16 @@ module _ {A : Type 0} where
           let r : x / m < n = div-lt-iff-lt-mul p .1 b in
           rw (← div-add-mod' x m) (h (x / m) (x % m) r (mod-lt x p) ∙ sym (getD-rows f n m (x / m) (x % m) d r (mod-lt x p)))
 
-  -- the table with one element changed
-  abbrev pub stored : (ℕ → ℕ → A) → ℕ → ℕ → A → ℕ → ℕ → A
-  stored f i j v p q = cond (eqb i p && eqb j q) v (f p q)
-
-  pub rows-set : (f : ℕ → ℕ → A) (n m i j : ℕ) (v : A) → i < n → j < m → set (rows f n m) (i * m + j) v ≡ rows (stored f i j v) n m
-  rows-set f n m i j v h k =
-      list-rows (stored f i j v) n m v (set (rows f n m) (i * m + j) v) (length-set (rows f n m) (i * m + j) v ∙ length-rows f n m)
-      (λ p q l c. at p q l c (ℕ-discrete i p) (ℕ-discrete j q))
+  -- a store changes one element of a table
+  pub rows-set : (f g : ℕ → ℕ → A) (n m i j : ℕ) (v : A) → i < n → j < m → g i j ≡ v
+      → ((p q : ℕ) → p < n → q < m → (p * m + q ≡ i * m + j → ⊥) → f p q ≡ g p q) → set (rows f n m) (i * m + j) v ≡ rows g n m
+  rows-set f g n m i j v h k e o =
+      list-rows g n m v (set (rows f n m) (i * m + j) v) (length-set (rows f n m) (i * m + j) v ∙ length-rows f n m)
+      (λ p q l c. at p q l c (ℕ-discrete (p * m + q) (i * m + j)))
     where
-      other : (p q : ℕ) → p < n → q < m → (p * m + q ≡ i * m + j → ⊥) → getD (set (rows f n m) (i * m + j) v) (p * m + q) v ≡ f p q
-      other p q l c ne = getD-set-other (rows f n m) (i * m + j) (p * m + q) v v ne ∙ getD-rows f n m p q v l c
-
-      at : (p q : ℕ) → p < n → q < m → Dec (i ≡ p) → Dec (j ≡ q) → getD (set (rows f n m) (i * m + j) v) (p * m + q) v ≡ stored f i j v p q
-      at p q l c (yes a) (yes b) =
-          rw (← a, ← b)
-          (getD-set-same (rows f n m) (i * m + j) v v (rw length-rows (in-table h k)) ∙ simp (eq-eqb i i refl, eq-eqb j j refl))
-      at p q l c (yes a) (no b) = other p q l c (λ e. b (sym (same-index p q i j m c k e .1))) ∙ simp (eq-eqb i p a, ne-eqb j q b)
-      at p q l c (no a) b = other p q l c (λ e. a (sym (same-index p q i j m c k e .0))) ∙ simp (ne-eqb i p a)
+      at : (p q : ℕ) → p < n → q < m → Dec (p * m + q ≡ i * m + j) → getD (set (rows f n m) (i * m + j) v) (p * m + q) v ≡ g p q
+      at p q l c (yes x) =
+          let s = same-index p q i j m c k x in
+          rw x (getD-set-same (rows f n m) (i * m + j) v v (rw length-rows (in-table h k))) ∙ sym e ∙ ap₂ g (sym (s .0)) (sym (s .1))
+      at p q l c (no x) =
+          getD-set-other (rows f n m) (i * m + j) (p * m + q) v v x ∙ getD-rows f n m p q v l c ∙ o p q l c x

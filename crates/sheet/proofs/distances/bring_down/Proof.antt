@@ -1,0 +1,50 @@
+-- What is stored is the least of the old number and the sum: a sum that is too large counts as none, and none is never less.
+use Prim.Native.Nat.{_+_, min}
+use mathlib.Core.Path.{_≡_, _∙_, ap}
+use native.Mathlib.Omega.{arith}
+use lib.ListN.{getD, set}
+use Rattle.words.specs.Bytes.{wordsOf, numbersOf}
+use borrow.Author.Needs.{needs}
+use Rattle.sheet.proofs.distances.bring_down.Statement.{statement}
+use Rattle.sheet.proofs.distances.bring_down.Tie as tie
+
+number-at-requires : tie.Need-number-at-requires
+number-at-requires c κs = search needs
+
+number-at-requires-2 : tie.Need-number-at-requires-2
+number-at-requires-2 c κs = search needs
+
+sum-requires : tie.Need-sum-requires
+sum-requires c κs = search needs
+
+lesser-requires : tie.Need-lesser-requires
+lesser-requires c κs = search needs
+
+put-number-requires : tie.Need-put-number-requires
+put-number-requires c κs = search needs
+
+same-length : tie.Need-same-length
+same-length c = search needs
+
+returns : tie.Need-returns
+returns c =
+    let g = c .before .before .before .before .before .before .before .before .before .before .before .args in
+    let d = c .before .before .before .before .before .before .before .before .number-at in
+    let y = c .before .before .before .before .before .before .number-at2 in
+    let s = c .before .before .before .before .sum in
+    let v = c .before .before .before .lesser in
+    let t = numbersOf (wordsOf (g .table .now)) in
+    let e : v .result ≡ min (getD t (g .to) 0) (g .x + getD t (g .from) 0) = omega (arith, d .ensures, d .ok, y .ensures, s .ensures, v .ensures) in
+    c .before .before .put-number .ensures ∙ ap (set t (g .to)) e
+
+pub bring-down-spec : {M : Type 1} → statement M
+bring-down-spec =
+    tie.close
+    (tie.spec
+    number-at-requires
+    number-at-requires-2
+    sum-requires
+    lesser-requires
+    put-number-requires
+    same-length
+    returns)

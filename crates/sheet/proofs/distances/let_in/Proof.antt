@@ -1,0 +1,73 @@
+-- The loop's invariant, for every network whose table this is: k is let in at the rows before a.
+use Prim.Native.Nat.{ℕ, _+_, _-_, _*_, _≤_}
+use mathlib.Core.Path.{_≡_, refl, sym, _∙_, ap}
+use native.Mathlib.Numerals.{add-one}
+use native.Mathlib.Omega.{arith}
+use lib.ListN.{length}
+use Rattle.words.specs.Bytes.{wordsOf, numbersOf}
+use Rattle.words.proofs.Numbers.{same-count}
+use Rattle.logic.specs.Distance.{Distance}
+use Rattle.sheet.specs.DistanceStages.{stage, lettingIn}
+use Rattle.sheet.proofs.DistanceStages.{letting-none, letting-all}
+use borrow.Author.Needs.{needs}
+use Rattle.sheet.proofs.distances.let_in.Statement.{statement}
+use Rattle.sheet.proofs.distances.let_in.Tie as tie
+
+abbrev Inv-loop : tie.InvT-loop
+Inv-loop n k table₀ a₀ table a =
+    (a ≤ n) × (length table ≡ length table₀)
+    × ((weight : ℕ → ℕ → Distance) → numbersOf (wordsOf table₀) ≡ stage weight n k → numbersOf (wordsOf table) ≡ lettingIn weight n k (a * n))
+
+abbrev μ-loop : tie.MeasureT-loop
+μ-loop n k table₀ a₀ table a = n - a
+
+loop-holds : tie.Need-loop-holds Inv-loop μ-loop
+loop-holds c =
+    let g = c .before .args in
+    let z : 0 ≡ 0 * g .n = omega arith in
+    (search needs, refl, λ w e. e ∙ sym (letting-none w (g .n) (g .k)) ∙ ap (lettingIn w (g .n) (g .k)) z)
+
+let-in-row-requires : tie.Need-let-in-row-requires Inv-loop μ-loop
+let-in-row-requires c κs =
+    let p = c .before .before .before .before .pre in
+    let h = c .before .before .loop in
+    (p .0, c .before .loop-test .taken, same-count (h .table) (c .before .before .before .before .args .table .now) (h .inv .1) ∙ p .1)
+
+add-a : tie.Need-add-a Inv-loop μ-loop
+add-a c = search needs
+
+loop-less : tie.Need-loop-less Inv-loop μ-loop
+loop-less c = search needs
+
+loop-again : tie.Need-loop-again Inv-loop μ-loop
+loop-again c =
+    let g = c .before .before .before .before .before .before .before .args in
+    let h = c .before .before .before .before .before .loop in
+    let r = c .before .before .let-in-row in
+    let z : h .a * g .n + g .n ≡ (h .a + 1) * g .n = omega arith in
+    (omega arith, r .kept .1 .1 .1 .0 ∙ h .inv .1, λ w e. r .ensures w (h .inv .2 w e) ∙ ap (lettingIn w (g .n) (g .k)) z)
+
+same-length : tie.Need-same-length Inv-loop μ-loop
+same-length c = search needs
+
+returns : tie.Need-returns Inv-loop μ-loop
+returns c =
+    let g = c .before .before .before .args in
+    let h = c .before .loop in
+    let z : h .a ≡ g .n = omega arith in
+    λ w e.
+    h .inv .2 w e ∙ ap (λ (a : ℕ). lettingIn w (g .n) (g .k) (a * g .n)) z ∙ letting-all w (g .n) (g .k) ∙ ap (stage w (g .n)) (sym (add-one (g .k)))
+
+pub let-in-spec : {M : Type 1} → statement M
+let-in-spec =
+    tie.close
+    (tie.spec
+    Inv-loop
+    μ-loop
+    loop-holds
+    let-in-row-requires
+    add-a
+    loop-less
+    loop-again
+    same-length
+    returns)

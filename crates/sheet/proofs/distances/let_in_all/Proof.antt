@@ -1,0 +1,63 @@
+-- The loop's invariant, for every network whose table this is: the places before k are let in.
+use Prim.Native.Nat.{ℕ, _-_, _≤_}
+use mathlib.Core.Path.{_≡_, refl, _∙_, ap}
+use native.Mathlib.Omega.{arith}
+use lib.ListN.{length}
+use Rattle.words.specs.Bytes.{wordsOf, numbersOf}
+use Rattle.words.proofs.Numbers.{same-count}
+use Rattle.logic.specs.Distance.{Distance}
+use Rattle.sheet.specs.DistanceStages.{stage}
+use borrow.Author.Needs.{needs}
+use Rattle.sheet.proofs.distances.let_in_all.Statement.{statement}
+use Rattle.sheet.proofs.distances.let_in_all.Tie as tie
+
+abbrev Inv-loop : tie.InvT-loop
+Inv-loop n table₀ k₀ table k =
+    (k ≤ n) × (length table ≡ length table₀)
+    × ((weight : ℕ → ℕ → Distance) → numbersOf (wordsOf table₀) ≡ stage weight n 0 → numbersOf (wordsOf table) ≡ stage weight n k)
+
+abbrev μ-loop : tie.MeasureT-loop
+μ-loop n table₀ k₀ table k = n - k
+
+loop-holds : tie.Need-loop-holds Inv-loop μ-loop
+loop-holds c = (search needs, refl, λ w e. e)
+
+let-in-requires : tie.Need-let-in-requires Inv-loop μ-loop
+let-in-requires c κs =
+    let h = c .before .before .loop in
+    (c .before .loop-test .taken, same-count (h .table) (c .before .before .before .before .args .table .now) (h .inv .1) ∙ c .before .before .before .before .pre)
+
+add-k : tie.Need-add-k Inv-loop μ-loop
+add-k c = search needs
+
+loop-less : tie.Need-loop-less Inv-loop μ-loop
+loop-less c = search needs
+
+loop-again : tie.Need-loop-again Inv-loop μ-loop
+loop-again c =
+    let h = c .before .before .before .before .before .loop in
+    let l = c .before .before .let-in in
+    (omega arith, l .kept .1 .1 .0 ∙ h .inv .1, λ w e. l .ensures w (h .inv .2 w e))
+
+same-length : tie.Need-same-length Inv-loop μ-loop
+same-length c = search needs
+
+returns : tie.Need-returns Inv-loop μ-loop
+returns c =
+    let h = c .before .loop in
+    let z : h .k ≡ c .before .before .before .args .n = omega arith in
+    λ w e. h .inv .2 w e ∙ ap (stage w (c .before .before .before .args .n)) z
+
+pub let-in-all-spec : {M : Type 1} → statement M
+let-in-all-spec =
+    tie.close
+    (tie.spec
+    Inv-loop
+    μ-loop
+    loop-holds
+    let-in-requires
+    add-k
+    loop-less
+    loop-again
+    same-length
+    returns)
