@@ -93,7 +93,7 @@ pub fn greater(a: u32, b: u32) -> u32
     if a <= b { b } else { a }
 }
 
-// The word of an answer. The middle case is computed first, so that no branch is left but the choice of one of three numbers.
+// The word of an answer. The case between the ends is computed first: what is left is a choice of numbers, and a loop over it vectorises.
 pub fn word_of(c: u32) -> u32
     requires { ⌜ c ≤ highest ⌝ }
     ensures { λ r. ⌜ r ≡ chainWord c ⌝ }
