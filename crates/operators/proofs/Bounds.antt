@@ -1,28 +1,16 @@
 -- What the operators compute with stays small: values are at most `highest`, and a window has fewer samples than there are bytes.
-use mathlib.Core.Bool.{Bool, true, false, cond}
+use mathlib.Core.Bool.{Bool, true, false}
 use mathlib.Core.List.{List}
-use Prim.Native.Nat.{ℕ, _+_, _*_, _%_, _≤_, _<_, _^_}
+use Prim.Native.Nat.{ℕ, _+_, _*_, _≤_, _<_}
 use native.Mathlib.Nat.{le-mul-of-pos-right}
 use native.Mathlib.Omega.{arith}
-use lib.Dec.{eqb}
 use lib.ListN.{length, getD}
-use Rattle.words.specs.Word.{kindOf, payloadOf}
 use Rattle.words.specs.Bytes.{wordsOf}
 use Rattle.words.proofs.Words.{words-count}
-use Rattle.logic.specs.Counts.{count}
-use Rattle.values.specs.Chain.{highest, wordChain}
+use Rattle.values.specs.Chain.{highest}
 use Rattle.values.specs.Signals.{signalIn, turned}
+use Rattle.values.proofs.ChainWords.{word-bound}
 use Rattle.operators.specs.Reach.{Window}
-
-word-bound : (w : ℕ) → wordChain w ≤ highest
-unfolding wordChain
-word-bound w = go (eqb (kindOf w) 12) (eqb (kindOf w) 11) (eqb (kindOf w) 9)
-  where
-    go : (bottom top yes : Bool) → cond bottom 0 (cond top highest (2 * ((payloadOf w + 2 ^ 27) % 2 ^ 28) + count yes)) ≤ highest
-    go true _ _ = omega arith
-    go false true _ = omega arith
-    go false false true = omega arith
-    go false false false = omega arith
 
 pub signal-bound : (words : List ℕ) (start n t l : ℕ) → signalIn words start n t l ≤ highest
 unfolding signalIn
