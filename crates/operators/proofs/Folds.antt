@@ -1,0 +1,71 @@
+-- Folds over chain numbers, one number more at a time, as the loops of the operators take them.
+use mathlib.Core.Path.{_≡_, refl, _∙_}
+use mathlib.Core.Bool.{Bool, true, false, cond}
+use Prim.Native.Nat.{ℕ, zero, suc, _+_, _≤_}
+use native.Mathlib.Nat.{le-of-lt}
+use native.Mathlib.Numerals.{add-one}
+use lib.Dec.{leb}
+use borrow.Author.Tests.{le-leb, lt-leb}
+use Rattle.logic.specs.Lattice.{leastOver, greatestOver}
+use Rattle.logic.specs.Table.{Signal, untilAt, everTrue}
+use Rattle.values.specs.Chain.{chains, chainLattice, highest}
+
+-- ---- a window that begins at `first`: nothing before it, and from there on every number counts
+module _ (f : ℕ → ℕ) (first : ℕ) where
+  pub least-none : (n : ℕ) → n ≤ first → leastOver chainLattice (leb first) f n ≡ highest
+  unfolding leastOver
+  least-none zero h = refl
+  least-none (suc n) h = rw (least-none n (le-of-lt h), lt-leb first n h) refl
+
+  pub greatest-none : (n : ℕ) → n ≤ first → greatestOver chainLattice (leb first) f n ≡ 0
+  unfolding greatestOver
+  greatest-none zero h = refl
+  greatest-none (suc n) h = rw (greatest-none n (le-of-lt h), lt-leb first n h) refl
+
+  pub least-more : (n : ℕ) → first ≤ n → leastOver chainLattice (leb first) f (n + 1) ≡ chainLattice .meet (leastOver chainLattice (leb first) f n) (f n)
+  unfolding leastOver
+  least-more n h = rw (add-one n, le-leb first n h) refl
+
+  pub greatest-more : (n : ℕ) → first ≤ n → greatestOver chainLattice (leb first) f (n + 1) ≡ chainLattice .join (greatestOver chainLattice (leb first) f n) (f n)
+  unfolding greatestOver
+  greatest-more n h = rw (add-one n, le-leb first n h) refl
+
+-- ---- any test
+pub greatest-next : (test : ℕ → Bool) (f : ℕ → ℕ) (n : ℕ) → greatestOver chainLattice test f (n + 1) ≡ chainLattice .join (greatestOver chainLattice test f n) (cond (test n) (f n) 0)
+unfolding greatestOver
+greatest-next test f n = rw (add-one n) refl
+
+-- ---- until
+-- what sample u offers: the lesser of right there and the least of left from t to u
+abbrev pub offer : Signal chains → Signal chains → ℕ → ℕ → ℕ → ℕ
+offer left right t l u = chainLattice .meet (right u l) (leastOver chainLattice (leb t) (λ v. left v l) (suc u))
+
+pub until-more : (left right : Signal chains) (t l first u : ℕ) → first ≤ u → greatestOver chainLattice (leb first) (offer left right t l) (u + 1)
+    ≡ chainLattice .join (greatestOver chainLattice (leb first) (offer left right t l) u) (chainLattice .meet (right u l) (leastOver chainLattice (leb t) (λ v. left v l) (u + 1)))
+until-more left right t l first u h = greatest-more (offer left right t l) first u h ∙ rw (add-one u) refl
+
+pub until-all : (left right : Signal chains) (lower upper t l : ℕ) → untilAt chains left right lower upper t l ≡ greatestOver chainLattice (leb (t + lower)) (offer left right t l) (t + upper + 1)
+unfolding untilAt
+until-all left right lower upper t l = rw (add-one (t + upper)) refl
+
+-- ---- until with a left operand that is always true, which holds nothing back
+least-true : (test : ℕ → Bool) (n : ℕ) → leastOver chainLattice test (λ _. highest) n ≡ highest
+unfolding leastOver
+least-true test zero = refl
+least-true test (suc n) = rw (least-true test n) (same (test n))
+  where
+    same : (b : Bool) → chainLattice .meet highest (cond b highest highest) ≡ highest
+    same true = refl
+    same false = refl
+
+module _ (right : Signal chains) (l : ℕ) (small : (u : ℕ) → right u l ≤ highest) where
+  offer-true : (t u : ℕ) → offer (everTrue chains) right t l u ≡ right u l
+  offer-true t u = rw (least-true (leb t) (suc u), le-leb (right u l) highest (small u)) refl
+
+  greatest-true : (test : ℕ → Bool) (t n : ℕ) → greatestOver chainLattice test (offer (everTrue chains) right t l) n ≡ greatestOver chainLattice test (λ u. right u l) n
+  unfolding greatestOver
+  greatest-true test t zero = refl
+  greatest-true test t (suc n) = rw (greatest-true test t n, offer-true t n) refl
+
+  pub eventually-all : (lower upper t : ℕ) → untilAt chains (everTrue chains) right lower upper t l ≡ greatestOver chainLattice (leb (t + lower)) (λ u. right u l) (t + upper + 1)
+  eventually-all lower upper t = until-all (everTrue chains) right lower upper t l ∙ greatest-true (leb (t + lower)) t (t + upper + 1)

@@ -1,0 +1,115 @@
+-- Each turn takes one sample more into the least of left, and what that sample offers into the greatest.
+use mathlib.Core.Path.{_≡_, sym, ap, ap₂, _∙_}
+use Prim.Native.Nat.{_+_, _-_, _≤_}
+use native.Mathlib.Nat.{mul-le-mul-right}
+use native.Mathlib.Omega.{arith}
+use lib.Dec.{leb}
+use lib.ListN.{length}
+use borrow.Author.Needs.{needs}
+use Rattle.words.specs.Bytes.{wordsOf}
+use Rattle.words.proofs.Rows.{in-table}
+use Rattle.logic.specs.Lattice.{leastOver, greatestOver}
+use Rattle.values.specs.Chain.{chainLattice}
+use Rattle.values.specs.Signals.{signalIn}
+use Rattle.operators.proofs.Bounds.{window-end}
+use Rattle.operators.proofs.Folds.{greatest-none, least-more, offer, until-more, until-all}
+use Rattle.operators.proofs.until_at.Statement.{statement}
+use Rattle.operators.proofs.until_at.Tie as tie
+
+abbrev Inv-loop : tie.InvT-loop
+Inv-loop words left right places lower upper t l first end least₀ best₀ u₀ least best u =
+    (first ≤ u) × (u ≤ end)
+    × (least ≡ leastOver chainLattice (leb t) (λ v. signalIn (wordsOf words) left places v l) u)
+    × (best ≡ greatestOver chainLattice (leb first) (offer (signalIn (wordsOf words) left places) (signalIn (wordsOf words) right places) t l) u)
+
+abbrev μ-loop : tie.MeasureT-loop
+μ-loop words left right places lower upper t l first end least₀ best₀ u₀ least best u = end - u
+
+end-fits : (c : tie.Start Inv-loop μ-loop) → c .args .t + c .args .upper + 1 ≤ length (c .args .words .now)
+end-fits c = window-end (c .args .words .now) (c .pre .0)
+
+add-first : tie.Need-add-first Inv-loop μ-loop
+add-first c = omega (arith, end-fits (c .before))
+
+add-end : tie.Need-add-end Inv-loop μ-loop
+add-end c = omega (arith, end-fits (c .before))
+
+add-end-2 : tie.Need-add-end-2 Inv-loop μ-loop
+add-end-2 c = omega (arith, end-fits (c .before))
+
+least-between-requires : tie.Need-least-between-requires Inv-loop μ-loop
+least-between-requires c κs =
+    let a = c .before .args in
+    let sooner : a .t + a .lower ≤ a .t + a .upper + 1 = omega arith in
+    (search needs, search needs, omega (arith, mul-le-mul-right (a .places) sooner))
+
+bottom-requires : tie.Need-bottom-requires Inv-loop μ-loop
+bottom-requires c κs = search needs
+
+loop-holds : tie.Need-loop-holds Inv-loop μ-loop
+loop-holds c =
+    let a = c .before .before .before .args in
+    (search needs, search needs, c .before .least-between .ensures, c .bottom .ensures ∙ sym (greatest-none _ _ (a .t + a .lower) (omega arith)))
+
+signal-at-requires : tie.Need-signal-at-requires Inv-loop μ-loop
+signal-at-requires c κs = omega (arith, in-table (c .loop-test .taken) (c .before .before .before .before .before .pre .0 .place))
+
+lesser-requires : tie.Need-lesser-requires Inv-loop μ-loop
+lesser-requires c κs = search needs
+
+signal-at-requires-2 : tie.Need-signal-at-requires-2 Inv-loop μ-loop
+signal-at-requires-2 c κs = omega (arith, in-table (c .before .before .loop-test .taken) (c .before .before .before .before .before .before .before .pre .1 .place))
+
+lesser-requires-2 : tie.Need-lesser-requires-2 Inv-loop μ-loop
+lesser-requires-2 c κs = search needs
+
+greater-requires : tie.Need-greater-requires Inv-loop μ-loop
+greater-requires c κs = search needs
+
+add-u : tie.Need-add-u Inv-loop μ-loop
+add-u c = omega (arith, end-fits (c .before .before .before .before .before .before .before .before .before .before))
+
+loop-less : tie.Need-loop-less Inv-loop μ-loop
+loop-less c = search needs
+
+loop-again : tie.Need-loop-again Inv-loop μ-loop
+loop-again c =
+    let a = c .before .before .before .before .before .before .before .before .before .before .args in
+    let loop = c .before .before .before .before .before .before .loop in
+    let held = c .before .before .before .lesser .ensures ∙ ap₂ (chainLattice .meet) (loop .inv .2) (c .before .before .before .before .signal-at .ensures) ∙ sym (least-more _ _ (loop .u) (omega arith)) in
+    let offered = c .before .lesser2 .ensures ∙ ap₂ (chainLattice .meet) (c .before .before .signal-at2 .ensures) held in
+    let signal = signalIn (wordsOf (a .words .now)) in (
+      search needs,
+      search needs,
+      held,
+      c .greater .ensures ∙ ap₂ (chainLattice .join) (loop .inv .3) offered
+          ∙ sym (until-more (signal (a .left) (a .places)) (signal (a .right) (a .places)) (a .t) (a .l) (a .t + a .lower) (loop .u) (loop .inv .0)),
+    )
+
+returns : tie.Need-returns Inv-loop μ-loop
+returns c =
+    let a = c .before .before .before .before .before .args in
+    let ended : c .before .loop .u ≡ a .t + a .upper + 1 = omega arith in
+    c .before .loop .inv .3 ∙ ap (greatestOver chainLattice _ _) ended ∙ sym (until-all _ _ (a .lower) (a .upper) (a .t) (a .l))
+
+pub until-at-spec : {M : Type 1} → statement M
+until-at-spec =
+    tie.close
+    (tie.spec
+    Inv-loop
+    μ-loop
+    add-first
+    add-end
+    add-end-2
+    least-between-requires
+    bottom-requires
+    loop-holds
+    signal-at-requires
+    lesser-requires
+    signal-at-requires-2
+    lesser-requires-2
+    greater-requires
+    add-u
+    loop-less
+    loop-again
+    returns)
