@@ -17,3 +17,4 @@ pub mod Agreement
 pub mod Small
 pub mod Examples
 pub mod Counts
+pub mod TableSteps
