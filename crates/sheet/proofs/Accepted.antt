@@ -1,78 +1,112 @@
--- What the check of a sheet has found where it accepts: sizes within their limits, 1 to 64 lines, lengths of 1 to T.
-use mathlib.Core.Path.{_≡_, refl, sym, ap, subst, _∙_}
-use mathlib.Core.Bool.{Bool, true, false, not, _&&_}
-use mathlib.Core.List.{List, [], _∷_, _++_}
-use Prim.Native.Nat.{ℕ, zero, suc, _+_, _-_, _<_, _≤_, min}
+-- What the acceptance of each part tells: limits, places of the words, and what was found.
+use Prim.Native.Nat.{ℕ, zero, suc, _+_, _*_, _<_, _≤_, _^_}
+use mathlib.Core.Bool.{Bool, true, false, _&&_}
+use mathlib.Core.List.{List}
+use mathlib.Core.Path.{_≡_, refl, sym, _∙_, subst}
+use native.Mathlib.Nat.{mul-le-mul}
 use native.Mathlib.Omega.{arith}
-use lib.Dec.{T, leb, eqb, leb→le, ltb→lt, ltb}
-use lib.ListN.{length, length-append}
-use Rattle.logic.specs.Table.{Operator, True, AtLeast, AtMost, Not, And, Until, Somewhere, Surrounded, Or, Eventually, Always, Everywhere, Line, lineIn, lengthOf}
-use Rattle.words.specs.Word.{payloadOf}
-use Rattle.logic.proofs.Tests.{and-l, and-r}
-use Rattle.sheet.specs.Limits.{mostPlaces, mostSignals, mostSamples, mostLines, leastDistances}
-use Rattle.sheet.specs.Checked.{Checked, accepted, refused, _>>=_, require, between, wordAt, isKind}
-use Rattle.sheet.specs.Lines.{operatorAt, lineAt, linesFrom}
-use Rattle.sheet.specs.Layout.{Sizes, Layout, headSizes, headChecked, roadsFrom, roadAt, sampleCount, samplesFrom, endChecked, checked}
-use Rattle.sheet.proofs.Checks.{never, require-e, bind-e, accepted-inj, between-e}
+use lib.Dec.{leb, eqb}
+use lib.ListN.{length}
+use borrow.Author.Tests.{leb-true, eqb-true}
+use Rattle.words.specs.Word.{bits, payloadOf}
+use Rattle.sheet.specs.Limits.{mostPlaces, mostSignals, mostSamples}
+use Rattle.sheet.specs.Checked.{accepted, require, between, wordAt, isKind}
+use Rattle.sheet.specs.Layout.{Sizes, roadAt, sampleCount, headSizes, headChecked, roadsFrom, samplesFrom, endChecked}
+use Rattle.sheet.specs.Checking.{mapped, roadChecked}
+use Rattle.sheet.proofs.Checks.{same-accepted, require-accepted, bind-accepted}
+use Rattle.sheet.proofs.Tests.{and-true, kind-told}
+use Rattle.sheet.proofs.Parts.{road-fits, roads-end, road-more}
 
--- ---- the stages of an accepted check
-pub record Stages (s : List ℕ) (L : Layout) : Type 0 where
-  pub linesAt : ℕ
-  pub endAt : ℕ
-  pub head : headChecked s ≡ accepted (L.sizes)
-  pub roads-read : roadsFrom s (L.sizes.places) (length s) 0 0 ≡ accepted (L.roads)
-  pub samples-read : samplesFrom s (sampleCount (L.sizes)) (roadAt (L.roads)) ≡ accepted linesAt
-  pub lines-read : linesFrom s (L.sizes.signals) (L.sizes.samples) mostLines [] linesAt ≡ accepted (L.lines, endAt)
-  pub end-read : endChecked s endAt L ≡ accepted L
+-- ---- head
 
--- the end, once accepted, has handed on what was found
-end-found : (s : List ℕ) (at : ℕ) (found L : Layout) → endChecked s at found ≡ accepted L → found ≡ L
-unfolding endChecked
-end-found s at found L e =
-    let last : Bool = eqb (length s) (at + 1) in
-    let rest = require-e (isKind 15 s at && eqb (payloadOf (wordAt s at)) at) 14 at (require last 14 (at + 1) (accepted found)) L e .1 in
-    accepted-inj found L (require-e last 14 (at + 1) (accepted found) L rest .1)
+pub record SizesWithin (z : Sizes) : Type 0 where
+  pub places-some : 1 ≤ z .places
+  pub places-most : z .places ≤ mostPlaces
+  pub signals-some : 1 ≤ z .signals
+  pub signals-most : z .signals ≤ mostSignals
+  pub samples-some : 1 ≤ z .samples
+  pub samples-most : z .samples ≤ mostSamples
 
-pub stages : (s : List ℕ) (distances : ℕ) (L : Layout) → checked s distances ≡ accepted L → Stages s L
-unfolding checked
-stages s distances L e =
-    let (z, hz, e₁) = bind-e (headChecked s) _ L (require-e (leb leastDistances distances) 1 0 _ L e .1) in
-    let (r, hr, e₂) = bind-e (roadsFrom s (z .places) (length s) 0 0) _ L e₁ in
-    let (at, ha, e₃) = bind-e (samplesFrom s (sampleCount z) (roadAt r)) _ L e₂ in
-    let (f, hf, e₄) = bind-e (linesFrom s (z .signals) (z .samples) mostLines [] at) _ L e₃ in
-    let found : Layout = record { sizes = z; roads = r; lines = f .0 } in
-    subst (Stages s) (end-found s (f .1) found L e₄) (record {
-      linesAt = at;
-      endAt = f .1;
-      head = hz;
-      roads-read = hr;
-      samples-read = ha;
-      lines-read = hf;
-      end-read = e₄ ∙ ap accepted (sym (end-found s (f .1) found L e₄));
-    })
+between-told : (low high x : ℕ) → between low high x ≡ true → (low ≤ x) × (x ≤ high)
+between-told low high x e =
+    let both = and-true (leb low x) (leb x high) e in
+    (leb-true _ _ (both .0), leb-true _ _ (both .1))
 
--- ---- sizes
-pub record InLimits (z : Sizes) : Type 0 where
-  pub places : (1 ≤ z .places) × (z .places ≤ mostPlaces)
-  pub signals : (1 ≤ z .signals) × (z .signals ≤ mostSignals)
-  pub samples : (1 ≤ z .samples) × (z .samples ≤ mostSamples)
-
-abbrev limited : Sizes → Bool
-limited z = between 1 mostPlaces (z .places) && (between 1 mostSignals (z .signals) && between 1 mostSamples (z .samples))
-
-limited-e : (z : Sizes) → T (limited z) → InLimits z
-limited-e z h =
-    let rest = and-r (between 1 mostPlaces (z .places)) _ h in
-    record {
-      places = between-e 1 mostPlaces (z .places) (and-l (between 1 mostPlaces (z .places)) _ h);
-      signals = between-e 1 mostSignals (z .signals) (and-l (between 1 mostSignals (z .signals)) _ rest);
-      samples = between-e 1 mostSamples (z .samples) (and-r (between 1 mostSignals (z .signals)) _ rest);
-    }
-
-pub head-limits : (s : List ℕ) (z : Sizes) → headChecked s ≡ accepted z → InLimits z
+pub head-accepted : (s : List ℕ) {z : Sizes} → headChecked s ≡ accepted z → (0 < length s) × SizesWithin z
 unfolding headChecked
-head-limits s z e =
-    let h = headSizes s in
-    let rest = require-e (isKind 1 s 0) 2 0 (require (limited h) 3 0 (accepted h)) z e .1 in
-    let (t, same) = require-e (limited h) 3 0 (accepted h) z rest in
-    subst InLimits (accepted-inj h z same) (limited-e h t)
+head-accepted s {z} e =
+    let sizes = headSizes s in
+    let kind = require-accepted (isKind 1 s 0) 2 0 _ e in
+    let places = between 1 mostPlaces (sizes .places) in
+    let signals = between 1 mostSignals (sizes .signals) in
+    let samples = between 1 mostSamples (sizes .samples) in
+    let limits = require-accepted (places && (signals && samples)) 3 0 _ (kind .1) in
+    let first = and-true places (signals && samples) (limits .0) in
+    let rest = and-true signals samples (first .1) in
+    let p = between-told 1 mostPlaces (sizes .places) (first .0) in
+    let v = between-told 1 mostSignals (sizes .signals) (rest .0) in
+    let t = between-told 1 mostSamples (sizes .samples) (rest .1) in
+    let within : SizesWithin sizes = record {
+      places-some = p .0;
+      places-most = p .1;
+      signals-some = v .0;
+      signals-most = v .1;
+      samples-some = t .0;
+      samples-most = t .1;
+    } in
+    (kind-told 1 s 0 (kind .0) .0, subst SizesWithin (same-accepted (limits .1)) within)
+
+pub sample-count : {z : Sizes} → SizesWithin z → (z .signals * z .places ≤ 2 ^ 10) × (sampleCount z ≤ 2 ^ 20)
+sample-count within =
+    let pairs = mul-le-mul (within .signals-most) (within .places-most) in
+    (pairs, mul-le-mul pairs (within .samples-most))
+
+-- ---- roads
+
+pub roads-within : (s : List ℕ) (n room r last : ℕ) {roads : ℕ} → roadsFrom s n room r last ≡ accepted roads → roadAt r ≤ length s
+    → roadAt roads ≤ length s
+unfolding roadsFrom
+roads-within s n zero r last e inside = let same = same-accepted e in omega arith
+roads-within s n (suc room) r last {roads} e inside = by (isKind 2 s (roadAt r)) refl (λ payload. roads-within s n room (suc r) payload)
+  where
+    by : (kind-2 : Bool) → isKind 2 s (roadAt r) ≡ kind-2
+        → ((payload : ℕ) → roadsFrom s n room (suc r) payload ≡ accepted roads → roadAt (suc r) ≤ length s → roadAt roads ≤ length s)
+        → roadAt roads ≤ length s
+    by false other rest = let same = same-accepted (sym (roads-end s n (suc room) r last other) ∙ e) in omega arith
+    by true kind-2 rest =
+        let road = bind-accepted (roadChecked s n (roadAt r) last) (λ payload. roadsFrom s n room (suc r) payload) (sym (road-more s n room r last kind-2) ∙ e) in
+        let fits = road-fits s n (roadAt r) last (road .1) in
+        rest (road .0) (road .2) (omega arith)
+
+-- ---- samples
+
+pub samples-accepted : (s : List ℕ) (count at : ℕ) {next : ℕ} → samplesFrom s count at ≡ accepted next → (next ≡ at + count) × (at ≤ length s → next ≤ length s)
+unfolding samplesFrom
+samples-accepted s zero at e = let same = same-accepted e in (omega arith, λ inside. omega arith)
+samples-accepted s (suc count) at e =
+    let kind = require-accepted (isKind 4 s at) 8 at _ e in
+    let bit = require-accepted (eqb (bits 27 1 (wordAt s at)) 0) 9 at _ (kind .1) in
+    let there = kind-told 4 s at (kind .0) in
+    let rest = samples-accepted s count (at + 1) (bit .1) in
+    (omega (arith, rest .0), λ inside. rest .1 (omega arith))
+
+-- ---- end
+
+pub end-accepted : {A : Type 0} (s : List ℕ) (at : ℕ) (found : A) {layout : A} → endChecked s at found ≡ accepted layout
+    → (length s ≡ at + 1) × (found ≡ layout)
+unfolding endChecked
+end-accepted s at found e =
+    let word = require-accepted (isKind 15 s at && eqb (payloadOf (wordAt s at)) at) 14 at _ e in
+    let last = require-accepted (eqb (length s) (at + 1)) 14 (at + 1) _ (word .1) in
+    (eqb-true _ _ (last .0), same-accepted (last .1))
+
+-- the end is checked alike whatever was found before it
+pub end-mapped : {A B : Type 0} (s : List ℕ) (at : ℕ) (a : A) (b : B) → endChecked s at b ≡ mapped (λ _. b) (endChecked s at a)
+unfolding endChecked
+end-mapped s at a b = by (isKind 15 s at && eqb (payloadOf (wordAt s at)) at) (eqb (length s) (at + 1))
+  where
+    by : (word last : Bool) → require word 14 at (require last 14 (at + 1) (accepted b))
+        ≡ mapped (λ _. b) (require word 14 at (require last 14 (at + 1) (accepted a)))
+    by false last = refl
+    by true false = refl
+    by true true = refl

@@ -1,26 +1,58 @@
--- What an accepted check says: the test held and the rest accepted; the first check accepted and so did the next.
-use mathlib.Core.Path.{_≡_, refl}
-use mathlib.Core.Bool.{Bool, true, false}
+-- Checks one after the other: what a check that accepts, or one that refuses, tells of its parts.
 use Prim.Native.Nat.{ℕ, _≤_}
+use mathlib.Core.Bool.{Bool, true, false}
+use mathlib.Core.Path.{_≡_, refl}
 use native.Mathlib.Omega.{arith}
 use lib.Dec.{T, leb, leb→le}
 use Rattle.logic.proofs.Tests.{and-l, and-r}
 use Rattle.sheet.specs.Checked.{Checked, accepted, refused, _>>=_, require, between}
+use Rattle.sheet.specs.Checking.{mapped}
 
-module _ {A : Type 0} where
-  pub never : {number place : ℕ} {a : A} → refused number place ≡ accepted a → ⊥
-  never e = let z : _≡_ {A = ℕ} 0 1 = cc in omega arith
+pub never : {A : Type 0} {number place : ℕ} {a : A} → refused number place ≡ accepted a → ⊥
+never e = let z : _≡_ {A = ℕ} 0 1 = cc in omega arith
 
-  pub require-e : (t : Bool) (number place : ℕ) (next : Checked A) (a : A) → require t number place next ≡ accepted a → T t × (next ≡ accepted a)
-  require-e true number place next a e = (tt, e)
-  require-e false number place next a e = absurd (never e)
+pub same-accepted : {A : Type 0} {a b : A} → accepted a ≡ accepted b → a ≡ b
+same-accepted e = cc
 
-  pub accepted-inj : (a b : A) → accepted a ≡ accepted b → a ≡ b
-  accepted-inj a b e = cc
+pub require-accepted : {A : Type 0} (test : Bool) (number place : ℕ) (next : Checked A) {a : A} → require test number place next ≡ accepted a
+    → (test ≡ true) × (next ≡ accepted a)
+require-accepted true number place next e = (refl, e)
+require-accepted false number place next e = absurd (never e)
+
+pub require-bind : {A B : Type 0} (test : Bool) (number place : ℕ) (next : Checked A) (f : A → Checked B)
+    → (require test number place next >>= f) ≡ require test number place (next >>= f)
+require-bind true number place next f = refl
+require-bind false number place next f = refl
+
+pub bind-accepted : {A B : Type 0} (first : Checked A) (f : A → Checked B) {b : B} → (first >>= f) ≡ accepted b
+    → (a : A) × (first ≡ accepted a) × (f a ≡ accepted b)
+bind-accepted (accepted a) f e = (a, refl, e)
+bind-accepted (refused number place) f e = absurd (never e)
+
+pub mapped-accepted : {A B : Type 0} (f : A → B) (first : Checked A) {b : B} → mapped f first ≡ accepted b
+    → (a : A) × (first ≡ accepted a) × (f a ≡ b)
+mapped-accepted f (accepted a) e = (a, refl, cc)
+mapped-accepted f (refused number place) e = absurd (never e)
+
+pub mapped-refused : {A B : Type 0} (f : A → B) (first : Checked A) {number place : ℕ} → mapped f first ≡ refused number place
+    → first ≡ refused number place
+mapped-refused f (accepted a) e = let z : _≡_ {A = ℕ} 0 1 = cc in absurd (omega arith)
+mapped-refused f (refused number place) e = cc
+
+pub mapped-twice : {A B C : Type 0} (g : B → C) (f : A → B) (first : Checked A) → mapped g (mapped f first) ≡ mapped (λ a. g (f a)) first
+mapped-twice g f (accepted a) = refl
+mapped-twice g f (refused number place) = refl
+
+-- ---- with the test as a fact
+pub accepted-inj : {A : Type 0} (a b : A) → accepted a ≡ accepted b → a ≡ b
+accepted-inj a b e = same-accepted e
+
+pub require-e : {A : Type 0} (t : Bool) (number place : ℕ) (next : Checked A) (a : A) → require t number place next ≡ accepted a → T t × (next ≡ accepted a)
+require-e true number place next a e = (tt, e)
+require-e false number place next a e = absurd (never e)
 
 pub bind-e : {A B : Type 0} (c : Checked A) (next : A → Checked B) (b : B) → (c >>= next) ≡ accepted b → (a : A) × (c ≡ accepted a) × (next a ≡ accepted b)
-bind-e (accepted a) next b e = (a, refl, e)
-bind-e (refused number place) next b e = absurd (never e)
+bind-e c next b e = bind-accepted c next e
 
 pub between-e : (low high x : ℕ) → T (between low high x) → (low ≤ x) × (x ≤ high)
 between-e low high x h = (leb→le low x (and-l (leb low x) _ h), leb→le x high (and-r (leb low x) _ h))

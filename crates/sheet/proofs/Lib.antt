@@ -1,8 +1,14 @@
 pub mod Refusals
+pub mod Tests
+pub mod Operators
 pub mod Checks
+pub mod Parts
+pub mod Lines
 pub mod Accepted
+pub mod Whole
+pub mod Found
 pub mod AcceptedLines
 pub mod AcceptedRoads
 pub mod SameLayout
-pub mod RefusalNumbers
 pub mod SameNetwork
+pub mod RefusalNumbers

@@ -17,7 +17,7 @@ use Rattle.sheet.specs.Lines.{constantAt, boundsAt, operatorBy, operator
 use Rattle.sheet.specs.Layout.{Sizes, Layout, headSizes, headChecked, roadAt, weightAt, firstPlace, secondPlace, roadsFrom, samplesFrom, sampleCount}
 use Rattle.sheet.specs.Apart.{SamplesApart, SamplesNear}
 use Rattle.sheet.proofs.Checks.{require-e, accepted-inj}
-use Rattle.sheet.proofs.Accepted.{Stages}
+use Rattle.sheet.proofs.Found.{Stages}
 
 pub samples-end : (s : List ℕ) (count at next : ℕ) → samplesFrom s count at ≡ accepted next → next ≡ at + count
 unfolding samplesFrom

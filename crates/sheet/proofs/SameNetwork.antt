@@ -17,7 +17,7 @@ use Rattle.sheet.specs.Checked.{wordAt}
 use Rattle.sheet.specs.Layout.{Layout, roadAt, weightAt, firstPlace, secondPlace}
 use Rattle.sheet.specs.Roads.{joins, weightAmong, network, recording}
 use Rattle.sheet.specs.Apart.{SamplesApart, SamplesNear}
-use Rattle.sheet.proofs.Accepted.{Stages}
+use Rattle.sheet.proofs.Found.{Stages}
 use Rattle.sheet.proofs.AcceptedRoads.{GoodRoad, road-good}
 use Rattle.sheet.proofs.SameLayout.{word-same}
 

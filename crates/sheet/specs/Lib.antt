@@ -5,3 +5,6 @@ pub mod Lines
 pub mod Layout
 pub mod Roads
 pub mod Apart
+pub mod Faults
+pub mod Decoding
+pub mod Checking

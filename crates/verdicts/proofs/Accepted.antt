@@ -14,7 +14,7 @@ use Rattle.sheet.specs.Limits.{mostLines}
 use Rattle.sheet.specs.Checked.{Checked, accepted, refused, between, wordAt}
 use Rattle.sheet.specs.Layout.{Layout, roadAt, checked}
 use Rattle.sheet.specs.Roads.{network, recording}
-use Rattle.sheet.proofs.Accepted.{Stages, stages, InLimits, head-limits}
+use Rattle.sheet.proofs.Found.{Stages, stages, InLimits, head-limits}
 use Rattle.sheet.proofs.AcceptedLines.{sample-bits, GoodLines, good-length, table-good, good-constants}
 use Rattle.sheet.proofs.RefusalNumbers.{Numbered, accepts, refuses, check-numbered}
 use Rattle.values.specs.Said.{Said, says, nothing}

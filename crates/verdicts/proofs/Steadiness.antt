@@ -17,7 +17,7 @@ use Rattle.logic.proofs.Agreement.{agreement, same-verdict}
 use Rattle.sheet.specs.Layout.{Layout}
 use Rattle.sheet.specs.Roads.{network, recording}
 use Rattle.sheet.specs.Apart.{SamplesApart}
-use Rattle.sheet.proofs.Accepted.{Stages, stages}
+use Rattle.sheet.proofs.Found.{Stages, stages}
 use Rattle.sheet.proofs.SameLayout.{same-layout}
 use Rattle.sheet.proofs.SameNetwork.{network-same, recordings-near}
 use Rattle.values.specs.Said.{Said, says, nothing}

@@ -1,0 +1,67 @@
+-- The fields are tested, then the constant is read, and the table says the operator.
+use mathlib.Core.Path.{_≡_, sym, _∙_, ap}
+use native.Mathlib.Omega.{arith}
+use lib.IntN.{ℤ}
+use mir.Syntax.{w32}
+use mir.Val.{SFits}
+use mir.Facts.{toZ-ofZ}
+use borrow.Author.Tests.{not-true, not-false}
+use Rattle.words.proofs.Words.{words-count}
+use Rattle.sheet.specs.Decoding.{operatorSaid, operatorOf, constantSaid, atomRead}
+use borrow.Author.Needs.{needs}
+use Rattle.sheet.proofs.operator.decode_atom.Statement.{statement}
+use Rattle.sheet.proofs.operator.decode_atom.Tie as tie
+
+fields-below-requires : tie.Need-fields-below-requires
+fields-below-requires c κs = search needs
+
+returns : tie.Need-returns
+unfolding atomRead
+returns c = simp (sym (c .before .fields-below .ensures) ∙ not-true _ (c .if1 .taken))
+
+add-read-constant : tie.Need-add-read-constant
+add-read-constant c = omega (arith, words-count (c .before .before .before .args .s .now))
+
+read-constant-requires : tie.Need-read-constant-requires
+read-constant-requires c κs = search needs
+
+enum-known-fault : tie.Need-enum-known-fault
+enum-known-fault c = search needs
+
+enum-known-constant : tie.Need-enum-known-constant
+enum-known-constant c = search needs
+
+operator-of-requires : tie.Need-operator-of-requires
+operator-of-requires c κs = search needs
+
+add-t16 : tie.Need-add-t16
+add-t16 c = omega (arith, words-count (c .before .before .before .before .before .before .before .before .args .s .now))
+
+returns-2 : tie.Need-returns-2
+unfolding atomRead
+returns-2 c = simp ((sym (c .before .before .before .before .before .fields-below .ensures) ∙ not-false _ (c .before .before .before .before .if1 .left)), sym (c .before .before .before .read-constant .ensures) ∙ ap constantSaid (c .before .fault .given .1))
+
+returns-3 : tie.Need-returns-3
+unfolding atomRead
+returns-3 c =
+    let fields = c .before .before .before .before .before .before .before .before .args .fields in
+    let constant = c .before .before .constant .given .0 .0 in
+    let fits : SFits w32 constant = search needs in
+    let says : operatorSaid (c .operator-of .result) ≡ operatorOf fields constant 0 0 =
+    c .operator-of .ensures ∙ ap (λ (k : ℤ). operatorOf fields k 0 0) (toZ-ofZ fits) in
+    rw says (simp ((sym (c .before .before .before .before .before .before .fields-below .ensures) ∙ not-false _ (c .before .before .before .before .before .if1 .left)), sym (c .before .before .before .before .read-constant .ensures) ∙ ap constantSaid (c .before .before .constant .given .1)))
+
+pub decode-atom-spec : {M : Type 1} → statement M
+decode-atom-spec =
+    tie.close
+    (tie.spec
+    fields-below-requires
+    returns
+    add-read-constant
+    read-constant-requires
+    enum-known-fault
+    enum-known-constant
+    operator-of-requires
+    add-t16
+    returns-2
+    returns-3)

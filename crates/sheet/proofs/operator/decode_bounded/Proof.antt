@@ -1,0 +1,57 @@
+-- The fields are tested, then the bounds are read, and the table says the operator.
+use mathlib.Core.Path.{sym, _∙_, ap}
+use native.Mathlib.Omega.{arith}
+use borrow.Author.Tests.{not-true, not-false}
+use Rattle.words.proofs.Words.{words-count}
+use Rattle.sheet.specs.Decoding.{boundsSaid, boundedRead}
+use borrow.Author.Needs.{needs}
+use Rattle.sheet.proofs.operator.decode_bounded.Statement.{statement}
+use Rattle.sheet.proofs.operator.decode_bounded.Tie as tie
+
+fields-below-requires : tie.Need-fields-below-requires
+fields-below-requires c κs = search needs
+
+returns : tie.Need-returns
+unfolding boundedRead
+returns c = simp (sym (c .before .fields-below .ensures) ∙ not-true _ (c .if1 .taken))
+
+add-read-bounds : tie.Need-add-read-bounds
+add-read-bounds c = omega (arith, words-count (c .before .before .before .args .s .now))
+
+read-bounds-requires : tie.Need-read-bounds-requires
+read-bounds-requires c κs = search needs
+
+enum-known-fault : tie.Need-enum-known-fault
+enum-known-fault c = search needs
+
+enum-known-bounds : tie.Need-enum-known-bounds
+enum-known-bounds c = search needs
+
+operator-of-requires : tie.Need-operator-of-requires
+operator-of-requires c κs = search needs
+
+add-t16 : tie.Need-add-t16
+add-t16 c = omega (arith, words-count (c .before .before .before .before .before .before .before .before .args .s .now))
+
+returns-2 : tie.Need-returns-2
+unfolding boundedRead
+returns-2 c = simp ((sym (c .before .before .before .before .before .fields-below .ensures) ∙ not-false _ (c .before .before .before .before .if1 .left)), sym (c .before .before .before .read-bounds .ensures) ∙ ap boundsSaid (c .before .fault .given .1))
+
+returns-3 : tie.Need-returns-3
+unfolding boundedRead
+returns-3 c = rw (c .operator-of .ensures) (simp ((sym (c .before .before .before .before .before .before .fields-below .ensures) ∙ not-false _ (c .before .before .before .before .before .if1 .left)), sym (c .before .before .before .before .read-bounds .ensures) ∙ ap boundsSaid (c .before .before .bounds .given .1)))
+
+pub decode-bounded-spec : {M : Type 1} → statement M
+decode-bounded-spec =
+    tie.close
+    (tie.spec
+    fields-below-requires
+    returns
+    add-read-bounds
+    read-bounds-requires
+    enum-known-fault
+    enum-known-bounds
+    operator-of-requires
+    add-t16
+    returns-2
+    returns-3)

@@ -1,0 +1,109 @@
+-- Each arm of the match is the law of its codes; the ranges are what the single codes leave.
+use mathlib.Core.Path.{_≡_, _∙_, ap}
+use Prim.Native.Nat.{ℕ, _≤_}
+use mathlib.Core.Logic.{_⊎_, inl, inr, ⊎-elim}
+use native.Mathlib.Omega.{arith}
+use Rattle.words.specs.Bytes.{wordsOf}
+use Rattle.words.proofs.Words.{words-count}
+use Rattle.sheet.specs.Decoding.{fieldsOf}
+use Rattle.sheet.proofs.Operators.{true-read, not-read, binary-read, atom-read, binary-bounded-read, somewhere-read, unary-bounded-read, unknown-read}
+use borrow.Author.Needs.{needs}
+use Rattle.sheet.proofs.operator.decode_operator.Statement.{statement}
+use Rattle.sheet.proofs.operator.decode_operator.Tie as tie
+
+word-or-zero-requires : tie.Need-word-or-zero-requires
+word-or-zero-requires c κs = search needs
+
+fields-of-requires : tie.Need-fields-of-requires
+fields-of-requires c κs = search needs
+
+decode-plain-requires : tie.Need-decode-plain-requires
+decode-plain-requires c κs = omega (arith, words-count (c .before .before .before .before .args .s .now))
+
+decode-plain-requires-2 : tie.Need-decode-plain-requires-2
+decode-plain-requires-2 c κs = omega (arith, words-count (c .before .before .before .before .args .s .now))
+
+decode-plain-requires-3 : tie.Need-decode-plain-requires-3
+decode-plain-requires-3 c κs = ⊎-elim (λ key. omega (arith, words-count (c .before .before .before .before .args .s .now))) (λ key. omega (arith, words-count (c .before .before .before .before .args .s .now))) (c .match .keys3)
+
+decode-bounded-requires : tie.Need-decode-bounded-requires
+decode-bounded-requires c κs = ⊎-elim (λ key. omega (arith, words-count (c .before .before .before .before .args .s .now))) (λ key. omega (arith, words-count (c .before .before .before .before .args .s .now))) (c .match .keys4)
+
+decode-bounded-requires-2 : tie.Need-decode-bounded-requires-2
+decode-bounded-requires-2 c κs = search needs
+
+decode-atom-requires : tie.Need-decode-atom-requires
+decode-atom-requires c κs = search needs
+
+decode-bounded-requires-3 : tie.Need-decode-bounded-requires-3
+decode-bounded-requires-3 c κs = search needs
+
+above-8 : {n : ℕ} → 3 ≤ n → (n ≡ 3 → ⊥) → ((n ≡ 4) ⊎ (n ≡ 8) → ⊥) → ((n ≡ 5) ⊎ (n ≡ 7) → ⊥) → (n ≡ 6 → ⊥) → 9 ≤ n
+above-8 {n} least not-3 not-4-8 not-5-7 not-6 =
+    let not-4 : n ≡ 4 → ⊥ = λ e. not-4-8 (inl e) in
+    let not-8 : n ≡ 8 → ⊥ = λ e. not-4-8 (inr e) in
+    let not-5 : n ≡ 5 → ⊥ = λ e. not-5-7 (inl e) in
+    let not-7 : n ≡ 7 → ⊥ = λ e. not-5-7 (inr e) in
+    omega arith
+
+returns : tie.Need-returns
+returns c =
+    let g = c .before .before .before .before .before .args in
+    c .decode-plain .ensures ∙ true-read (wordsOf (g .s .now)) (g .signals) (g .lines) (g .at) (c .before .before .fields-of .ensures ∙ ap fieldsOf (c .before .before .before .word-or-zero .ensures)) (c .before .match .keys1)
+
+returns-2 : tie.Need-returns-2
+returns-2 c =
+    let g = c .before .before .before .before .before .args in
+    c .decode-plain2 .ensures ∙ not-read (wordsOf (g .s .now)) (g .signals) (g .lines) (g .at) (c .before .before .fields-of .ensures ∙ ap fieldsOf (c .before .before .before .word-or-zero .ensures)) (c .before .match .keys2)
+
+returns-3 : tie.Need-returns-3
+returns-3 c =
+    let g = c .before .before .before .before .before .args in
+    c .decode-plain3 .ensures ∙ binary-read (wordsOf (g .s .now)) (g .signals) (g .lines) (g .at) (c .before .before .fields-of .ensures ∙ ap fieldsOf (c .before .before .before .word-or-zero .ensures)) (c .before .match .keys3)
+
+returns-4 : tie.Need-returns-4
+returns-4 c =
+    let g = c .before .before .before .before .before .args in
+    c .decode-bounded .ensures ∙ binary-bounded-read (wordsOf (g .s .now)) (g .signals) (g .lines) (g .at) (c .before .before .fields-of .ensures ∙ ap fieldsOf (c .before .before .before .word-or-zero .ensures)) (c .before .match .keys4)
+
+returns-5 : tie.Need-returns-5
+returns-5 c =
+    let g = c .before .before .before .before .before .args in
+    c .decode-bounded2 .ensures ∙ somewhere-read (wordsOf (g .s .now)) (g .signals) (g .lines) (g .at) (c .before .before .fields-of .ensures ∙ ap fieldsOf (c .before .before .before .word-or-zero .ensures)) (c .before .match .keys5)
+
+returns-6 : tie.Need-returns-6
+returns-6 c =
+    let g = c .before .before .before .before .before .before .args in
+    c .decode-atom .ensures ∙ atom-read (wordsOf (g .s .now)) (g .signals) (g .lines) (g .at) (c .before .before .before .fields-of .ensures ∙ ap fieldsOf (c .before .before .before .before .word-or-zero .ensures)) (omega (arith, c .before .before .match .rest .0 .0 .0 .0 .1)) (c .before .if1 .taken)
+
+returns-7 : tie.Need-returns-7
+returns-7 c =
+    let g = c .before .before .before .before .before .before .before .args in
+    c .decode-bounded3 .ensures ∙ unary-bounded-read (wordsOf (g .s .now)) (g .signals) (g .lines) (g .at) (c .before .before .before .before .fields-of .ensures ∙ ap fieldsOf (c .before .before .before .before .before .word-or-zero .ensures)) (above-8 (c .before .before .if1 .left) (c .before .before .before .match .rest .0 .0 .0 .1) (c .before .before .before .match .rest .0 .0 .1) (c .before .before .before .match .rest .0 .1) (c .before .before .before .match .rest .1)) (c .before .if2 .taken)
+
+returns-8 : tie.Need-returns-8
+returns-8 c =
+    let g = c .before .before .before .before .before .before .args in
+    unknown-read (wordsOf (g .s .now)) (g .signals) (g .lines) (g .at) (c .before .before .before .fields-of .ensures ∙ ap fieldsOf (c .before .before .before .before .word-or-zero .ensures)) (c .if2 .left)
+
+pub decode-operator-spec : {M : Type 1} → statement M
+decode-operator-spec =
+    tie.close
+    (tie.spec
+    word-or-zero-requires
+    fields-of-requires
+    decode-plain-requires
+    decode-plain-requires-2
+    decode-plain-requires-3
+    decode-bounded-requires
+    decode-bounded-requires-2
+    decode-atom-requires
+    decode-bounded-requires-3
+    returns
+    returns-2
+    returns-3
+    returns-4
+    returns-5
+    returns-6
+    returns-7
+    returns-8)

@@ -1,0 +1,28 @@
+-- The fields are tested, then the table says the operator.
+use mathlib.Core.Path.{sym, _∙_}
+use borrow.Author.Tests.{not-true, not-false}
+use Rattle.sheet.specs.Decoding.{plainRead}
+use borrow.Author.Needs.{needs}
+use Rattle.sheet.proofs.operator.decode_plain.Statement.{statement}
+use Rattle.sheet.proofs.operator.decode_plain.Tie as tie
+
+fields-below-requires : tie.Need-fields-below-requires
+fields-below-requires c κs = search needs
+
+returns : tie.Need-returns
+unfolding plainRead
+returns c = simp (sym (c .before .fields-below .ensures) ∙ not-true _ (c .if1 .taken))
+
+operator-of-requires : tie.Need-operator-of-requires
+operator-of-requires c κs = search needs
+
+add-t10 : tie.Need-add-t10
+add-t10 c = search needs
+
+returns-2 : tie.Need-returns-2
+unfolding plainRead
+returns-2 c = rw (c .operator-of .ensures) (simp (sym (c .before .before .fields-below .ensures) ∙ not-false _ (c .before .if1 .left)))
+
+pub decode-plain-spec : {M : Type 1} → statement M
+decode-plain-spec =
+    tie.close (tie.spec fields-below-requires returns operator-of-requires add-t10 returns-2)

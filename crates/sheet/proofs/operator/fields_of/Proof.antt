@@ -1,0 +1,24 @@
+-- The fields are read off by division and remainder.
+use mathlib.Core.Path.{_≡_, ap}
+use Prim.Native.Nat.{ℕ, _/_, _%_}
+use native.Mathlib.Omega.{arith}
+use borrow.Author.Needs.{needs}
+use Rattle.sheet.specs.Decoding.{fieldsOf}
+use Rattle.sheet.proofs.operator.fields_of.Statement.{statement}
+use Rattle.sheet.proofs.operator.fields_of.Tie as tie
+
+cast-t6 : tie.Need-cast-t6
+cast-t6 c = search needs
+
+cast-t8 : tie.Need-cast-t8
+cast-t8 c = search needs
+
+returns : tie.Need-returns
+unfolding fieldsOf
+returns c =
+    let w = c .args .w in
+    let whole : w % 1024 ≡ w / 1 % 1024 = omega arith in
+    ap (λ (right : ℕ). record { code = w / 1048576 % 256; left = w / 1024 % 1024; right = right }) whole
+
+pub fields-of-spec : {M : Type 1} → statement M
+fields-of-spec = tie.close (tie.spec cast-t6 cast-t8 returns)

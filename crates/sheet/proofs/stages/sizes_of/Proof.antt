@@ -1,0 +1,27 @@
+-- The sizes are read off by division and remainder.
+use mathlib.Core.Path.{_≡_, ap}
+use Prim.Native.Nat.{ℕ, _/_, _%_}
+use native.Mathlib.Omega.{arith}
+use Rattle.sheet.specs.Checking.{sizesOf}
+use borrow.Author.Needs.{needs}
+use Rattle.sheet.proofs.stages.sizes_of.Statement.{statement}
+use Rattle.sheet.proofs.stages.sizes_of.Tie as tie
+
+cast-t4 : tie.Need-cast-t4
+cast-t4 c = search needs
+
+cast-t7 : tie.Need-cast-t7
+cast-t7 c = search needs
+
+cast-t9 : tie.Need-cast-t9
+cast-t9 c = search needs
+
+returns : tie.Need-returns
+unfolding sizesOf
+returns c =
+    let w = c .args .w in
+    let whole : w % 4096 ≡ w / 1 % 4096 = omega arith in
+    ap (λ (samples : ℕ). record { places = w / 1048576 % 256; signals = w / 4096 % 256; samples = samples }) whole
+
+pub sizes-of-spec : {M : Type 1} → statement M
+sizes-of-spec = tie.close (tie.spec cast-t4 cast-t7 cast-t9 returns)

@@ -1,0 +1,23 @@
+-- A word is read where the sheet has one; past its end both sides are 0.
+use mathlib.Core.Path.{sym}
+use native.Mathlib.Omega.{arith}
+use lib.ListN.{List·getD-eq-default}
+use Rattle.words.specs.Bytes.{wordsOf}
+use borrow.Author.Needs.{needs}
+use Rattle.sheet.proofs.word.word_or_zero.Statement.{statement}
+use Rattle.sheet.proofs.word.word_or_zero.Tie as tie
+
+word-count-requires : tie.Need-word-count-requires
+word-count-requires c κs = search needs
+
+word-at-requires : tie.Need-word-at-requires
+word-at-requires c κs = search needs
+
+returns : tie.Need-returns
+returns c = search needs
+
+returns-2 : tie.Need-returns-2
+returns-2 c = sym (List·getD-eq-default (wordsOf (c .before .before .before .args .s .now)) 0 (omega arith))
+
+pub word-or-zero-spec : {M : Type 1} → statement M
+word-or-zero-spec = tie.close (tie.spec word-count-requires word-at-requires returns returns-2)

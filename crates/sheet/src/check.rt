@@ -1,0 +1,71 @@
+// The check of a whole sheet.
+use crate::fault::Fault;
+use crate::limits::LEAST_DISTANCES;
+use crate::stages::Head;
+use crate::stages::Stage;
+use crate::stages::Table;
+use crate::stages::check_end;
+use crate::stages::check_head;
+use crate::stages::check_lines;
+use crate::stages::check_roads;
+use crate::stages::check_samples;
+ghost use mathlib.Core.Path.{_≡_};
+ghost use Rattle.words.specs.Bytes.{wordsOf};
+ghost use Rattle.sheet.specs.Layout.{checked};
+ghost use Rattle.sheet.specs.Checking.{checkSaid, mapped, layoutOf};
+
+// What stands where: the sizes of the head, how many roads and lines there are, and the indices at which the recording (the samples) and the
+// table (the lines) begin.
+pub struct Layout {
+    pub places: usize,
+    pub signals: usize,
+    pub samples: usize,
+    pub roads: usize,
+    pub lines: usize,
+    pub recording: usize,
+    pub table: usize,
+}
+
+// The layout of a sheet, or its first fault and the place of it.
+pub enum Check {
+    Accepted(Layout),
+    Refused(Fault, usize),
+}
+
+// Checks a sheet front to back, given how many distances are lent.
+pub fn check_sheet(s: &[u8], distances: usize) -> Check
+    ensures { λ r. ⌜ checkSaid r ≡ mapped layoutOf (checked (wordsOf (now (s .entry))) distances) ⌝ }
+{
+    if distances < LEAST_DISTANCES {
+        return Check::Refused(Fault::DistancesShort, 0);
+    }
+    let sizes = match check_head(s) {
+        Head::Refused(fault, place) => return Check::Refused(fault, place),
+        Head::Sizes(sizes) => sizes,
+    };
+    let roads = match check_roads(s, sizes.places) {
+        Stage::Refused(fault, place) => return Check::Refused(fault, place),
+        Stage::Passed(roads) => roads,
+    };
+    let recording = 1 + 2 * roads;
+    let count = sizes.signals * sizes.places * sizes.samples;
+    let table = match check_samples(s, recording, count) {
+        Stage::Refused(fault, place) => return Check::Refused(fault, place),
+        Stage::Passed(after) => after,
+    };
+    match check_lines(s, table, sizes.signals, sizes.samples) {
+        Table::Refused(fault, place) => Check::Refused(fault, place),
+        Table::Lines(lines, after) => match check_end(s, after) {
+            Stage::Refused(fault, place) => Check::Refused(fault, place),
+            Stage::Passed(_) => Check::Accepted(Layout {
+                places: sizes.places,
+                signals: sizes.signals,
+                samples: sizes.samples,
+                roads,
+                lines,
+                recording,
+                table,
+            }),
+        },
+    }
+}
