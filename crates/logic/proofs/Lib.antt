@@ -21,3 +21,4 @@ pub mod Agreement
 pub mod Small
 pub mod Examples
 pub mod Counts
+pub mod TableSteps

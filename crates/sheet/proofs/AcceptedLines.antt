@@ -1,15 +1,19 @@
 -- What the lines of an accepted sheet are: 1 to 64 of them, each of a length of 1 to T, with constants of 27 bits.
 use mathlib.Core.Path.{_≡_, refl, sym, ap, subst, _∙_}
+use mathlib.Core.Logic.{⊎-elim}
 use mathlib.Core.Bool.{Bool, true, false, not, cond, _&&_}
 use mathlib.Core.List.{List, [], _∷_, _++_}
-use Prim.Native.Nat.{ℕ, zero, suc, _+_, _-_, _%_, _^_, _<_, _≤_, min}
-use native.Mathlib.Nat.{not-suc-le-zero, le-of-suc-le-suc}
+use Prim.Native.Nat.{ℕ, zero, suc, _+_, _-_, _%_, _^_, _<_, _≤_, min, zero-le, suc-le-suc}
+use native.Mathlib.Nat.{not-suc-le-zero, zero-add}
+use native.Mathlib.Decide.{decLt}
 use native.Mathlib.Omega.{arith}
 use lib.Dec.{T, leb, eqb, ltb, leb→le, ltb→lt, nltb→le}
-use lib.ListN.{length, getD, length-append}
+use lib.ListN.{length, length-append, List·getD-append, List·getD-eq-default}
+use lib.Seq.{getD-at}
 use lib.IntN.{ℤ, pos, negsuc}
 use Rattle.words.specs.Word.{bits, payloadOf, signed, sampleOf}
 use Rattle.logic.specs.Table.{Operator, True, AtLeast, AtMost, Not, And, Until, Somewhere, Surrounded, Or, Eventually, Always, Everywhere, Line, lineIn, lengthOf}
+use Rattle.logic.proofs.Tests.{and-l, and-r, below}
 use Rattle.logic.proofs.Lists.{Each, All, none, more, each-append, each-at}
 use Rattle.logic.proofs.TableKeeps.{ConstantIn, ConstantsIn}
 use Rattle.logic.proofs.Small.{InBits}
@@ -18,6 +22,11 @@ use Rattle.sheet.specs.Checked.{Checked, accepted, refused, _>>=_, requi
 use Rattle.sheet.specs.Codes.{Code, constant, atom, unary, binary, unaryBounded, binaryBounded, unknown, codes, codeOf}
 use Rattle.sheet.specs.Lines.{constantAt, boundsAt, operatorBy, operatorAt, lineAt, linesFrom}
 use Rattle.sheet.proofs.Checks.{never, require-e, bind-e, accepted-inj}
+
+-- lower at most upper, of 28 bits
+pub record Bounds (lower upper : ℕ) : Type 0 where
+  pub order : lower ≤ upper
+  pub small : upper < 2 ^ 28
 
 -- ---- a constant is a number of 27 bits
 pub sample-bits : (w : ℕ) → InBits 26 (sampleOf w)
@@ -29,31 +38,47 @@ sample-bits w = go (ltb (w % 2 ^ 27) (2 ^ 26)) refl
         let high : 2 ^ 26 ≤ w % 2 ^ 27 = nltb→le (w % 2 ^ 27) (2 ^ 26) (rw e tt) in
         omega arith
 
--- every code, given constants that fit, says an operator whose constants fit
-abbrev Fits : Code → Type 0
-Fits (constant o) = ConstantIn (InBits 26) o
-Fits (atom o) = (signal : ℕ) (c : ℤ) → InBits 26 c → ConstantIn (InBits 26) (o signal c)
-Fits (unary o) = (i : ℕ) → ConstantIn (InBits 26) (o i)
-Fits (binary o) = (i j : ℕ) → ConstantIn (InBits 26) (o i j)
-Fits (unaryBounded o) = (i lower upper : ℕ) → ConstantIn (InBits 26) (o i lower upper)
-Fits (binaryBounded o) = (i j lower upper : ℕ) → ConstantIn (InBits 26) (o i j lower upper)
-Fits unknown = Unit {0}
+-- ---- what is sound of an operator among v signals and k earlier lines: each field below its limit, constants of 27 bits, bounds in order
+abbrev pub Sound : ℕ → ℕ → Operator → Type 0
+Sound v k True = Unit {0}
+Sound v k (AtLeast signal c) = (signal < v) × InBits 26 c
+Sound v k (AtMost signal c) = (signal < v) × InBits 26 c
+Sound v k (Not i) = i < k
+Sound v k (And i j) = (i < k) × (j < k)
+Sound v k (Until i j lower upper) = (i < k) × (j < k) × Bounds lower upper
+Sound v k (Somewhere i lower upper) = (i < k) × Bounds lower upper
+Sound v k (Surrounded i j lower upper) = (i < k) × (j < k) × Bounds lower upper
+Sound v k (Or i j) = (i < k) × (j < k)
+Sound v k (Eventually i lower upper) = (i < k) × Bounds lower upper
+Sound v k (Always i lower upper) = (i < k) × Bounds lower upper
+Sound v k (Everywhere i lower upper) = (i < k) × Bounds lower upper
 
-codes-fit : All Fits codes
-unfolding codes
-codes-fit =
-    more {a = constant True} tt
-    (more {a = atom AtLeast} (λ _ _ h. h)
-    (more {a = atom AtMost} (λ _ _ h. h)
-    (more {a = unary Not} (λ _. tt)
-    (more {a = binary And} (λ _ _. tt)
-    (more {a = binaryBounded Until} (λ _ _ _ _. tt)
-    (more {a = unaryBounded Somewhere} (λ _ _ _. tt)
-    (more {a = binaryBounded Surrounded} (λ _ _ _ _. tt)
-    (more {a = binary Or} (λ _ _. tt)
-    (more {a = unaryBounded Eventually} (λ _ _ _. tt)
-    (more {a = unaryBounded Always} (λ _ _ _. tt)
-    (more {a = unaryBounded Everywhere} (λ _ _ _. tt) none)))))))))))
+module _ (v k : ℕ) where
+  -- what a code says is sound where its fields and parameters are
+  abbrev Fits : Code → Type 0
+  Fits (constant o) = Sound v k o
+  Fits (atom o) = (signal : ℕ) (c : ℤ) → signal < v → InBits 26 c → Sound v k (o signal c)
+  Fits (unary o) = (i : ℕ) → i < k → Sound v k (o i)
+  Fits (binary o) = (i j : ℕ) → i < k → j < k → Sound v k (o i j)
+  Fits (unaryBounded o) = (i lower upper : ℕ) → i < k → Bounds lower upper → Sound v k (o i lower upper)
+  Fits (binaryBounded o) = (i j lower upper : ℕ) → i < k → j < k → Bounds lower upper → Sound v k (o i j lower upper)
+  Fits unknown = Unit {0}
+
+  codes-fit : All Fits codes
+  unfolding codes
+  codes-fit =
+      more {a = constant True} tt
+      (more {a = atom AtLeast} (λ _ _ h b. (h, b))
+      (more {a = atom AtMost} (λ _ _ h b. (h, b))
+      (more {a = unary Not} (λ _ h. h)
+      (more {a = binary And} (λ _ _ h g. (h, g))
+      (more {a = binaryBounded Until} (λ _ _ _ _ h g b. (h, g, b))
+      (more {a = unaryBounded Somewhere} (λ _ _ _ h b. (h, b))
+      (more {a = binaryBounded Surrounded} (λ _ _ _ _ h g b. (h, g, b))
+      (more {a = binary Or} (λ _ _ h g. (h, g))
+      (more {a = unaryBounded Eventually} (λ _ _ _ h b. (h, b))
+      (more {a = unaryBounded Always} (λ _ _ _ h b. (h, b))
+      (more {a = unaryBounded Everywhere} (λ _ _ _ h b. (h, b)) none)))))))))))
 
 constant-fits : (s : List ℕ) (at : ℕ) (c : ℤ) → constantAt s at ≡ accepted c → InBits 26 c
 unfolding constantAt
@@ -63,32 +88,53 @@ constant-fits s at c e =
     let same = require-e clear 12 at (accepted (sampleOf (wordAt s at))) c rest .1 in
     subst (InBits 26) (accepted-inj (sampleOf (wordAt s at)) c same) (sample-bits (wordAt s at))
 
--- what an accepted operator was made of
-by-code : (s : List ℕ) (code : Code) → Fits code → (at left right v lines : ℕ) (read : Operator × ℕ)
-    → operatorBy s code at left right v lines ≡ accepted read → ConstantIn (InBits 26) (read .0)
-by-code s (constant o) fit at left right v lines read e =
-    let same = require-e (eqb left 0 && eqb right 0) 11 at (accepted (o, at + 1)) read e .1 in
-    subst (λ (r : Operator × ℕ). ConstantIn (InBits 26) (r .0)) (accepted-inj (o, at + 1) read same) fit
-by-code s (atom o) fit at left right v lines read e =
-    let (c, hc, same) = bind-e (constantAt s (at + 1)) (λ c. accepted (o left c, at + 2)) read (require-e (ltb left v && eqb right 0) 11 at _ read e .1) in
-    subst (λ (r : Operator × ℕ). ConstantIn (InBits 26) (r .0)) (accepted-inj (o left c, at + 2) read same) (fit left c (constant-fits s (at + 1) c hc))
-by-code s (unary o) fit at left right v lines read e =
-    let same = require-e (ltb left lines && eqb right 0) 11 at (accepted (o left, at + 1)) read e .1 in
-    subst (λ (r : Operator × ℕ). ConstantIn (InBits 26) (r .0)) (accepted-inj (o left, at + 1) read same) (fit left)
-by-code s (binary o) fit at left right v lines read e =
-    let same = require-e (ltb left lines && ltb right lines) 11 at (accepted (o left right, at + 1)) read e .1 in
-    subst (λ (r : Operator × ℕ). ConstantIn (InBits 26) (r .0)) (accepted-inj (o left right, at + 1) read same) (fit left right)
-by-code s (unaryBounded o) fit at left right v lines read e =
-    let (b, hb, same) = bind-e (boundsAt s (at + 1)) (λ b. accepted (o left (b .0) (b .1), at + 3)) read (require-e (ltb left lines && eqb right 0) 11 at _ read e .1) in
-    subst (λ (r : Operator × ℕ). ConstantIn (InBits 26) (r .0)) (accepted-inj (o left (b .0) (b .1), at + 3) read same) (fit left (b .0) (b .1))
-by-code s (binaryBounded o) fit at left right v lines read e =
-    let (b, hb, same) = bind-e (boundsAt s (at + 1)) (λ b. accepted (o left right (b .0) (b .1), at + 3)) read (require-e (ltb left lines && ltb right lines) 11 at _ read e .1) in
-    subst (λ (r : Operator × ℕ). ConstantIn (InBits 26) (r .0)) (accepted-inj (o left right (b .0) (b .1), at + 3) read same) (fit left right (b .0) (b .1))
-by-code s unknown fit at left right v lines read e = absurd (never e)
+bounds-fit : (s : List ℕ) (at : ℕ) (b : ℕ × ℕ) → boundsAt s at ≡ accepted b → Bounds (b .0) (b .1)
+unfolding boundsAt
+bounds-fit s at b e =
+    let lower : ℕ = payloadOf (wordAt s at) in
+    let upper : ℕ = payloadOf (wordAt s (at + 1)) in
+    let third : Checked (ℕ × ℕ) = require (leb lower upper) 12 (at + 1) (accepted (lower, upper)) in
+    let e₁ = require-e (isKind 6 s at) 12 at (require (isKind 7 s (at + 1)) 12 (at + 1) third) b e .1 in
+    let e₂ = require-e (isKind 7 s (at + 1)) 12 (at + 1) third b e₁ .1 in
+    let (order, same) = require-e (leb lower upper) 12 (at + 1) (accepted (lower, upper)) b e₂ in
+    subst (λ (c : ℕ × ℕ). Bounds (c .0) (c .1)) (accepted-inj (lower, upper) b same) (record { order = leb→le lower upper order; small = omega arith })
 
-operator-fits : (s : List ℕ) (v lines at : ℕ) (read : Operator × ℕ) → operatorAt s v lines at ≡ accepted read → ConstantIn (InBits 26) (read .0)
-unfolding operatorAt
-operator-fits s v lines at read e = by-code s (codeOf (bits 20 8 (wordAt s at))) (each-at codes-fit (bits 20 8 (wordAt s at)) unknown unknown tt) at _ _ v lines read e
+-- what an accepted operator was made of
+module _ (s : List ℕ) (v k : ℕ) where
+  abbrev SoundRead : Operator × ℕ → Type 0
+  SoundRead read = Sound v k (read .0)
+
+  by-code : (code : Code) → Fits v k code → (at left right : ℕ) (read : Operator × ℕ) → operatorBy s code at left right v k ≡ accepted read → SoundRead read
+  by-code (constant o) fit at left right read e =
+      let same = require-e (eqb left 0 && eqb right 0) 11 at (accepted (o, at + 1)) read e .1 in
+      subst SoundRead (accepted-inj (o, at + 1) read same) fit
+  by-code (atom o) fit at left right read e =
+      let (fields, rest) = require-e (ltb left v && eqb right 0) 11 at (constantAt s (at + 1) >>= λ c. accepted (o left c, at + 2)) read e in
+      let (c, hc, same) = bind-e (constantAt s (at + 1)) (λ c. accepted (o left c, at + 2)) read rest in
+      subst SoundRead (accepted-inj (o left c, at + 2) read same) (fit left c (ltb→lt left v (and-l (ltb left v) _ fields)) (constant-fits s (at + 1) c hc))
+  by-code (unary o) fit at left right read e =
+      let (fields, same) = require-e (ltb left k && eqb right 0) 11 at (accepted (o left, at + 1)) read e in
+      subst SoundRead (accepted-inj (o left, at + 1) read same) (fit left (ltb→lt left k (and-l (ltb left k) _ fields)))
+  by-code (binary o) fit at left right read e =
+      let (fields, same) = require-e (ltb left k && ltb right k) 11 at (accepted (o left right, at + 1)) read e in
+      subst SoundRead (accepted-inj (o left right, at + 1) read same) (fit left right (ltb→lt left k (and-l (ltb left k) _ fields)) (ltb→lt right k (and-r (ltb left k) _ fields)))
+  by-code (unaryBounded o) fit at left right read e =
+      let (fields, rest) = require-e (ltb left k && eqb right 0) 11 at (boundsAt s (at + 1) >>= λ b. accepted (o left (b .0) (b .1), at + 3)) read e in
+      let (b, hb, same) = bind-e (boundsAt s (at + 1)) (λ b. accepted (o left (b .0) (b .1), at + 3)) read rest in
+      subst SoundRead (accepted-inj (o left (b .0) (b .1), at + 3) read same)
+      (fit left (b .0) (b .1) (ltb→lt left k (and-l (ltb left k) _ fields)) (bounds-fit s (at + 1) b hb))
+  by-code (binaryBounded o) fit at left right read e =
+      let (fields, rest) = require-e (ltb left k && ltb right k) 11 at (boundsAt s (at + 1) >>= λ b. accepted (o left right (b .0) (b .1), at + 3)) read e in
+      let (b, hb, same) = bind-e (boundsAt s (at + 1)) (λ b. accepted (o left right (b .0) (b .1), at + 3)) read rest in
+      subst SoundRead (accepted-inj (o left right (b .0) (b .1), at + 3) read same)
+      (fit left right (b .0) (b .1) (ltb→lt left k (and-l (ltb left k) _ fields)) (ltb→lt right k (and-r (ltb left k) _ fields)) (bounds-fit s (at + 1) b hb))
+  by-code unknown fit at left right read e = absurd (never e)
+
+  pub operator-sound : (at : ℕ) (read : Operator × ℕ) → operatorAt s v k at ≡ accepted read → SoundRead read
+  unfolding operatorAt
+  operator-sound at read e =
+      let w : ℕ = wordAt s at in
+      by-code (codeOf (bits 20 8 w)) (each-at (codes-fit v k) (bits 20 8 w) unknown unknown tt) at (bits 10 10 w) (bits 0 10 w) read e
 
 -- ---- the length of a line is at most T where the operands' lengths are
 length-bound : (T : ℕ) (operand : ℕ → ℕ) → ((i : ℕ) → operand i ≤ T) → (o : Operator) → lengthOf T operand o ≤ T
@@ -106,69 +152,101 @@ length-bound T operand h (Always i lower upper) = omega (arith, h i)
 length-bound T operand h (Everywhere i lower upper) = h i
 
 -- ---- a line, and all lines
-pub record GoodLine (T : ℕ) (line : Line) : Type 0 where
+-- line k of a table
+pub record GoodLine (v T k : ℕ) (line : Line) : Type 0 where
   pub least : 1 ≤ line .length
   pub most : line .length ≤ T
-  pub constants : ConstantIn (InBits 26) (line .operator)
+  pub sound : Sound v k (line .operator)
 
-pub good-length : (T : ℕ) (lines : List Line) → All (GoodLine T) lines → (i : ℕ) → lineIn lines i .length ≤ T
-good-length T [] none i = omega arith
-good-length T (line ∷ lines) (more h hs) zero = h .most
-good-length T (line ∷ lines) (more h hs) (suc i) = good-length T lines hs i
+abbrev pub GoodTable : ℕ → ℕ → List Line → Type 0
+GoodTable v T lines = (k : ℕ) → k < length lines → GoodLine v T k (lineIn lines k)
 
-pub good-lengths : (T : ℕ) (lines : List Line) → All (GoodLine T) lines → (i : ℕ) → i < length lines → (1 ≤ lineIn lines i .length) × (lineIn lines i .length ≤ T)
-good-lengths T [] none i h = absurd (not-suc-le-zero h)
-good-lengths T (line ∷ lines) (more g gs) zero h = (g .least, g .most)
-good-lengths T (line ∷ lines) (more g gs) (suc i) h = good-lengths T lines gs i (le-of-suc-le-suc h)
+-- also of a line that is not there
+pub good-length : (v T : ℕ) (lines : List Line) → GoodTable v T lines → (i : ℕ) → lineIn lines i .length ≤ T
+good-length v T lines good i = go (decLt i (length lines))
+  where
+    go : Dec (i < length lines) → lineIn lines i .length ≤ T
+    go (yes h) = good i h .most
+    go (no h) = rw (List·getD-eq-default lines (record { operator = True; length = 0 }) {n = i} (omega arith)) zero-le
 
-line-good : (s : List ℕ) (v T : ℕ) (lines : List Line) (at : ℕ) (read : Line × ℕ) → All (GoodLine T) lines
-    → lineAt s v T (length lines) (λ i. lineIn lines i .length) at ≡ accepted read → GoodLine T (read .0)
+line-good : (s : List ℕ) (v T : ℕ) (lines : List Line) (at : ℕ) (read : Line × ℕ) → GoodTable v T lines
+    → lineAt s v T (length lines) (λ i. lineIn lines i .length) at ≡ accepted read → GoodLine v T (length lines) (read .0)
 unfolding lineAt
 line-good s v T lines at read good e =
     let (o, ho, rest) = bind-e (operatorAt s v (length lines) at) _ read e in
     let samples : ℕ = lengthOf T (λ i. lineIn lines i .length) (o .0) in
     let (least, same) = require-e (leb 1 samples) 13 at (accepted (record { operator = o .0; length = samples }, o .1)) read rest in
-    subst (λ (r : Line × ℕ). GoodLine T (r .0)) (accepted-inj (record { operator = o .0; length = samples }, o .1) read same) (record {
+    subst (λ (r : Line × ℕ). GoodLine v T (length lines) (r .0)) (accepted-inj (record { operator = o .0; length = samples }, o .1) read same) (record {
       least = leb→le 1 samples least;
-      most = length-bound T (λ i. lineIn lines i .length) (good-length T lines good) (o .0);
-      constants = operator-fits s v (length lines) at o ho;
+      most = length-bound T (λ i. lineIn lines i .length) (good-length v T lines good) (o .0);
+      sound = operator-sound s v (length lines) at o ho;
     })
 
+-- one good line more
+good-more : (v T : ℕ) (lines : List Line) (line : Line) → GoodTable v T lines → GoodLine v T (length lines) line → GoodTable v T (lines ++ (line ∷ []))
+good-more v T lines line good last k h =
+    let none : Line = record { operator = True; length = 0 } in
+    let l = length-append lines (line ∷ []) in
+    ⊎-elim
+    (λ e. subst (GoodLine v T k) (sym (getD-at lines line [] none k (sym e))) (subst (λ m. GoodLine v T m line) (sym e) last))
+    (λ b. subst (GoodLine v T k) (sym (List·getD-append lines (line ∷ []) none k b)) (good k b))
+    (below (omega arith))
+
 -- the lines that are read are good, at least one and at most as many as there was room for
-pub record GoodLines (T most : ℕ) (lines : List Line) : Type 0 where
-  pub good : All (GoodLine T) lines
+pub record GoodLines (v T most : ℕ) (lines : List Line) : Type 0 where
+  pub good : GoodTable v T lines
   pub some : 1 ≤ length lines
   pub bound : length lines ≤ most
 
-lines-good : (s : List ℕ) (v T room : ℕ) (lines : List Line) (at : ℕ) (found : List Line × ℕ) → All (GoodLine T) lines → 1 ≤ room + length lines
-    → linesFrom s v T room lines at ≡ accepted found → GoodLines T (room + length lines) (found .0)
+lines-good : (s : List ℕ) (v T room : ℕ) (lines : List Line) (at : ℕ) (found : List Line × ℕ) → GoodTable v T lines → 1 ≤ room + length lines
+    → linesFrom s v T room lines at ≡ accepted found → GoodLines v T (room + length lines) (found .0)
 unfolding linesFrom
 lines-good s v T zero lines at found good some e =
     let same = require-e (not (isKind 5 s at)) 10 at (accepted (lines, at)) found e .1 in
-    subst (λ (f : List Line × ℕ). GoodLines T (0 + length lines) (f .0)) (accepted-inj (lines, at) found same) (record { good = good; some = omega arith; bound = omega arith })
+    subst (λ (f : List Line × ℕ). GoodLines v T (0 + length lines) (f .0)) (accepted-inj (lines, at) found same) (record { good = good; some = omega arith; bound = omega arith })
 lines-good s v T (suc room) lines at found good some e =
     go (isKind 5 s at) (λ longer next goods more. lines-good s v T room longer next found goods more) e
   where
     go : (t : Bool)
-        → ((longer : List Line) (next : ℕ) → All (GoodLine T) longer → 1 ≤ room + length longer → linesFrom s v T room longer next ≡ accepted found → GoodLines T (room + length longer) (found .0))
+        → ((longer : List Line) (next : ℕ) → GoodTable v T longer → 1 ≤ room + length longer → linesFrom s v T room longer next ≡ accepted found → GoodLines v T (room + length longer) (found .0))
         → elim t as (λ _. Checked (List Line × ℕ)) [
           | true ↦ lineAt s v T (length lines) (λ i. lineIn lines i .length) at >>= (λ read. linesFrom s v T room (lines ++ (read .0 ∷ [])) (read .1))
           | false ↦ require (ltb 0 (length lines)) 10 at (accepted (lines, at))
-        ] ≡ accepted found → GoodLines T (suc room + length lines) (found .0)
+        ] ≡ accepted found → GoodLines v T (suc room + length lines) (found .0)
     go true onward e =
         let (read, hr, rest) = bind-e (lineAt s v T (length lines) (λ i. lineIn lines i .length) at) _ found e in
         let l : length (lines ++ (read .0 ∷ [])) ≡ length lines + 1 = length-append lines (read .0 ∷ []) in
         let count : room + length (lines ++ (read .0 ∷ [])) ≡ suc room + length lines = omega arith in
-        subst (λ m. GoodLines T m (found .0)) count
-        (onward (lines ++ (read .0 ∷ [])) (read .1) (each-append good (more (line-good s v T lines at read good hr) none)) (omega arith) rest)
+        subst (λ m. GoodLines v T m (found .0)) count
+        (onward (lines ++ (read .0 ∷ [])) (read .1) (good-more v T lines (read .0) good (line-good s v T lines at read good hr)) (omega arith) rest)
     go false onward e =
         let (first, same) = require-e (ltb 0 (length lines)) 10 at (accepted (lines, at)) found e in
-        subst (λ (f : List Line × ℕ). GoodLines T (suc room + length lines) (f .0)) (accepted-inj (lines, at) found same)
+        subst (λ (f : List Line × ℕ). GoodLines v T (suc room + length lines) (f .0)) (accepted-inj (lines, at) found same)
         (record { good = good; some = ltb→lt 0 (length lines) first; bound = omega arith })
 
-pub table-good : (s : List ℕ) (v T at : ℕ) (found : List Line × ℕ) → linesFrom s v T mostLines [] at ≡ accepted found → GoodLines T mostLines (found .0)
-table-good s v T at found e = lines-good s v T mostLines [] at found none (omega arith) e
+pub table-good : (s : List ℕ) (v T at : ℕ) (found : List Line × ℕ) → linesFrom s v T mostLines [] at ≡ accepted found → GoodLines v T mostLines (found .0)
+table-good s v T at found e = lines-good s v T mostLines [] at found (λ k h. absurd (not-suc-le-zero h)) (omega arith) e
 
-pub good-constants : (T : ℕ) (lines : List Line) → All (GoodLine T) lines → ConstantsIn (InBits 26) lines
-good-constants T [] none = none
-good-constants T (line ∷ lines) (more h hs) = more (h .constants) (good-constants T lines hs)
+-- the constants of a good table are of 27 bits
+sound-constant : (v k : ℕ) (o : Operator) → Sound v k o → ConstantIn (InBits 26) o
+sound-constant v k True h = tt
+sound-constant v k (AtLeast x c) h = h .1
+sound-constant v k (AtMost x c) h = h .1
+sound-constant v k (Not i) h = tt
+sound-constant v k (And i j) h = tt
+sound-constant v k (Until i j lower upper) h = tt
+sound-constant v k (Somewhere i lower upper) h = tt
+sound-constant v k (Surrounded i j lower upper) h = tt
+sound-constant v k (Or i j) h = tt
+sound-constant v k (Eventually i lower upper) h = tt
+sound-constant v k (Always i lower upper) h = tt
+sound-constant v k (Everywhere i lower upper) h = tt
+
+constants-from : (v T n : ℕ) (lines : List Line) → ((k : ℕ) → k < length lines → GoodLine v T (n + k) (lineIn lines k)) → ConstantsIn (InBits 26) lines
+constants-from v T n [] good = none
+constants-from v T n (line ∷ lines) good =
+    more (sound-constant v (n + 0) (line .operator) (good 0 (omega arith) .sound))
+    (constants-from v T (suc n) lines (λ k h. subst (λ m. GoodLine v T m (lineIn lines k)) (omega arith) (good (suc k) (suc-le-suc h))))
+
+pub good-constants : (v T : ℕ) (lines : List Line) → GoodTable v T lines → ConstantsIn (InBits 26) lines
+good-constants v T lines good = constants-from v T 0 lines (λ k h. subst (λ m. GoodLine v T m (lineIn lines k)) (sym (zero-add k)) (good k h))

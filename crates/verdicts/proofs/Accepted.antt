@@ -10,11 +10,12 @@ use Rattle.logic.specs.Table.{Line, lineIn, verdicts, margins, valueAt}
 use Rattle.logic.proofs.Counts.{rounds-at-most-places}
 use Rattle.logic.proofs.TableKeeps.{ConstantsIn}
 use Rattle.logic.proofs.Small.{InBits}
+use Rattle.sheet.specs.Limits.{mostLines}
 use Rattle.sheet.specs.Checked.{Checked, accepted, refused, between, wordAt}
 use Rattle.sheet.specs.Layout.{Layout, roadAt, checked}
 use Rattle.sheet.specs.Roads.{network, recording}
 use Rattle.sheet.proofs.Found.{Stages, stages, InLimits, head-limits}
-use Rattle.sheet.proofs.AcceptedLines.{sample-bits, GoodLines, good-length, good-lengths, table-good, good-constants}
+use Rattle.sheet.proofs.AcceptedLines.{sample-bits, GoodLines, good-length, table-good, good-constants}
 use Rattle.sheet.proofs.RefusalNumbers.{Numbered, accepts, refuses, check-numbered}
 use Rattle.values.specs.Said.{Said, says, nothing}
 use Rattle.verdicts.specs.Answer.{wordsNeeded}
@@ -62,7 +63,7 @@ module _ (s : List ℕ) (L : Layout) (read : Stages s L) where
   limits : InLimits (L.sizes)
   limits = head-limits s (L.sizes) (read .head)
 
-  table : GoodLines (L.sizes.samples) 64 (L.lines)
+  table : GoodLines (L.sizes.signals) (L.sizes.samples) mostLines (L.lines)
   table = table-good s (L.sizes.signals) (L.sizes.samples) (read .linesAt) (L.lines, read .endAt) (read .lines-read)
 
   fields : InFields (L.sizes.places) (L.sizes.samples) (L.lines)
@@ -70,7 +71,7 @@ module _ (s : List ℕ) (L : Layout) (read : Stages s L) where
     places = omega (arith, limits .places .1);
     count = omega (arith, table .bound);
     samples = omega (arith, limits .samples .1);
-    lengths = λ i. omega (arith, good-length (L.sizes.samples) (L.lines) (table .good) i, limits .samples .1);
+    lengths = λ i. omega (arith, good-length (L.sizes.signals) (L.sizes.samples) (L.lines) (table .good) i, limits .samples .1);
   }
 
   -- the answer says what is meant, and nothing elsewhere
@@ -80,21 +81,21 @@ module _ (s : List ℕ) (L : Layout) (read : Stages s L) where
   unfolding answered network recording
   answered-says distances answer = answer-says (network s L) (L.sizes.samples) (recording s L) (L.lines) answer fields
       (λ signal t l. sample-bits (wordAt s (roadAt (L.roads) + ((t * L.sizes.places + l) * L.sizes.signals + signal))))
-      (good-constants (L.sizes.samples) (L.lines) (table .good))
+      (good-constants (L.sizes.signals) (L.sizes.samples) (L.lines) (table .good))
 
   sizes : InAnswer (L.sizes.places) (L.sizes.samples) (L.lines)
   sizes = record {
     places = limits .places;
     samples = limits .samples;
     count = (table .some, table .bound);
-    lengths = λ i h. good-lengths (L.sizes.samples) (L.lines) (table .good) i h;
+    lengths = λ i h. (table .good i h .least, table .good i h .most);
   }
 
   whole : (distances answer : ℕ) → T (wholeAnswer (answered s distances answer L .answer))
   unfolding answered network recording
   whole distances answer = answer-whole (network s L) (L.sizes.samples) (recording s L) (L.lines) answer fields
       (λ signal t l. sample-bits (wordAt s (roadAt (L.roads) + ((t * L.sizes.places + l) * L.sizes.signals + signal))))
-      (good-constants (L.sizes.samples) (L.lines) (table .good)) sizes
+      (good-constants (L.sizes.signals) (L.sizes.samples) (L.lines) (table .good)) sizes
 
   -- so the lookup gives the verdict that is meant, and 0 elsewhere
   pub answered-lookup : (distances answer i t l : ℕ) → lookedUp (answered s distances answer L .answer) i t l

@@ -1,7 +1,7 @@
 -- Lists by index: f 0, f 1, .. and tables of such rows. The last element comes last in the definition too, as a loop that counts up meets it.
 use mathlib.Core.List.{List, [], _∷_, _++_}
-use Prim.Native.Nat.{ℕ, zero, suc, _-_}
-use lib.ListN.{length, replicate}
+use Prim.Native.Nat.{ℕ, zero, suc, _+_, _-_}
+use lib.ListN.{length, take, drop, replicate}
 
 module _ {A : Type 0} where
   unfoldable pub row : (ℕ → A) → ℕ → List A
@@ -16,6 +16,10 @@ module _ {A : Type 0} where
   -- n rows of m each: f i j stands at index i * m + j
   abbrev pub rows : (ℕ → ℕ → A) → ℕ → ℕ → List A
   rows f n m = concat (λ i. row (f i) m) n
+
+-- s with the words v in place of those from index i on
+unfoldable pub put : List ℕ → ℕ → List ℕ → List ℕ
+put s i v = take i s ++ v ++ drop (i + length v) s
 
 -- a list with zeros after it, up to a length
 abbrev pub padded : List ℕ → ℕ → List ℕ
