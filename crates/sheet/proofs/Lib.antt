@@ -14,3 +14,4 @@ pub mod SameNetwork
 pub mod RefusalNumbers
 pub mod DistanceStages
 pub mod DistanceStart
+pub mod Surveys

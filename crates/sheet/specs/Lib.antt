@@ -9,3 +9,4 @@ pub mod Apart
 pub mod Faults
 pub mod Decoding
 pub mod Checking
+pub mod Survey

@@ -6,4 +6,5 @@ pub mod limits;
 pub mod line;
 pub mod operator;
 mod stages;
+pub mod survey;
 mod word;

@@ -1,0 +1,15 @@
+-- What a survey leaves in the lent table: the distances of an accepted sheet and zeros beyond, zeros alone on a refusal.
+use mathlib.Core.List.{List}
+use Prim.Native.Nat.{ℕ}
+use lib.ListN.{replicate}
+use Rattle.words.specs.Rows.{padded}
+use Rattle.sheet.specs.Checked.{Checked, accepted, refused}
+use Rattle.sheet.specs.Layout.{Layout, checked}
+use Rattle.sheet.specs.Roads.{network, distanceTable}
+
+abbrev pub surveyedBy : List ℕ → ℕ → Checked Layout → List ℕ
+surveyedBy s room (accepted L) = padded (distanceTable (network s L)) room
+surveyedBy s room (refused number place) = replicate room 0
+
+unfoldable pub surveyed : List ℕ → ℕ → List ℕ
+surveyed s room = surveyedBy s room (checked s room)
