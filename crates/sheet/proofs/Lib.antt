@@ -5,3 +5,5 @@ pub mod Parts
 pub mod Lines
 pub mod Accepted
 pub mod Whole
+pub mod LineFits
+pub mod Walk

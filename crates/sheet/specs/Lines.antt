@@ -35,11 +35,11 @@ module _ (s : List ℕ) where
       (accepted (lower, upper))))
 
   -- an operator and the index after its last word
-  abbrev Read : Type 0
+  abbrev pub Read : Type 0
   Read = Operator × ℕ
 
   -- the line word at an index, with v signals and `lines` earlier lines: a used field is below its limit, an unused one zero
-  abbrev operatorBy : Code → ℕ → ℕ → ℕ → ℕ → ℕ → Checked Read
+  abbrev pub operatorBy : Code → ℕ → ℕ → ℕ → ℕ → ℕ → Checked Read
   operatorBy (constant o) at left right v lines = require (eqb left 0 && eqb right 0) 11 at (accepted (o, at + 1))
   operatorBy (atom o) at left right v lines =
       require (ltb left v && eqb right 0) 11 at (constantAt (at + 1) >>= λ c. accepted (o left c, at + 2))
