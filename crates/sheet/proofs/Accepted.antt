@@ -3,6 +3,7 @@ use Prim.Native.Nat.{ℕ, zero, suc, _+_, _*_, _<_, _≤_, _^_}
 use mathlib.Core.Bool.{Bool, true, false, _&&_}
 use mathlib.Core.List.{List}
 use mathlib.Core.Path.{_≡_, refl, sym, _∙_, subst}
+use native.Mathlib.Decide.{ℕ-discrete}
 use native.Mathlib.Nat.{mul-le-mul}
 use native.Mathlib.Omega.{arith}
 use lib.Dec.{leb, eqb}
@@ -11,11 +12,10 @@ use borrow.Author.Tests.{leb-true, eqb-true}
 use Rattle.words.specs.Word.{bits, payloadOf}
 use Rattle.sheet.specs.Limits.{mostPlaces, mostSignals, mostSamples}
 use Rattle.sheet.specs.Checked.{accepted, require, between, wordAt, isKind}
-use Rattle.sheet.specs.Layout.{Sizes, roadAt, sampleCount, headSizes, headChecked, roadsFrom, samplesFrom, endChecked}
+use Rattle.sheet.specs.Layout.{Sizes, roadAt, weightAt, sampleCount, headSizes, headChecked, roadsFrom, samplesFrom, endChecked}
 use Rattle.sheet.specs.Checking.{mapped, roadChecked}
 use Rattle.sheet.proofs.Checks.{same-accepted, require-accepted, bind-accepted}
-use Rattle.sheet.proofs.Tests.{and-true, kind-told}
-use Rattle.sheet.proofs.Parts.{road-fits, roads-end, road-more}
+use Rattle.sheet.proofs.Tests.{and-true}
 
 -- ---- head
 
@@ -32,7 +32,7 @@ between-told low high x e =
     let both = and-true (leb low x) (leb x high) e in
     (leb-true _ _ (both .0), leb-true _ _ (both .1))
 
-pub head-accepted : (s : List ℕ) {z : Sizes} → headChecked s ≡ accepted z → (0 < length s) × SizesWithin z
+pub head-accepted : (s : List ℕ) {z : Sizes} → headChecked s ≡ accepted z → SizesWithin z
 unfolding headChecked
 head-accepted s {z} e =
     let sizes = headSizes s in
@@ -54,41 +54,23 @@ head-accepted s {z} e =
       samples-some = t .0;
       samples-most = t .1;
     } in
-    (kind-told 1 s 0 (kind .0) .0, subst SizesWithin (same-accepted (limits .1)) within)
+    subst SizesWithin (same-accepted (limits .1)) within
 
 pub sample-count : {z : Sizes} → SizesWithin z → (z .signals * z .places ≤ 2 ^ 10) × (sampleCount z ≤ 2 ^ 20)
 sample-count within =
     let pairs = mul-le-mul (within .signals-most) (within .places-most) in
     (pairs, mul-le-mul pairs (within .samples-most))
 
--- ---- roads
-
-pub roads-within : (s : List ℕ) (n room r last : ℕ) {roads : ℕ} → roadsFrom s n room r last ≡ accepted roads → roadAt r ≤ length s
-    → roadAt roads ≤ length s
-unfolding roadsFrom
-roads-within s n zero r last e inside = let same = same-accepted e in omega arith
-roads-within s n (suc room) r last {roads} e inside = by (isKind 2 s (roadAt r)) refl (λ payload. roads-within s n room (suc r) payload)
-  where
-    by : (kind-2 : Bool) → isKind 2 s (roadAt r) ≡ kind-2
-        → ((payload : ℕ) → roadsFrom s n room (suc r) payload ≡ accepted roads → roadAt (suc r) ≤ length s → roadAt roads ≤ length s)
-        → roadAt roads ≤ length s
-    by false other rest = let same = same-accepted (sym (roads-end s n (suc room) r last other) ∙ e) in omega arith
-    by true kind-2 rest =
-        let road = bind-accepted (roadChecked s n (roadAt r) last) (λ payload. roadsFrom s n room (suc r) payload) (sym (road-more s n room r last kind-2) ∙ e) in
-        let fits = road-fits s n (roadAt r) last (road .1) in
-        rest (road .0) (road .2) (omega arith)
-
 -- ---- samples
 
-pub samples-accepted : (s : List ℕ) (count at : ℕ) {next : ℕ} → samplesFrom s count at ≡ accepted next → (next ≡ at + count) × (at ≤ length s → next ≤ length s)
+pub samples-end : (s : List ℕ) (count at : ℕ) {next : ℕ} → samplesFrom s count at ≡ accepted next → next ≡ at + count
 unfolding samplesFrom
-samples-accepted s zero at e = let same = same-accepted e in (omega arith, λ inside. omega arith)
-samples-accepted s (suc count) at e =
+samples-end s zero at e = let same = same-accepted e in omega arith
+samples-end s (suc count) at e =
     let kind = require-accepted (isKind 4 s at) 8 at _ e in
     let bit = require-accepted (eqb (bits 27 1 (wordAt s at)) 0) 9 at _ (kind .1) in
-    let there = kind-told 4 s at (kind .0) in
-    let rest = samples-accepted s count (at + 1) (bit .1) in
-    (omega (arith, rest .0), λ inside. rest .1 (omega arith))
+    let rest = samples-end s count (at + 1) (bit .1) in
+    omega arith
 
 -- ---- end
 

@@ -1,10 +1,10 @@
 -- What the lines of an accepted sheet are: 1 to 64 of them, each of a length of 1 to T, with constants of 27 bits.
-use mathlib.Core.Path.{_≡_, refl, sym, ap, subst, _∙_}
+use mathlib.Core.Path.{_≡_, refl, sym, ap, ap₂, subst, _∙_}
 use mathlib.Core.Logic.{⊎-elim}
 use mathlib.Core.Bool.{Bool, true, false, not, cond, _&&_}
 use mathlib.Core.List.{List, [], _∷_, _++_}
 use Prim.Native.Nat.{ℕ, zero, suc, _+_, _-_, _%_, _^_, _<_, _≤_, min, zero-le, suc-le-suc}
-use native.Mathlib.Nat.{not-suc-le-zero, zero-add}
+use native.Mathlib.Nat.{not-suc-le-zero, zero-add, le-trans, le-of-lt}
 use native.Mathlib.Decide.{decLt}
 use native.Mathlib.Omega.{arith}
 use lib.Dec.{T, leb, eqb, ltb, leb→le, ltb→lt, nltb→le}
@@ -151,15 +151,35 @@ length-bound T operand h (Eventually i lower upper) = omega (arith, h i)
 length-bound T operand h (Always i lower upper) = omega (arith, h i)
 length-bound T operand h (Everywhere i lower upper) = h i
 
+-- the length of a sound line depends on the lines before it alone
+pub length-same : (T v k : ℕ) (f g : ℕ → ℕ) → ((i : ℕ) → i < k → f i ≡ g i) → (o : Operator) → Sound v k o → lengthOf T f o ≡ lengthOf T g o
+length-same T v k f g h True b = refl
+length-same T v k f g h (AtLeast x c) b = refl
+length-same T v k f g h (AtMost x c) b = refl
+length-same T v k f g h (Not i) b = h i b
+length-same T v k f g h (And i j) b = ap₂ min (h i (b .0)) (h j (b .1))
+length-same T v k f g h (Until i j lower upper) b = ap₂ (λ m n. min m n - upper) (h i (b .0)) (h j (b .1))
+length-same T v k f g h (Somewhere i lower upper) b = h i (b .0)
+length-same T v k f g h (Surrounded i j lower upper) b = ap₂ min (h i (b .0)) (h j (b .1))
+length-same T v k f g h (Or i j) b = ap₂ min (h i (b .0)) (h j (b .1))
+length-same T v k f g h (Eventually i lower upper) b = ap (λ m. m - upper) (h i (b .0))
+length-same T v k f g h (Always i lower upper) b = ap (λ m. m - upper) (h i (b .0))
+length-same T v k f g h (Everywhere i lower upper) b = h i (b .0)
+
 -- ---- a line, and all lines
--- line k of a table
-pub record GoodLine (v T k : ℕ) (line : Line) : Type 0 where
+-- the lengths of a table's lines
+abbrev pub lengthsOf : List Line → ℕ → ℕ
+lengthsOf lines i = lineIn lines i .length
+
+-- line k of a table whose lines have the lengths given
+pub record GoodLine (v T : ℕ) (lengths : ℕ → ℕ) (k : ℕ) (line : Line) : Type 0 where
   pub least : 1 ≤ line .length
   pub most : line .length ≤ T
+  pub extent : line .length ≡ lengthOf T lengths (line .operator)
   pub sound : Sound v k (line .operator)
 
 abbrev pub GoodTable : ℕ → ℕ → List Line → Type 0
-GoodTable v T lines = (k : ℕ) → k < length lines → GoodLine v T k (lineIn lines k)
+GoodTable v T lines = (k : ℕ) → k < length lines → GoodLine v T (lengthsOf lines) k (lineIn lines k)
 
 -- also of a line that is not there
 pub good-length : (v T : ℕ) (lines : List Line) → GoodTable v T lines → (i : ℕ) → lineIn lines i .length ≤ T
@@ -170,26 +190,40 @@ good-length v T lines good i = go (decLt i (length lines))
     go (no h) = rw (List·getD-eq-default lines (record { operator = True; length = 0 }) {n = i} (omega arith)) zero-le
 
 line-good : (s : List ℕ) (v T : ℕ) (lines : List Line) (at : ℕ) (read : Line × ℕ) → GoodTable v T lines
-    → lineAt s v T (length lines) (λ i. lineIn lines i .length) at ≡ accepted read → GoodLine v T (length lines) (read .0)
+    → lineAt s v T (length lines) (λ i. lineIn lines i .length) at ≡ accepted read → GoodLine v T (lengthsOf lines) (length lines) (read .0)
 unfolding lineAt
 line-good s v T lines at read good e =
     let (o, ho, rest) = bind-e (operatorAt s v (length lines) at) _ read e in
     let samples : ℕ = lengthOf T (λ i. lineIn lines i .length) (o .0) in
     let (least, same) = require-e (leb 1 samples) 13 at (accepted (record { operator = o .0; length = samples }, o .1)) read rest in
-    subst (λ (r : Line × ℕ). GoodLine v T (length lines) (r .0)) (accepted-inj (record { operator = o .0; length = samples }, o .1) read same) (record {
+    subst (λ (r : Line × ℕ). GoodLine v T (lengthsOf lines) (length lines) (r .0)) (accepted-inj (record { operator = o .0; length = samples }, o .1) read same) (record {
       least = leb→le 1 samples least;
       most = length-bound T (λ i. lineIn lines i .length) (good-length v T lines good) (o .0);
+      extent = refl;
       sound = operator-sound s v (length lines) at o ho;
     })
 
+-- what is good with some lengths is good with others that are the same for the lines before
+good-same : (v T : ℕ) (f g : ℕ → ℕ) (k : ℕ) (line : Line) → ((i : ℕ) → i < k → f i ≡ g i) → GoodLine v T f k line → GoodLine v T g k line
+good-same v T f g k line same good = record {
+  least = good .least;
+  most = good .most;
+  extent = good .extent ∙ length-same T v k f g same (line .operator) (good .sound);
+  sound = good .sound;
+}
+
 -- one good line more
-good-more : (v T : ℕ) (lines : List Line) (line : Line) → GoodTable v T lines → GoodLine v T (length lines) line → GoodTable v T (lines ++ (line ∷ []))
+good-more : (v T : ℕ) (lines : List Line) (line : Line) → GoodTable v T lines → GoodLine v T (lengthsOf lines) (length lines) line → GoodTable v T (lines ++ (line ∷ []))
 good-more v T lines line good last k h =
     let none : Line = record { operator = True; length = 0 } in
+    let longer : List Line = lines ++ (line ∷ []) in
     let l = length-append lines (line ∷ []) in
+    let kept : (i : ℕ) → i < length lines → lengthsOf lines i ≡ lengthsOf longer i = λ i b. sym (ap (λ (x : Line). x .length) (List·getD-append lines (line ∷ []) none i b)) in
     ⊎-elim
-    (λ e. subst (GoodLine v T k) (sym (getD-at lines line [] none k (sym e))) (subst (λ m. GoodLine v T m line) (sym e) last))
-    (λ b. subst (GoodLine v T k) (sym (List·getD-append lines (line ∷ []) none k b)) (good k b))
+    (λ e. subst (GoodLine v T (lengthsOf longer) k) (sym (getD-at lines line [] none k (sym e)))
+    (subst (λ m. GoodLine v T (lengthsOf longer) m line) (sym e) (good-same v T (lengthsOf lines) (lengthsOf longer) (length lines) line kept last)))
+    (λ b. subst (GoodLine v T (lengthsOf longer) k) (sym (List·getD-append lines (line ∷ []) none k b))
+    (good-same v T (lengthsOf lines) (lengthsOf longer) k (lineIn lines k) (λ i a. kept i (le-trans a (le-of-lt b))) (good k b)))
     (below (omega arith))
 
 -- the lines that are read are good, at least one and at most as many as there was room for
@@ -242,11 +276,11 @@ sound-constant v k (Eventually i lower upper) h = tt
 sound-constant v k (Always i lower upper) h = tt
 sound-constant v k (Everywhere i lower upper) h = tt
 
-constants-from : (v T n : ℕ) (lines : List Line) → ((k : ℕ) → k < length lines → GoodLine v T (n + k) (lineIn lines k)) → ConstantsIn (InBits 26) lines
-constants-from v T n [] good = none
-constants-from v T n (line ∷ lines) good =
-    more (sound-constant v (n + 0) (line .operator) (good 0 (omega arith) .sound))
-    (constants-from v T (suc n) lines (λ k h. subst (λ m. GoodLine v T m (lineIn lines k)) (omega arith) (good (suc k) (suc-le-suc h))))
+constants-from : (v : ℕ) (lines : List Line) (n : ℕ) → ((k : ℕ) → k < length lines → Sound v (n + k) (lineIn lines k .operator)) → ConstantsIn (InBits 26) lines
+constants-from v [] n sound = none
+constants-from v (line ∷ lines) n sound =
+    more (sound-constant v (n + 0) (line .operator) (sound 0 (omega arith)))
+    (constants-from v lines (suc n) (λ k h. subst (λ m. Sound v m (lineIn lines k .operator)) (omega arith) (sound (suc k) (suc-le-suc h))))
 
 pub good-constants : (v T : ℕ) (lines : List Line) → GoodTable v T lines → ConstantsIn (InBits 26) lines
-good-constants v T lines good = constants-from v T 0 lines (λ k h. subst (λ m. GoodLine v T m (lineIn lines k)) (sym (zero-add k)) (good k h))
+good-constants v T lines good = constants-from v lines 0 (λ k h. subst (λ m. Sound v m (lineIn lines k .operator)) (sym (zero-add k)) (good k h .sound))

@@ -15,7 +15,7 @@ use Rattle.sheet.specs.Checked.{Checked, accepted, require, wordAt, isKi
 use Rattle.sheet.specs.Layout.{Layout, roadAt, weightAt, firstPlace, secondPlace, roadsFrom, checked}
 use Rattle.sheet.specs.Roads.{GoodRoad}
 use Rattle.sheet.proofs.Checks.{require-e, accepted-inj}
-use Rattle.sheet.proofs.Found.{stages, head-limits}
+use Rattle.sheet.proofs.Whole.{accepted-sheet}
 
 module _ (s : List ℕ) (n : ℕ) where
   -- road r and the roads after it
@@ -68,9 +68,7 @@ module _ (s : List ℕ) (n : ℕ) where
 -- what an accepted sheet gives the distances: good roads, and room for the distances of all places
 pub accepted-roads : (s : List ℕ) (distances : ℕ) (L : Layout) → checked s distances ≡ accepted L
     → ((r : ℕ) → r < L.roads → GoodRoad s (L.sizes.places) r) × (L.sizes.places * L.sizes.places ≤ distances)
-unfolding checked
 accepted-roads s distances L e =
-    let found = stages s distances L e in
-    let few = head-limits s (L.sizes) (found .head) .places .1 in
-    let enough = leb→le leastDistances distances (require-e (leb leastDistances distances) 1 0 _ L e .0) in
-    (λ r h. road-good s (L.sizes.places) (length s) 0 0 (L.roads) (found .roads-read) r zero-le h, omega (arith, mul-le-mul few few))
+    let sheet = accepted-sheet s distances L e in
+    let few = sheet .sizes .places-most in
+    (λ r h. road-good s (L.sizes.places) (length s) 0 0 (L.roads) (sheet .roads) r zero-le h, omega (arith, mul-le-mul few few, sheet .distances))

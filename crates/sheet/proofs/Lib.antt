@@ -6,7 +6,6 @@ pub mod Parts
 pub mod Lines
 pub mod Accepted
 pub mod Whole
-pub mod Found
 pub mod AcceptedLines
 pub mod AcceptedRoads
 pub mod SameLayout
@@ -15,3 +14,4 @@ pub mod RefusalNumbers
 pub mod DistanceStages
 pub mod DistanceStart
 pub mod Surveys
+pub mod Walk

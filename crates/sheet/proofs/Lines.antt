@@ -5,11 +5,12 @@ use mathlib.Core.List.{List, [], _∷_, _++_}
 use mathlib.Core.Path.{_≡_, refl, sym, _∙_, ap, fun-ext}
 use native.Mathlib.Nat.{le-of-suc-le-suc}
 use native.Mathlib.Omega.{arith}
+use lib.Dec.{ltb}
 use lib.ListN.{length, getD, set, replicate, length-append, length-set, length-replicate}
 use borrow.Author.Tests.{lt-ltb}
 use Rattle.logic.specs.Table.{Line, lineIn}
 use Rattle.sheet.specs.Limits.{mostLines}
-use Rattle.sheet.specs.Checked.{accepted, refused, _>>=_, isKind}
+use Rattle.sheet.specs.Checked.{accepted, refused, _>>=_, require, isKind}
 use Rattle.sheet.specs.Lines.{lineAt, linesFrom}
 
 -- ---- the lengths of the lines that were read, in an array that is zero beyond them
@@ -39,15 +40,16 @@ module _ (s : List ℕ) (v T : ℕ) where
   unfolding linesFrom
   lines-over found at kind-5 = simp kind-5
 
-  pub lines-none : (room at : ℕ) → isKind 5 s at ≡ false → linesFrom s v T (suc room) [] at ≡ refused 10 at
+  pub lines-stop : (room : ℕ) (found : List Line) (at : ℕ) → isKind 5 s at ≡ false
+      → linesFrom s v T (suc room) found at ≡ require {A = List Line × ℕ} (ltb 0 (length found)) 10 at (accepted (found, at))
   unfolding linesFrom
-  lines-none room at other = rw (other, linesFrom)
+  lines-stop room found at other = rw (other, linesFrom)
 
   pub lines-end : (room : ℕ) (found : List Line) (at : ℕ) → isKind 5 s at ≡ false → 0 < length found
       → linesFrom s v T room found at ≡ accepted (found, at)
   unfolding linesFrom
   lines-end zero found at other some = simp other
-  lines-end (suc room) found at other some = rw (other, linesFrom) (simp (lt-ltb 0 (length found) some))
+  lines-end (suc room) found at other some = lines-stop room found at other ∙ simp (lt-ltb 0 (length found) some)
 
   pub line-more : (room : ℕ) (found : List Line) (at : ℕ) → isKind 5 s at ≡ true
       → linesFrom s v T (suc room) found at
@@ -73,7 +75,7 @@ module _ (s : List ℕ) (v T start : ℕ) {lengths : List ℕ} {lines at : ℕ} 
   none-found other none = so-far .rest ∙ rw none (empty (so-far .found) (so-far .count ∙ none))
     where
       empty : (found : List Line) → length found ≡ 0 → linesFrom s v T mostLines found at ≡ refused 10 at
-      empty [] e = lines-none s v T 63 at other
+      empty [] e = lines-stop s v T 63 [] at other
       empty (line ∷ found) e = absurd (omega arith)
 
   pub all-found : isKind 5 s at ≡ false → (lines ≡ 0 → ⊥) → linesFrom s v T mostLines [] start ≡ accepted (so-far .found, at)

@@ -4,7 +4,7 @@ use mathlib.Core.Path.{_≡_, refl, sym, ap, ap₂, subst, _∙_}
 use mathlib.Core.Logic.{_⊎_, inl, inr, ⊎-elim}
 use mathlib.Core.Bool.{Bool, true, false, not, _&&_, and-false}
 use mathlib.Core.List.{List, [], _∷_, _++_}
-use Prim.Native.Nat.{ℕ, zero, suc, _+_}
+use Prim.Native.Nat.{ℕ, zero, suc, _+_, _-_}
 use native.Mathlib.Omega.{arith}
 use lib.Dec.{T, eqb, ltb}
 use lib.ListN.{length}
@@ -17,20 +17,8 @@ use Rattle.sheet.specs.Lines.{constantAt, boundsAt, operatorBy, operator
 use Rattle.sheet.specs.Layout.{Sizes, Layout, headSizes, headChecked, roadAt, weightAt, firstPlace, secondPlace, roadsFrom, samplesFrom, sampleCount}
 use Rattle.sheet.specs.Apart.{SamplesApart, SamplesNear}
 use Rattle.sheet.proofs.Checks.{require-e, accepted-inj}
-use Rattle.sheet.proofs.Found.{Stages}
-
-pub samples-end : (s : List ℕ) (count at next : ℕ) → samplesFrom s count at ≡ accepted next → next ≡ at + count
-unfolding samplesFrom
-samples-end s zero at next e = let same = accepted-inj at next e in omega arith
-samples-end s (suc count) at next e =
-    let clear : Bool = eqb (bits 27 1 (wordAt s at)) 0 in
-    let rest = require-e (isKind 4 s at) 8 at (require clear 9 at (samplesFrom s count (at + 1))) next e .1 in
-    let onward = samples-end s count (at + 1) next (require-e clear 9 at (samplesFrom s count (at + 1)) next rest .1) in
-    omega arith
-
--- where the lines begin, of an accepted sheet
-lines-begin : (s : List ℕ) (L : Layout) (x : Stages s L) → x .linesAt ≡ roadAt (L.roads) + sampleCount (L.sizes)
-lines-begin s L x = samples-end s (sampleCount (L.sizes)) (roadAt (L.roads)) (x .linesAt) (x .samples-read)
+use Rattle.sheet.specs.Checking.{layoutOf}
+use Rattle.sheet.proofs.Whole.{AcceptedSheet}
 
 untrue : (t : Bool) → T (not t) → t ≡ false
 untrue true h = absurd h
@@ -140,12 +128,12 @@ module _ (d : ℕ) (X Y : List ℕ) (apart : SamplesApart d X Y) where
       (λ h. bind-same _ _ _ _ (line-same v T (length lines) (λ i. lineIn lines i .length) at (word-same 5 at tt h)) (λ read. lines-same v T room (lines ++ (read .0 ∷ [])) (read .1)))
 
   -- ---- the whole
-  pub same-layout : (L M : Layout) → Stages X L → Stages Y M → L ≡ M
-  same-layout L M x y =
+  pub same-layout : (dx dy : ℕ) (L M : Layout) → AcceptedSheet X dx L → AcceptedSheet Y dy M → L ≡ M
+  same-layout dx dy L M x y =
       let sizes = accepted-inj (L.sizes) (M.sizes) (sym (x .head) ∙ head-same ∙ y .head) in
-      let roads = accepted-inj (L.roads) (M.roads) (sym (x .roads-read) ∙ roads-same (L.sizes.places) (length X) 0 0
-      ∙ ap₂ (λ (z : Sizes) (n : ℕ). roadsFrom Y (z .places) n 0 0) sizes apart.same-length ∙ y .roads-read) in
-      let begins : x .linesAt ≡ y .linesAt = lines-begin X L x ∙ ap₂ (λ (r : ℕ) (z : Sizes). roadAt r + sampleCount z) roads sizes ∙ sym (lines-begin Y M y) in
-      let found = accepted-inj (L.lines, x .endAt) (M.lines, y .endAt) (sym (x .lines-read) ∙ lines-same (L.sizes.signals) (L.sizes.samples) mostLines [] (x .linesAt)
-      ∙ ap₂ (λ (z : Sizes) (at : ℕ). linesFrom Y (z .signals) (z .samples) mostLines [] at) sizes begins ∙ y .lines-read) in
+      let roads = accepted-inj (L.roads) (M.roads) (sym (x .roads) ∙ roads-same (L.sizes.places) (length X) 0 0
+      ∙ ap₂ (λ (z : Sizes) (n : ℕ). roadsFrom Y (z .places) n 0 0) sizes apart.same-length ∙ y .roads) in
+      let begins : layoutOf L .table ≡ layoutOf M .table = ap₂ (λ (r : ℕ) (z : Sizes). roadAt r + sampleCount z) roads sizes in
+      let found = accepted-inj (L.lines, length X - 1) (M.lines, length Y - 1) (sym (x .table) ∙ lines-same (L.sizes.signals) (L.sizes.samples) mostLines [] (layoutOf L .table)
+      ∙ ap₂ (λ (z : Sizes) (at : ℕ). linesFrom Y (z .signals) (z .samples) mostLines [] at) sizes begins ∙ y .table) in
       λ i. record { sizes = sizes i; roads = roads i; lines = found i .0 }

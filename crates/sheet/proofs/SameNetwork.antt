@@ -17,7 +17,7 @@ use Rattle.sheet.specs.Checked.{wordAt}
 use Rattle.sheet.specs.Layout.{Layout, roadAt, weightAt, firstPlace, secondPlace}
 use Rattle.sheet.specs.Roads.{GoodRoad, joins, weightAmong, network, recording}
 use Rattle.sheet.specs.Apart.{SamplesApart, SamplesNear}
-use Rattle.sheet.proofs.Found.{Stages}
+use Rattle.sheet.proofs.Whole.{AcceptedSheet}
 use Rattle.sheet.proofs.AcceptedRoads.{road-good}
 use Rattle.sheet.proofs.SameLayout.{word-same}
 
@@ -32,12 +32,12 @@ weightOr w v a b others = elim (eqb (firstPlace w) a && eqb (secondPlace w) b ||
   | false ↦ others
 ]
 
-module _ (d : ℕ) (X Y : List ℕ) (apart : SamplesApart d X Y) (L : Layout) (y : Stages Y L) where
+module _ (d : ℕ) (X Y : List ℕ) (apart : SamplesApart d X Y) (dy : ℕ) (L : Layout) (y : AcceptedSheet Y dy L) where
   weight-same : (r : ℕ) → r ≤ L.roads → (a b : ℕ) → weightAmong X r a b ≡ weightAmong Y r a b
   unfolding weightAmong joins
   weight-same zero h a b = refl
   weight-same (suc r) h a b =
-      let good : GoodRoad Y (L.sizes.places) r = road-good Y (L.sizes.places) (length Y) 0 0 (L.roads) (y .roads-read) r zero-le h in
+      let good : GoodRoad Y (L.sizes.places) r = road-good Y (L.sizes.places) (length Y) 0 0 (L.roads) (y .roads) r zero-le h in
       let road = word-same d X Y apart 2 (roadAt r) tt (good .road) in
       let weight = word-same d X Y apart 3 (weightAt r) tt (good .weight) in
       let others = weight-same r (le-of-lt h) a b in

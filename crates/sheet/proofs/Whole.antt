@@ -1,27 +1,32 @@
 -- The whole check from its parts: how the last parts decide it, and what its acceptance tells of each part.
-use Prim.Native.Nat.{ℕ, _+_}
+use Prim.Native.Nat.{ℕ, _+_, _-_, _/_, _<_, _≤_}
 use mathlib.Core.Bool.{true}
 use mathlib.Core.List.{List, []}
-use mathlib.Core.Path.{_≡_, _∙_, ap}
+use mathlib.Core.Path.{_≡_, sym, _∙_, ap, ap₂, subst}
+use native.Mathlib.Omega.{arith}
 use lib.Dec.{leb}
 use lib.ListN.{length}
+use borrow.Author.Tests.{leb-true}
 use Rattle.logic.specs.Table.{Line}
 use Rattle.sheet.specs.declared.check.Layout as Code
 use Rattle.sheet.specs.Limits.{mostLines, leastDistances}
-use Rattle.sheet.specs.Checked.{accepted, refused, _>>=_}
+use Rattle.sheet.specs.Checked.{Checked, accepted, refused, _>>=_}
 use Rattle.sheet.specs.Lines.{linesFrom}
-use Rattle.sheet.specs.Layout.{Sizes, Layout, roadAt, sampleCount, headChecked, roadsFrom, samplesFrom, endChecked, checked}
+use Rattle.sheet.specs.Layout.{Sizes, Layout, roadAt, weightAt, sampleCount, headChecked, roadsFrom, samplesFrom, endChecked, checked}
 use Rattle.sheet.specs.Checking.{mapped, lineCount, layoutOf}
-use Rattle.sheet.proofs.Checks.{mapped-accepted, mapped-refused, mapped-twice}
-use Rattle.sheet.proofs.Accepted.{samples-accepted, end-mapped}
+use Rattle.sheet.proofs.Checks.{require-accepted, bind-accepted, mapped-accepted, mapped-refused, mapped-twice}
+use Rattle.sheet.proofs.Accepted.{SizesWithin, head-accepted, samples-end, end-accepted, end-mapped}
+use Rattle.sheet.proofs.Walk.{lines-counted}
 
-module _ (s : List ℕ) (d : ℕ) (enough : leb leastDistances d ≡ true) {z : Sizes} {roads table : ℕ}
-    (head : headChecked s ≡ accepted z) (roads-found : roadsFrom s (z .places) (length s) 0 0 ≡ accepted roads)
-    (samples : samplesFrom s (sampleCount z) (roadAt roads) ≡ accepted table) where
+-- ---- the lines and the end, where what stands before them has passed
+
+module _ (s : List ℕ) (d : ℕ) (enough : leb leastDistances d ≡ true) {z : Sizes} {roads recording table : ℕ}
+    (head : headChecked s ≡ accepted z) (roads-found : roadsFrom s (z .places) (length s) 0 0 ≡ accepted roads) (begins : roadAt roads ≡ recording)
+    (samples : samplesFrom s (sampleCount z) recording ≡ accepted table) where
   lines-next : checked s d
       ≡ (linesFrom s (z .signals) (z .samples) mostLines [] table >>= λ found. endChecked s (found .1) (record { sizes = z; roads = roads; lines = found .0 }))
   unfolding checked
-  lines-next = simp (enough, head, roads-found, samples)
+  lines-next = simp (enough, head, roads-found, begins, samples)
 
   pub lines-refused : {number place : ℕ} → mapped lineCount (linesFrom s (z .signals) (z .samples) mostLines [] table) ≡ refused number place
       → checked s d ≡ refused number place
@@ -31,26 +36,73 @@ module _ (s : List ℕ) (d : ℕ) (enough : leb leastDistances d ≡ true) {z : 
       → checked s d ≡ endChecked s (read .1) (record { sizes = z; roads = roads; lines = read .0 })
   end-read read e = lines-next ∙ simp e
 
-  abbrev layout : ℕ → Code.Layout
-  layout lines = record {
+  -- the layout as the code has it
+  abbrev layout : ℕ → ℕ → ℕ → ℕ → Code.Layout
+  layout roads lines recording table = record {
     places = z .places;
     signals = z .signals;
     samples = z .samples;
     roads = roads;
     lines = lines;
-    recording = roadAt roads;
+    recording = recording;
     table = table;
   }
 
   pub end-next : {lines next : ℕ} → mapped lineCount (linesFrom s (z .signals) (z .samples) mostLines [] table) ≡ accepted (lines, next)
-      → mapped layoutOf (checked s d) ≡ mapped (λ _. layout lines) (endChecked s next next)
+      → mapped layoutOf (checked s d) ≡ mapped (λ _. layout ((recording - 1) / 2) lines recording table) (endChecked s next next)
   end-next {lines} {next} e =
       let found = mapped-accepted lineCount (linesFrom s (z .signals) (z .samples) mostLines [] table) e in
       let read : List Line × ℕ = found .0 in
       let spec : Layout = record { sizes = z; roads = roads; lines = read .0 } in
       let ends : read .1 ≡ next = ap (λ (p : ℕ × ℕ). p .1) (found .2) in
       let count : length (read .0) ≡ lines = ap (λ (p : ℕ × ℕ). p .0) (found .2) in
-      let begins : table ≡ roadAt roads + sampleCount z = samples-accepted s (sampleCount z) (roadAt roads) samples .0 in
-      let same : layoutOf spec ≡ layout lines = rw (← begins, count) in
+      let road-count : roads ≡ (recording - 1) / 2 = omega arith in
+      let after : roadAt roads + sampleCount z ≡ table = ap (λ (n : ℕ). n + sampleCount z) begins ∙ sym (samples-end s (sampleCount z) recording samples) in
+      let same : layoutOf spec ≡ layout ((recording - 1) / 2) lines recording table =
+      ap (λ (n : ℕ). layout n (length (read .0)) (roadAt roads) (roadAt roads + sampleCount z)) road-count
+      ∙ ap (λ (n : ℕ). layout ((recording - 1) / 2) n (roadAt roads) (roadAt roads + sampleCount z)) count
+      ∙ ap₂ (layout ((recording - 1) / 2) lines) begins after in
       ap (mapped layoutOf) (end-read read (found .1) ∙ end-mapped s (read .1) next spec) ∙ mapped-twice layoutOf (λ _. spec) (endChecked s (read .1) next)
       ∙ rw (same, ends)
+
+-- ---- what acceptance tells
+
+pub record AcceptedSheet (s : List ℕ) (d : ℕ) (L : Layout) : Type 0 where
+  pub distances : leastDistances ≤ d
+  pub head : headChecked s ≡ accepted (L.sizes)
+  pub sizes : SizesWithin (L.sizes)
+  pub roads : roadsFrom s (L.sizes.places) (length s) 0 0 ≡ accepted (L.roads)
+  -- the samples stand from `recording` on, the lines from `table` on, the end word is the last
+  pub recording : samplesFrom s (sampleCount (L.sizes)) (layoutOf L .recording) ≡ accepted (layoutOf L .table)
+  pub table : linesFrom s (L.sizes.signals) (L.sizes.samples) mostLines [] (layoutOf L .table) ≡ accepted (L.lines, length s - 1)
+  pub table-there : layoutOf L .table < length s
+  pub lines-some : 1 ≤ length (L.lines)
+  pub lines-most : length (L.lines) ≤ mostLines
+
+pub accepted-sheet : (s : List ℕ) (d : ℕ) (L : Layout) → checked s d ≡ accepted L → AcceptedSheet s d L
+unfolding checked
+accepted-sheet s d L e =
+    let enough = require-accepted (leb leastDistances d) 1 0 _ e in
+    let head = bind-accepted (headChecked s) _ (enough .1) in
+    let z = head .0 in
+    let roads = bind-accepted (roadsFrom s (z .places) (length s) 0 0) _ (head .2) in
+    let samples = bind-accepted (samplesFrom s (sampleCount z) (roadAt (roads .0))) _ (roads .2) in
+    let lines = bind-accepted (linesFrom s (z .signals) (z .samples) mostLines [] (samples .0)) _ (samples .2) in
+    let ends = end-accepted s (lines .0 .1) _ (lines .2) in
+    let begins : samples .0 ≡ roadAt (roads .0) + sampleCount z = samples-end s (sampleCount z) (roadAt (roads .0)) (samples .1) in
+    let last : lines .0 .1 ≡ length s - 1 = omega (arith, ends .0) in
+    let counted = lines-counted s (z .signals) (z .samples) (samples .0) (lines .1) in
+    let ended : ℕ → Checked (List Line × ℕ) = λ n. accepted (lines .0 .0, n) in
+    let found : Layout = record { sizes = z; roads = roads .0; lines = lines .0 .0 } in
+    let sheet : AcceptedSheet s d found = record {
+      distances = leb-true _ _ (enough .0);
+      head = head .1;
+      sizes = head-accepted s (head .1);
+      roads = roads .1;
+      recording = samples .1 ∙ ap accepted begins;
+      table = ap (linesFrom s (z .signals) (z .samples) mostLines []) (sym begins) ∙ lines .1 ∙ ap ended last;
+      table-there = subst (λ (n : ℕ). n < length s) begins (counted .2);
+      lines-some = counted .0;
+      lines-most = counted .1;
+    } in
+    subst (AcceptedSheet s d) (ends .1) sheet

@@ -43,11 +43,10 @@ pub fn check_sheet(s: &[u8], distances: usize) -> Check
         Head::Refused(fault, place) => return Check::Refused(fault, place),
         Head::Sizes(sizes) => sizes,
     };
-    let roads = match check_roads(s, sizes.places) {
+    let recording = match check_roads(s, sizes.places) {
         Stage::Refused(fault, place) => return Check::Refused(fault, place),
-        Stage::Passed(roads) => roads,
+        Stage::Passed(after) => after,
     };
-    let recording = 1 + 2 * roads;
     let count = sizes.signals * sizes.places * sizes.samples;
     let table = match check_samples(s, recording, count) {
         Stage::Refused(fault, place) => return Check::Refused(fault, place),
@@ -61,7 +60,8 @@ pub fn check_sheet(s: &[u8], distances: usize) -> Check
                 places: sizes.places,
                 signals: sizes.signals,
                 samples: sizes.samples,
-                roads,
+                // after the head, two words for each road
+                roads: (recording - 1) / 2,
                 lines,
                 recording,
                 table,

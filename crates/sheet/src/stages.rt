@@ -15,7 +15,7 @@ ghost use Rattle.words.specs.Bytes.{wordsOf};
 ghost use Rattle.sheet.specs.Limits.{mostSamples, mostLines};
 ghost use Rattle.sheet.specs.Checked.{between};
 ghost use Rattle.sheet.specs.Lines.{linesFrom};
-ghost use Rattle.sheet.specs.Layout.{headChecked, roadsFrom, samplesFrom, endChecked};
+ghost use Rattle.sheet.specs.Layout.{roadAt, headChecked, roadsFrom, samplesFrom, endChecked};
 ghost use Rattle.sheet.specs.Checking.{sizesOf, headSaid, stageSaid, tableSaid, mapped, lineCount, roadChecked};
 
 pub struct Sizes {
@@ -29,7 +29,7 @@ pub enum Head {
     Refused(Fault, usize),
 }
 
-// What a part told, where one number says it: the count of roads, the index after the samples.
+// One number that a part tells: the payload of a road, the index after all roads or after the samples, the index of the end.
 pub enum Stage {
     Passed(usize),
     Refused(Fault, usize),
@@ -108,11 +108,10 @@ fn check_road(s: &[u8], at: usize, places: usize, last: usize) -> Stage
     Stage::Passed(payload)
 }
 
-// How many roads there are: the first word of another kind ends them.
+// The roads, from the word after the head on: the first word of another kind ends them.
 pub(crate) fn check_roads(s: &[u8], places: usize) -> Stage
-    ensures { λ r. ⌜ stageSaid r ≡ roadsFrom (wordsOf (now (s .entry))) places (length (wordsOf (now (s .entry)))) 0 0 ⌝ }
+    ensures { λ r. ⌜ stageSaid r ≡ mapped roadAt (roadsFrom (wordsOf (now (s .entry))) places (length (wordsOf (now (s .entry)))) 0 0) ⌝ }
 {
-    let mut roads: usize = 0;
     let mut at: usize = 1;
     let mut last: usize = 0;
     while words::kind(word_or_zero(s, at)) == 2 {
@@ -121,11 +120,10 @@ pub(crate) fn check_roads(s: &[u8], places: usize) -> Stage
             Stage::Passed(payload) => {
                 last = payload;
                 at += 2;
-                roads += 1;
             }
         }
     }
-    Stage::Passed(roads)
+    Stage::Passed(at)
 }
 
 // So many samples from an index on.
@@ -136,7 +134,8 @@ pub(crate) fn check_samples(s: &[u8], start: usize, count: usize) -> Stage
     let mut left = count;
     while 0 < left {
         let w = word_or_zero(s, at);
-        if words::kind(w) != 4 {
+        let kind = words::kind(w);
+        if kind != 4 {
             return Stage::Refused(Fault::NotSample, at);
         }
         if w / 134217728 % 2 != 0 {

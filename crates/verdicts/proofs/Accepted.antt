@@ -2,7 +2,7 @@
 use mathlib.Core.Path.{_≡_, refl, sym, ap, subst, _∙_}
 use mathlib.Core.Bool.{Bool, true, false, cond, _&&_}
 use mathlib.Core.List.{List}
-use Prim.Native.Nat.{ℕ, _+_, _*_, _≤_}
+use Prim.Native.Nat.{ℕ, _+_, _-_, _*_, _≤_}
 use native.Mathlib.Omega.{arith}
 use lib.Dec.{T, ltb, leb}
 use lib.ListN.{length}
@@ -14,7 +14,9 @@ use Rattle.sheet.specs.Limits.{mostLines}
 use Rattle.sheet.specs.Checked.{Checked, accepted, refused, between, wordAt}
 use Rattle.sheet.specs.Layout.{Layout, roadAt, checked}
 use Rattle.sheet.specs.Roads.{network, recording}
-use Rattle.sheet.proofs.Found.{Stages, stages, InLimits, head-limits}
+use Rattle.sheet.specs.Checking.{layoutOf}
+use Rattle.sheet.proofs.Accepted.{SizesWithin}
+use Rattle.sheet.proofs.Whole.{AcceptedSheet}
 use Rattle.sheet.proofs.AcceptedLines.{sample-bits, GoodLines, good-length, table-good, good-constants}
 use Rattle.sheet.proofs.RefusalNumbers.{Numbered, accepts, refuses, check-numbered}
 use Rattle.values.specs.Said.{Said, says, nothing}
@@ -59,54 +61,54 @@ looked : (t : Bool) (number : ℕ) → T t → cond t number 0 ≡ number
 looked true number h = refl
 looked false number h = absurd h
 
-module _ (s : List ℕ) (L : Layout) (read : Stages s L) where
-  limits : InLimits (L.sizes)
-  limits = head-limits s (L.sizes) (read .head)
+module _ (s : List ℕ) (distances : ℕ) (L : Layout) (sheet : AcceptedSheet s distances L) where
+  limits : SizesWithin (L.sizes)
+  limits = sheet .sizes
 
   table : GoodLines (L.sizes.signals) (L.sizes.samples) mostLines (L.lines)
-  table = table-good s (L.sizes.signals) (L.sizes.samples) (read .linesAt) (L.lines, read .endAt) (read .lines-read)
+  table = table-good s (L.sizes.signals) (L.sizes.samples) (layoutOf L .table) (L.lines, length s - 1) (sheet .table)
 
   fields : InFields (L.sizes.places) (L.sizes.samples) (L.lines)
   fields = record {
-    places = omega (arith, limits .places .1);
+    places = omega (arith, limits .places-most);
     count = omega (arith, table .bound);
-    samples = omega (arith, limits .samples .1);
-    lengths = λ i. omega (arith, good-length (L.sizes.signals) (L.sizes.samples) (L.lines) (table .good) i, limits .samples .1);
+    samples = omega (arith, limits .samples-most);
+    lengths = λ i. omega (arith, good-length (L.sizes.signals) (L.sizes.samples) (L.lines) (table .good) i, limits .samples-most);
   }
 
   -- the answer says what is meant, and nothing elsewhere
-  pub answered-says : (distances answer i t l : ℕ) → saidAt (answered s distances answer L .answer) i t l
+  pub answered-says : (answer i t l : ℕ) → saidAt (answered s distances answer L .answer) i t l
       ≡ cond (ltb i (length (L.lines)) && (ltb t (lineIn (L.lines) i .length) && ltb l (L.sizes.places)))
       (says (valueAt verdicts (network s L) (recording s L) (L.lines) i t l) (valueAt margins (network s L) (recording s L) (L.lines) i t l)) nothing
   unfolding answered network recording
-  answered-says distances answer = answer-says (network s L) (L.sizes.samples) (recording s L) (L.lines) answer fields
+  answered-says answer = answer-says (network s L) (L.sizes.samples) (recording s L) (L.lines) answer fields
       (λ signal t l. sample-bits (wordAt s (roadAt (L.roads) + ((t * L.sizes.places + l) * L.sizes.signals + signal))))
       (good-constants (L.sizes.signals) (L.sizes.samples) (L.lines) (table .good))
 
   sizes : InAnswer (L.sizes.places) (L.sizes.samples) (L.lines)
   sizes = record {
-    places = limits .places;
-    samples = limits .samples;
+    places = (limits .places-some, limits .places-most);
+    samples = (limits .samples-some, limits .samples-most);
     count = (table .some, table .bound);
     lengths = λ i h. (table .good i h .least, table .good i h .most);
   }
 
-  whole : (distances answer : ℕ) → T (wholeAnswer (answered s distances answer L .answer))
+  whole : (answer : ℕ) → T (wholeAnswer (answered s distances answer L .answer))
   unfolding answered network recording
-  whole distances answer = answer-whole (network s L) (L.sizes.samples) (recording s L) (L.lines) answer fields
+  whole answer = answer-whole (network s L) (L.sizes.samples) (recording s L) (L.lines) answer fields
       (λ signal t l. sample-bits (wordAt s (roadAt (L.roads) + ((t * L.sizes.places + l) * L.sizes.signals + signal))))
       (good-constants (L.sizes.signals) (L.sizes.samples) (L.lines) (table .good)) sizes
 
   -- so the lookup gives the verdict that is meant, and 0 elsewhere
-  pub answered-lookup : (distances answer i t l : ℕ) → lookedUp (answered s distances answer L .answer) i t l
+  pub answered-lookup : (answer i t l : ℕ) → lookedUp (answered s distances answer L .answer) i t l
       ≡ verdictNumber (cond (ltb i (length (L.lines)) && (ltb t (lineIn (L.lines) i .length) && ltb l (L.sizes.places)))
       (says (valueAt verdicts (network s L) (recording s L) (L.lines) i t l) (valueAt margins (network s L) (recording s L) (L.lines) i t l)) nothing)
   unfolding lookedUp
-  answered-lookup distances answer i t l =
-      looked (wholeAnswer (answered s distances answer L .answer)) (verdictNumber (saidAt (answered s distances answer L .answer) i t l)) (whole distances answer)
-      ∙ ap verdictNumber (answered-says distances answer i t l)
+  answered-lookup answer i t l =
+      looked (wholeAnswer (answered s distances answer L .answer)) (verdictNumber (saidAt (answered s distances answer L .answer) i t l)) (whole answer)
+      ∙ ap verdictNumber (answered-says answer i t l)
 
   -- rounds are at most n
-  pub answered-rounds : (distances answer : ℕ) → answered s distances answer L .result .rounds ≤ L.sizes.places
+  pub answered-rounds : (answer : ℕ) → answered s distances answer L .result .rounds ≤ L.sizes.places
   unfolding answered network
-  answered-rounds distances answer = rounds-at-most-places (network s L) (recording s L) (L.lines) (limits .places .0)
+  answered-rounds answer = rounds-at-most-places (network s L) (recording s L) (L.lines) (limits .places-some)

@@ -17,7 +17,7 @@ use Rattle.logic.proofs.Agreement.{agreement, same-verdict}
 use Rattle.sheet.specs.Layout.{Layout}
 use Rattle.sheet.specs.Roads.{network, recording}
 use Rattle.sheet.specs.Apart.{SamplesApart}
-use Rattle.sheet.proofs.Found.{Stages, stages}
+use Rattle.sheet.proofs.Whole.{AcceptedSheet, accepted-sheet}
 use Rattle.sheet.proofs.SameLayout.{same-layout}
 use Rattle.sheet.proofs.SameNetwork.{network-same, recordings-near}
 use Rattle.values.specs.Said.{Said, says, nothing}
@@ -43,31 +43,31 @@ both d false v w m k h = tt
 
 module _ (d : ℕ) (X Y : List ℕ) (apart : SamplesApart d X Y) where
   -- the same, with what the check of the two sheets has found
-  found-steady : (L : Layout) → Stages X L → Stages Y L → (dx ax dy ay i t l : ℕ)
+  found-steady : (dx dy : ℕ) (L : Layout) → AcceptedSheet X dx L → AcceptedSheet Y dy L → (ax ay i t l : ℕ)
       → Steady d (saidAt (answered X dx ax L .answer) i t l) (saidAt (answered Y dy ay L .answer) i t l)
   unfolding network
-  found-steady L x y dx ax dy ay i t l =
+  found-steady dx dy L x y ax ay i t l =
       let N : Network = network X L in
       let lines : List Line = L.lines in
       let there : Bool = ltb i (length lines) && (ltb t (lineIn lines i .length) && ltb l (L.sizes.places)) in
       let place : T there → l < L.sizes.places =
       λ h. ltb→lt l (L.sizes.places) (and-r (ltb t (lineIn lines i .length)) _ (and-r (ltb i (length lines)) _ h)) in
-      subst₂ (Steady d) (sym (answered-says X L x dx ax i t l)) (sym (answered-says Y L y dy ay i t l))
+      subst₂ (Steady d) (sym (answered-says X dx L x ax i t l)) (sym (answered-says Y dy L y ay i t l))
       (both d there _ _ _ _ (λ h. subst
       (λ (M : Network). SteadyVerdicts d (valueAt verdicts N (recording X L) lines i t l) (valueAt verdicts M (recording Y L) lines i t l)
       (valueAt margins N (recording X L) lines i t l) (valueAt margins M (recording Y L) lines i t l))
-      (network-same d X Y apart L y)
-      (meant-steady d N (recording X L) (recording Y L) (recordings-near d X Y apart L y) lines i t l (place h))))
+      (network-same d X Y apart dy L y)
+      (meant-steady d N (recording X L) (recording Y L) (recordings-near d X Y apart dy L y) lines i t l (place h))))
 
   pub steadiness : (dx ax dy ay : ℕ) → judged X dx ax .result .number ≡ 0 → judged Y dy ay .result .number ≡ 0
       → (i t l : ℕ) → Steady d (saidAt (judged X dx ax .answer) i t l) (saidAt (judged Y dy ay .answer) i t l)
   steadiness dx ax dy ay zx zy i t l =
       let x : Answered X dx ax = accepted-answered X dx ax zx in
       let y : Answered Y dy ay = accepted-answered Y dy ay zy in
-      let inX : Stages X (x .layout) = stages X dx (x .layout) (x .found) in
-      let inY : Stages Y (y .layout) = stages Y dy (y .layout) (y .found) in
-      let same : x .layout ≡ y .layout = same-layout d X Y apart (x .layout) (y .layout) inX inY in
+      let inX : AcceptedSheet X dx (x .layout) = accepted-sheet X dx (x .layout) (x .found) in
+      let inY : AcceptedSheet Y dy (y .layout) = accepted-sheet Y dy (y .layout) (y .found) in
+      let same : x .layout ≡ y .layout = same-layout d X Y apart dx dy (x .layout) (y .layout) inX inY in
       subst₂ (λ (a b : List ℕ). Steady d (saidAt a i t l) (saidAt b i t l))
       (sym (ap (λ (j : Judged). j .answer) (x .left)))
       (sym (ap (λ (j : Judged). j .answer) (y .left ∙ ap (answered Y dy ay) (sym same))))
-      (found-steady (x .layout) inX (subst (Stages Y) (sym same) inY) dx ax dy ay i t l)
+      (found-steady dx dy (x .layout) inX (subst (AcceptedSheet Y dy) (sym same) inY) ax ay i t l)

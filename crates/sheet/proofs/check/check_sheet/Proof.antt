@@ -1,21 +1,22 @@
--- Each part decides one step of the definition, in its order.
+-- Each part decides one step of the definition, in its order. The places are named by what has passed there.
 use mathlib.Core.Path.{_≡_, sym, _∙_, ap}
-use Prim.Native.Nat.{_≤_}
+use Prim.Native.Nat.{ℕ, _-_, _/_}
 use mathlib.Core.Bool.{true}
-use mathlib.Core.List.{[]}
+use mathlib.Core.List.{List, []}
 use native.Mathlib.Omega.{arith}
 use lib.Dec.{leb}
 use lib.ListN.{length}
 use borrow.Author.Tests.{le-leb, lt-leb}
 use Rattle.words.specs.Bytes.{wordsOf}
-use Rattle.words.proofs.Words.{words-count}
 use Rattle.sheet.specs.declared.check.Layout as Code
+use Rattle.sheet.specs.declared.stages.Sizes.{Sizes}
 use Rattle.sheet.specs.Limits.{mostLines, leastDistances}
 use Rattle.sheet.specs.Checked.{accepted}
 use Rattle.sheet.specs.Lines.{linesFrom}
 use Rattle.sheet.specs.Layout.{roadAt, sampleCount, headChecked, roadsFrom, samplesFrom, endChecked, checked}
 use Rattle.sheet.specs.Checking.{sizesSaid, headSaid, stageSaid, tableSaid, mapped, lineCount, layoutOf}
-use Rattle.sheet.proofs.Accepted.{SizesWithin, head-accepted, sample-count, roads-within}
+use Rattle.sheet.proofs.Accepted.{SizesWithin, head-accepted, sample-count}
+use Rattle.sheet.proofs.Checks.{mapped-accepted, mapped-refused}
 use Rattle.sheet.proofs.Whole.{lines-refused, end-next}
 use borrow.Author.Needs.{needs}
 use Rattle.sheet.proofs.check.check_sheet.Statement.{statement}
@@ -31,11 +32,31 @@ check-head-requires c κs = search needs
 enum-known-fault : tie.Need-enum-known-fault
 enum-known-fault c = search needs
 
+-- ---- the head has passed
+
+abbrev tested : tie.After-known-told2 → tie.Else1
+tested c = c .before .before .before .before
+
+abbrev bytes : tie.After-known-told2 → List ℕ
+bytes c = c .before .before .before .before .before .before .args .s .now
+
+abbrev sheet : tie.After-known-told2 → List ℕ
+sheet c = wordsOf (bytes c)
+
+abbrev lent : tie.After-known-told2 → ℕ
+lent c = c .before .before .before .before .before .before .args .distances
+
+abbrev sizes : tie.After-known-told2 → Sizes
+sizes c = c .before .sizes .given .0 .0
+
 enough : (c : tie.Else1) → leb leastDistances (c .before .before .args .distances) ≡ true
 enough c = le-leb _ _ (c .if1 .left)
 
-head-found : (c : tie.After-known-told2) → headChecked (wordsOf (c .before .before .before .before .before .before .args .s .now)) ≡ accepted (sizesSaid (c .before .sizes .given .0 .0))
+head-found : (c : tie.After-known-told2) → headChecked (sheet c) ≡ accepted (sizesSaid (sizes c))
 head-found c = sym (c .before .before .before .check-head .ensures) ∙ ap headSaid (c .before .sizes .given .1)
+
+within : (c : tie.After-known-told2) → SizesWithin (sizesSaid (sizes c))
+within c = head-accepted (sheet c) (head-found c)
 
 returns-2 : tie.Need-returns-2
 unfolding checked
@@ -52,34 +73,35 @@ enum-known-fault-2 c = search needs
 
 returns-3 : tie.Need-returns-3
 unfolding checked
-returns-3 c = simp (enough (c .before .before .before .before .before .before .before .before), head-found (c .before .before .before .before), sym (c .before .before .before .check-roads .ensures) ∙ ap stageSaid (c .before .fault2 .given .1))
+returns-3 c =
+    let head = c .before .before .before .before in
+    let refused-roads = mapped-refused roadAt (roadsFrom (sheet head) (sizes head .places) (length (sheet head)) 0 0)
+    (sym (c .before .before .before .check-roads .ensures) ∙ ap stageSaid (c .before .fault2 .given .1)) in
+    simp (enough (tested head), head-found head, refused-roads)
 
-enum-known-roads : tie.Need-enum-known-roads
-enum-known-roads c = search needs
+enum-known-after : tie.Need-enum-known-after
+enum-known-after c = search needs
 
-roads-found : (c : tie.After-known-told4)
-    → roadsFrom (wordsOf (c .before .before .before .before .before .before .before .before .before .before .args .s .now)) (c .before .before .before .before .before .sizes .given .0 .0 .places) (length (wordsOf (c .before .before .before .before .before .before .before .before .before .before .args .s .now))) 0 0 ≡ accepted (c .before .roads .given .0 .0)
-roads-found c = sym (c .before .before .before .check-roads .ensures) ∙ ap stageSaid (c .before .roads .given .1)
+-- ---- the roads have passed
 
-within : (c : tie.After-known-told4) → SizesWithin (sizesSaid (c .before .before .before .before .before .sizes .given .0 .0))
-within c = head-accepted (wordsOf (c .before .before .before .before .before .before .before .before .before .before .args .s .now)) (head-found (c .before .before .before .before)) .1
+abbrev to-head : tie.After-known-told4 → tie.After-known-told2
+to-head c = c .before .before .before .before
 
-fits : (c : tie.After-known-told4) → roadAt (c .before .roads .given .0 .0) ≤ length (wordsOf (c .before .before .before .before .before .before .before .before .before .before .args .s .now))
-fits c =
-    let w = (wordsOf (c .before .before .before .before .before .before .before .before .before .before .args .s .now)) in
-    roads-within w (c .before .before .before .before .before .sizes .given .0 .0 .places) (length w) 0 0 (roads-found c) (head-accepted w (head-found (c .before .before .before .before)) .0)
+abbrev recording : tie.After-known-told4 → ℕ
+recording c = c .before .after .given .0 .0
 
-mul-recording : tie.Need-mul-recording
-mul-recording c = let there = fits c in omega (arith, words-count (c .before .before .before .before .before .before .before .before .before .before .args .s .now))
-
-add-recording : tie.Need-add-recording
-add-recording c = let there = fits c in omega (arith, words-count (c .before .before .before .before .before .before .before .before .before .before .args .s .now))
+roads-passed : (c : tie.After-known-told4)
+    → (r : ℕ) × (roadsFrom (sheet (to-head c)) (sizes (to-head c) .places) (length (sheet (to-head c))) 0 0 ≡ accepted r) × (roadAt r ≡ recording c)
+roads-passed c =
+    let head = to-head c in
+    mapped-accepted roadAt (roadsFrom (sheet head) (sizes head .places) (length (sheet head)) 0 0)
+    (sym (c .before .before .before .check-roads .ensures) ∙ ap stageSaid (c .before .after .given .1))
 
 mul-count : tie.Need-mul-count
-mul-count c = let few = sample-count (within (c .before)) in omega arith
+mul-count c = let few = sample-count (within (to-head (c .before))) in omega arith
 
 mul-count-2 : tie.Need-mul-count-2
-mul-count-2 c = let few = sample-count (within (c .before .before)) in omega arith
+mul-count-2 c = let few = sample-count (within (to-head (c .before .before))) in omega arith
 
 check-samples-requires : tie.Need-check-samples-requires
 check-samples-requires c κs = search needs
@@ -89,17 +111,28 @@ enum-known-fault-3 c = search needs
 
 returns-4 : tie.Need-returns-4
 unfolding checked
-returns-4 c = simp (enough (c .before .before .before .before .before .before .before .before .before .before .before .before .before .before), head-found (c .before .before .before .before .before .before .before .before .before .before), roads-found (c .before .before .before .before .before .before), sym (c .before .before .before .check-samples .ensures) ∙ ap stageSaid (c .before .fault3 .given .1))
+returns-4 c =
+    let roads = c .before .before .before .before .before .before in
+    let head = to-head roads in
+    let passed = roads-passed roads in
+    simp (enough (tested head), head-found head, passed .1, passed .2, sym (c .before .before .before .check-samples .ensures) ∙ ap stageSaid (c .before .fault3 .given .1))
 
-enum-known-after : tie.Need-enum-known-after
-enum-known-after c = search needs
+enum-known-after-2 : tie.Need-enum-known-after-2
+enum-known-after-2 c = search needs
 
-samples-found : (c : tie.After-known-told6)
-    → samplesFrom (wordsOf (c .before .before .before .before .before .before .before .before .before .before .before .before .before .before .before .before .args .s .now)) (sampleCount (sizesSaid (c .before .before .before .before .before .before .before .before .before .before .before .sizes .given .0 .0))) (roadAt (c .before .before .before .before .before .before .before .roads .given .0 .0)) ≡ accepted (c .before .after .given .0 .0)
-samples-found c = sym (c .before .before .before .check-samples .ensures) ∙ ap stageSaid (c .before .after .given .1)
+-- ---- the samples have passed
+
+abbrev to-roads : tie.After-known-told6 → tie.After-known-told4
+to-roads c = c .before .before .before .before .before .before
+
+abbrev table : tie.After-known-told6 → ℕ
+table c = c .before .after2 .given .0 .0
+
+samples-found : (c : tie.After-known-told6) → samplesFrom (sheet (to-head (to-roads c))) (sampleCount (sizesSaid (sizes (to-head (to-roads c))))) (recording (to-roads c)) ≡ accepted (table c)
+samples-found c = sym (c .before .before .before .check-samples .ensures) ∙ ap stageSaid (c .before .after2 .given .1)
 
 check-lines-requires : tie.Need-check-lines-requires
-check-lines-requires c κs = within (c .before .before .before .before .before .before) .samples-most
+check-lines-requires c κs = within (to-head (to-roads c)) .samples-most
 
 enum-known-fault-4 : tie.Need-enum-known-fault-4
 enum-known-fault-4 c = search needs
@@ -116,35 +149,52 @@ enum-known-fault-5 c = search needs
 enum-told : tie.Need-enum-told
 enum-told c = search needs
 
-returns-5 : tie.Need-returns-5
-returns-5 c =
-    let read = sym (c .before .before .before .check-lines .ensures) ∙ ap tableSaid (c .before .fault4 .given .1) in
-    sym (ap (mapped layoutOf) (lines-refused (wordsOf (c .before .before .before .before .before .before .before .before .before .before .before .before .before .before .before .before .before .before .before .before .args .s .now)) (c .before .before .before .before .before .before .before .before .before .before .before .before .before .before .before .before .before .before .before .before .args .distances) (enough (c .before .before .before .before .before .before .before .before .before .before .before .before .before .before .before .before .before .before)) (head-found (c .before .before .before .before .before .before .before .before .before .before .before .before .before .before)) (roads-found (c .before .before .before .before .before .before .before .before .before .before)) (samples-found (c .before .before .before .before)) read))
+-- ---- the lines have passed
+
+abbrev to-samples : tie.After-known-told8 → tie.After-known-told6
+to-samples c = c .before .before .before .before
+
+abbrev first : tie.After-known-told8 → tie.After-known-told2
+first c = to-head (to-roads (to-samples c))
+
+abbrev next : tie.After-known-told8 → ℕ
+next c = c .before .lines .given .0 .1 .0
 
 lines-found : (c : tie.After-known-told8)
-    → mapped lineCount (linesFrom (wordsOf (c .before .before .before .before .before .before .before .before .before .before .before .before .before .before .before .before .before .before .before .before .args .s .now)) (c .before .before .before .before .before .before .before .before .before .before .before .before .before .before .before .sizes .given .0 .0 .signals) (c .before .before .before .before .before .before .before .before .before .before .before .before .before .before .before .sizes .given .0 .0 .samples) mostLines [] (c .before .before .before .before .before .after .given .0 .0))
-    ≡ accepted (c .before .lines .given .0 .0, c .before .lines .given .0 .1 .0)
+    → mapped lineCount (linesFrom (sheet (first c)) (sizes (first c) .signals) (sizes (first c) .samples) mostLines [] (table (to-samples c)))
+    ≡ accepted (c .before .lines .given .0 .0, next c)
 lines-found c = sym (c .before .before .before .check-lines .ensures) ∙ ap tableSaid (c .before .lines .given .1)
 
 layout : tie.After-known-told8 → Code.Layout
 layout c =
-    let sizes = c .before .before .before .before .before .before .before .before .before .before .before .before .before .before .before .sizes .given .0 .0 in
-    let roads = c .before .before .before .before .before .before .before .before .before .before .before .roads .given .0 .0 in
+    let z = sizes (first c) in
+    let begins = recording (to-roads (to-samples c)) in
     record {
-      places = sizes .places;
-      signals = sizes .signals;
-      samples = sizes .samples;
-      roads = roads;
+      places = z .places;
+      signals = z .signals;
+      samples = z .samples;
+      roads = (begins - 1) / 2;
       lines = c .before .lines .given .0 .0;
-      recording = roadAt roads;
-      table = c .before .before .before .before .before .after .given .0 .0;
+      recording = begins;
+      table = table (to-samples c);
     }
 
-whole : (c : tie.After-known-told8) → mapped layoutOf (checked (wordsOf (c .before .before .before .before .before .before .before .before .before .before .before .before .before .before .before .before .before .before .before .before .args .s .now)) (c .before .before .before .before .before .before .before .before .before .before .before .before .before .before .before .before .before .before .before .before .args .distances))
-    ≡ mapped (λ _. layout c) (endChecked (wordsOf (c .before .before .before .before .before .before .before .before .before .before .before .before .before .before .before .before .before .before .before .before .args .s .now)) (c .before .lines .given .0 .1 .0) (c .before .lines .given .0 .1 .0))
+whole : (c : tie.After-known-told8) → mapped layoutOf (checked (sheet (first c)) (lent (first c)))
+    ≡ mapped (λ _. layout c) (endChecked (sheet (first c)) (next c) (next c))
 unfolding layout
 whole c =
-    end-next (wordsOf (c .before .before .before .before .before .before .before .before .before .before .before .before .before .before .before .before .before .before .before .before .args .s .now)) (c .before .before .before .before .before .before .before .before .before .before .before .before .before .before .before .before .before .before .before .before .args .distances) (enough (c .before .before .before .before .before .before .before .before .before .before .before .before .before .before .before .before .before .before)) (head-found (c .before .before .before .before .before .before .before .before .before .before .before .before .before .before)) (roads-found (c .before .before .before .before .before .before .before .before .before .before)) (samples-found (c .before .before .before .before)) (lines-found c)
+    end-next (sheet (first c)) (lent (first c)) (enough (tested (first c))) (head-found (first c)) (roads-passed (to-roads (to-samples c)) .1)
+    (roads-passed (to-roads (to-samples c)) .2) (samples-found (to-samples c)) (lines-found c)
+
+sub-t35 : tie.Need-sub-t35
+sub-t35 c = let begins = roads-passed (to-roads (to-samples (c .before .before .before))) .2 in omega arith
+
+returns-5 : tie.Need-returns-5
+returns-5 c =
+    let samples = c .before .before .before .before in
+    let read = sym (c .before .before .before .check-lines .ensures) ∙ ap tableSaid (c .before .fault4 .given .1) in
+    sym (ap (mapped layoutOf) (lines-refused (sheet (to-head (to-roads samples))) (lent (to-head (to-roads samples)))
+    (enough (tested (to-head (to-roads samples)))) (head-found (to-head (to-roads samples))) (roads-passed (to-roads samples) .1) (roads-passed (to-roads samples) .2) (samples-found samples) read))
 
 returns-6 : tie.Need-returns-6
 returns-6 c =
@@ -169,21 +219,20 @@ check-sheet-spec =
     check-roads-requires
     enum-known-fault-2
     returns-3
-    enum-known-roads
-    mul-recording
-    add-recording
+    enum-known-after
     mul-count
     mul-count-2
     check-samples-requires
     enum-known-fault-3
     returns-4
-    enum-known-after
+    enum-known-after-2
     check-lines-requires
     enum-known-fault-4
     enum-known-lines
     check-end-requires
     enum-known-fault-5
     enum-told
+    sub-t35
     returns-5
     returns-6
     returns-7)

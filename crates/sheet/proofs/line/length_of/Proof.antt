@@ -105,10 +105,14 @@ returns-3 : tie.Need-returns-3
 returns-3 c = search needs
 
 returns-4 : tie.Need-returns-4
-returns-4 c = c .operand-length .ensures ∙ by-operator (c .before .before .before .before .before .args .samples) (c .before .before .before .before .before .args .lengths .now) (c .before .before .operator .given .1)
+returns-4 c =
+    let g = c .before .before .before .before .before .args in
+    c .operand-length .ensures ∙ by-operator (g .samples) (g .lengths .now) (c .before .before .operator .given .1)
 
 returns-5 : tie.Need-returns-5
-returns-5 c = c .lesser-length .ensures ∙ by-operator (c .before .before .before .before .before .args .samples) (c .before .before .before .before .before .args .lengths .now) (c .before .before .operator2 .given .1)
+returns-5 c =
+    let g = c .before .before .before .before .before .args in
+    c .lesser-length .ensures ∙ by-operator (g .samples) (g .lengths .now) (c .before .before .operator2 .given .1)
 
 returns-6 : tie.Need-returns-6
 returns-6 c =
@@ -117,13 +121,19 @@ returns-6 c =
     c .shortened .ensures ∙ ap (λ (n : ℕ). n - met .0 .1 .1 .0 .upper) (c .before .lesser-length2 .ensures) ∙ by-operator (g .samples) (g .lengths .now) (met .1)
 
 returns-7 : tie.Need-returns-7
-returns-7 c = c .operand-length2 .ensures ∙ by-operator (c .before .before .before .before .before .args .samples) (c .before .before .before .before .before .args .lengths .now) (c .before .before .operator4 .given .1)
+returns-7 c =
+    let g = c .before .before .before .before .before .args in
+    c .operand-length2 .ensures ∙ by-operator (g .samples) (g .lengths .now) (c .before .before .operator4 .given .1)
 
 returns-8 : tie.Need-returns-8
-returns-8 c = c .lesser-length3 .ensures ∙ by-operator (c .before .before .before .before .before .args .samples) (c .before .before .before .before .before .args .lengths .now) (c .before .before .operator5 .given .1)
+returns-8 c =
+    let g = c .before .before .before .before .before .args in
+    c .lesser-length3 .ensures ∙ by-operator (g .samples) (g .lengths .now) (c .before .before .operator5 .given .1)
 
 returns-9 : tie.Need-returns-9
-returns-9 c = c .lesser-length4 .ensures ∙ by-operator (c .before .before .before .before .before .args .samples) (c .before .before .before .before .before .args .lengths .now) (c .before .before .operator6 .given .1)
+returns-9 c =
+    let g = c .before .before .before .before .before .args in
+    c .lesser-length4 .ensures ∙ by-operator (g .samples) (g .lengths .now) (c .before .before .operator6 .given .1)
 
 returns-10 : tie.Need-returns-10
 returns-10 c =
@@ -138,7 +148,9 @@ returns-11 c =
     c .shortened3 .ensures ∙ ap (λ (n : ℕ). n - met .0 .1 .0 .upper) (c .before .operand-length4 .ensures) ∙ by-operator (g .samples) (g .lengths .now) (met .1)
 
 returns-12 : tie.Need-returns-12
-returns-12 c = c .operand-length5 .ensures ∙ by-operator (c .before .before .before .before .before .args .samples) (c .before .before .before .before .before .args .lengths .now) (c .before .before .operator9 .given .1)
+returns-12 c =
+    let g = c .before .before .before .before .before .args in
+    c .operand-length5 .ensures ∙ by-operator (g .samples) (g .lengths .now) (c .before .before .operator9 .given .1)
 
 pub length-of-spec : {M : Type 1} → statement M
 length-of-spec =

@@ -1,8 +1,11 @@
 -- The fields are tested, then the bounds are read, and the table says the operator.
-use mathlib.Core.Path.{sym, _∙_, ap}
+use mathlib.Core.Path.{_≡_, sym, _∙_, ap}
+use mathlib.Core.Bool.{true, _&&_}
 use native.Mathlib.Omega.{arith}
+use lib.Dec.{ltb}
 use borrow.Author.Tests.{not-true, not-false}
 use Rattle.words.proofs.Words.{words-count}
+use Rattle.sheet.specs.declared.operator.Fields.{Fields}
 use Rattle.sheet.specs.Decoding.{boundsSaid, boundedRead}
 use borrow.Author.Needs.{needs}
 use Rattle.sheet.proofs.operator.decode_bounded.Statement.{statement}
@@ -14,6 +17,12 @@ fields-below-requires c κs = search needs
 returns : tie.Need-returns
 unfolding boundedRead
 returns c = simp (sym (c .before .fields-below .ensures) ∙ not-true _ (c .if1 .taken))
+
+abbrev fields : tie.Else1 → Fields
+fields c = c .before .before .before .args .fields
+
+below : (c : tie.Else1) → (ltb (fields c .left) (c .before .before .before .args .lefts) && ltb (fields c .right) (c .before .before .before .args .rights)) ≡ true
+below c = sym (c .before .fields-below .ensures) ∙ not-false _ (c .if1 .left)
 
 add-read-bounds : tie.Need-add-read-bounds
 add-read-bounds c = omega (arith, words-count (c .before .before .before .args .s .now))
@@ -35,11 +44,14 @@ add-t16 c = omega (arith, words-count (c .before .before .before .before .before
 
 returns-2 : tie.Need-returns-2
 unfolding boundedRead
-returns-2 c = simp ((sym (c .before .before .before .before .before .fields-below .ensures) ∙ not-false _ (c .before .before .before .before .if1 .left)), sym (c .before .before .before .read-bounds .ensures) ∙ ap boundsSaid (c .before .fault .given .1))
+returns-2 c = simp (below (c .before .before .before .before), sym (c .before .before .before .read-bounds .ensures) ∙ ap boundsSaid (c .before .fault .given .1))
 
 returns-3 : tie.Need-returns-3
 unfolding boundedRead
-returns-3 c = rw (c .operator-of .ensures) (simp ((sym (c .before .before .before .before .before .before .fields-below .ensures) ∙ not-false _ (c .before .before .before .before .before .if1 .left)), sym (c .before .before .before .before .read-bounds .ensures) ∙ ap boundsSaid (c .before .before .bounds .given .1)))
+returns-3 c =
+    let fields = c .before .before .before .before .before in
+    let read = sym (c .before .before .before .before .read-bounds .ensures) ∙ ap boundsSaid (c .before .before .bounds .given .1) in
+    rw (c .operator-of .ensures) (simp (below fields, read))
 
 pub decode-bounded-spec : {M : Type 1} → statement M
 decode-bounded-spec =

@@ -1,10 +1,12 @@
 -- Each arm of the match is the law of its codes; the ranges are what the single codes leave.
 use mathlib.Core.Path.{_≡_, _∙_, ap}
 use Prim.Native.Nat.{ℕ, _≤_}
+use mathlib.Core.List.{List}
 use mathlib.Core.Logic.{_⊎_, inl, inr, ⊎-elim}
 use native.Mathlib.Omega.{arith}
 use Rattle.words.specs.Bytes.{wordsOf}
 use Rattle.words.proofs.Words.{words-count}
+use Rattle.sheet.specs.Checked.{wordAt}
 use Rattle.sheet.specs.Decoding.{fieldsOf}
 use Rattle.sheet.proofs.Operators.{true-read, not-read, binary-read, atom-read, binary-bounded-read, somewhere-read, unary-bounded-read, unknown-read}
 use borrow.Author.Needs.{needs}
@@ -24,10 +26,10 @@ decode-plain-requires-2 : tie.Need-decode-plain-requires-2
 decode-plain-requires-2 c κs = omega (arith, words-count (c .before .before .before .before .args .s .now))
 
 decode-plain-requires-3 : tie.Need-decode-plain-requires-3
-decode-plain-requires-3 c κs = ⊎-elim (λ key. omega (arith, words-count (c .before .before .before .before .args .s .now))) (λ key. omega (arith, words-count (c .before .before .before .before .args .s .now))) (c .match .keys3)
+decode-plain-requires-3 c κs = let fits = words-count (c .before .before .before .before .args .s .now) in ⊎-elim (λ key. omega arith) (λ key. omega arith) (c .match .keys3)
 
 decode-bounded-requires : tie.Need-decode-bounded-requires
-decode-bounded-requires c κs = ⊎-elim (λ key. omega (arith, words-count (c .before .before .before .before .args .s .now))) (λ key. omega (arith, words-count (c .before .before .before .before .args .s .now))) (c .match .keys4)
+decode-bounded-requires c κs = let fits = words-count (c .before .before .before .before .args .s .now) in ⊎-elim (λ key. omega arith) (λ key. omega arith) (c .match .keys4)
 
 decode-bounded-requires-2 : tie.Need-decode-bounded-requires-2
 decode-bounded-requires-2 c κs = search needs
@@ -46,45 +48,62 @@ above-8 {n} least not-3 not-4-8 not-5-7 not-6 =
     let not-7 : n ≡ 7 → ⊥ = λ e. not-5-7 (inr e) in
     omega arith
 
+abbrev sheet : tie.After-fields-of → List ℕ
+sheet c = wordsOf (c .before .before .before .args .s .now)
+
+read : (c : tie.After-fields-of) → c .fields-of .result ≡ fieldsOf (wordAt (sheet c) (c .before .before .before .args .at))
+read c = c .fields-of .ensures ∙ ap fieldsOf (c .before .word-or-zero .ensures)
+
 returns : tie.Need-returns
 returns c =
+    let f = c .before .before in
     let g = c .before .before .before .before .before .args in
-    c .decode-plain .ensures ∙ true-read (wordsOf (g .s .now)) (g .signals) (g .lines) (g .at) (c .before .before .fields-of .ensures ∙ ap fieldsOf (c .before .before .before .word-or-zero .ensures)) (c .before .match .keys1)
+    c .decode-plain .ensures ∙ true-read (sheet f) (g .signals) (g .lines) (g .at) (read f) (c .before .match .keys1)
 
 returns-2 : tie.Need-returns-2
 returns-2 c =
+    let f = c .before .before in
     let g = c .before .before .before .before .before .args in
-    c .decode-plain2 .ensures ∙ not-read (wordsOf (g .s .now)) (g .signals) (g .lines) (g .at) (c .before .before .fields-of .ensures ∙ ap fieldsOf (c .before .before .before .word-or-zero .ensures)) (c .before .match .keys2)
+    c .decode-plain2 .ensures ∙ not-read (sheet f) (g .signals) (g .lines) (g .at) (read f) (c .before .match .keys2)
 
 returns-3 : tie.Need-returns-3
 returns-3 c =
+    let f = c .before .before in
     let g = c .before .before .before .before .before .args in
-    c .decode-plain3 .ensures ∙ binary-read (wordsOf (g .s .now)) (g .signals) (g .lines) (g .at) (c .before .before .fields-of .ensures ∙ ap fieldsOf (c .before .before .before .word-or-zero .ensures)) (c .before .match .keys3)
+    c .decode-plain3 .ensures ∙ binary-read (sheet f) (g .signals) (g .lines) (g .at) (read f) (c .before .match .keys3)
 
 returns-4 : tie.Need-returns-4
 returns-4 c =
+    let f = c .before .before in
     let g = c .before .before .before .before .before .args in
-    c .decode-bounded .ensures ∙ binary-bounded-read (wordsOf (g .s .now)) (g .signals) (g .lines) (g .at) (c .before .before .fields-of .ensures ∙ ap fieldsOf (c .before .before .before .word-or-zero .ensures)) (c .before .match .keys4)
+    c .decode-bounded .ensures ∙ binary-bounded-read (sheet f) (g .signals) (g .lines) (g .at) (read f) (c .before .match .keys4)
 
 returns-5 : tie.Need-returns-5
 returns-5 c =
+    let f = c .before .before in
     let g = c .before .before .before .before .before .args in
-    c .decode-bounded2 .ensures ∙ somewhere-read (wordsOf (g .s .now)) (g .signals) (g .lines) (g .at) (c .before .before .fields-of .ensures ∙ ap fieldsOf (c .before .before .before .word-or-zero .ensures)) (c .before .match .keys5)
+    c .decode-bounded2 .ensures ∙ somewhere-read (sheet f) (g .signals) (g .lines) (g .at) (read f) (c .before .match .keys5)
 
 returns-6 : tie.Need-returns-6
 returns-6 c =
+    let f = c .before .before .before in
     let g = c .before .before .before .before .before .before .args in
-    c .decode-atom .ensures ∙ atom-read (wordsOf (g .s .now)) (g .signals) (g .lines) (g .at) (c .before .before .before .fields-of .ensures ∙ ap fieldsOf (c .before .before .before .before .word-or-zero .ensures)) (omega (arith, c .before .before .match .rest .0 .0 .0 .0 .1)) (c .before .if1 .taken)
+    let none = c .before .before .match .rest in
+    c .decode-atom .ensures ∙ atom-read (sheet f) (g .signals) (g .lines) (g .at) (read f) (omega (arith, none .0 .0 .0 .0 .1)) (c .before .if1 .taken)
 
 returns-7 : tie.Need-returns-7
 returns-7 c =
+    let f = c .before .before .before .before in
     let g = c .before .before .before .before .before .before .before .args in
-    c .decode-bounded3 .ensures ∙ unary-bounded-read (wordsOf (g .s .now)) (g .signals) (g .lines) (g .at) (c .before .before .before .before .fields-of .ensures ∙ ap fieldsOf (c .before .before .before .before .before .word-or-zero .ensures)) (above-8 (c .before .before .if1 .left) (c .before .before .before .match .rest .0 .0 .0 .1) (c .before .before .before .match .rest .0 .0 .1) (c .before .before .before .match .rest .0 .1) (c .before .before .before .match .rest .1)) (c .before .if2 .taken)
+    let none = c .before .before .before .match .rest in
+    let above = above-8 (c .before .before .if1 .left) (none .0 .0 .0 .1) (none .0 .0 .1) (none .0 .1) (none .1) in
+    c .decode-bounded3 .ensures ∙ unary-bounded-read (sheet f) (g .signals) (g .lines) (g .at) (read f) above (c .before .if2 .taken)
 
 returns-8 : tie.Need-returns-8
 returns-8 c =
+    let f = c .before .before .before in
     let g = c .before .before .before .before .before .before .args in
-    unknown-read (wordsOf (g .s .now)) (g .signals) (g .lines) (g .at) (c .before .before .before .fields-of .ensures ∙ ap fieldsOf (c .before .before .before .before .word-or-zero .ensures)) (c .if2 .left)
+    unknown-read (sheet f) (g .signals) (g .lines) (g .at) (read f) (c .if2 .left)
 
 pub decode-operator-spec : {M : Type 1} → statement M
 decode-operator-spec =

@@ -1,10 +1,13 @@
 -- Kind, then each size: each test of the code decides one of the definition's.
 use mathlib.Core.Path.{_≡_, sym, _∙_, ap}
-use mathlib.Core.Bool.{true}
+use mathlib.Core.Bool.{true, _&&_}
+use mathlib.Core.List.{List}
+use Prim.Native.Nat.{ℕ}
 use borrow.Author.Tests.{not-true, not-false}
 use Rattle.words.specs.Bytes.{wordsOf}
-use Rattle.sheet.specs.Checked.{isKind}
-use Rattle.sheet.specs.Layout.{headSizes, headChecked}
+use Rattle.sheet.specs.Limits.{mostPlaces, mostSignals, mostSamples}
+use Rattle.sheet.specs.Checked.{accepted, require, between}
+use Rattle.sheet.specs.Layout.{Sizes, headSizes, headChecked}
 use Rattle.sheet.specs.Checking.{sizesOf, sizesSaid}
 use Rattle.sheet.proofs.Tests.{other-kind, same-kind}
 use borrow.Author.Needs.{needs}
@@ -28,34 +31,58 @@ sizes-of-requires c κs = search needs
 within-requires : tie.Need-within-requires
 within-requires c κs = search needs
 
-kind-1 : (c : tie.Else1) → isKind 1 (wordsOf (c .before .before .before .before .args .s .now)) 0 ≡ true
-kind-1 c = same-kind (wordsOf (c .before .before .before .before .args .s .now)) 0 (c .before .kind .ensures) (c .before .before .word-or-zero .ensures) 0 (c .if1 .left)
+-- ---- the kind has passed: what is left are the limits
 
-sizes-read : (c : tie.After-sizes-of) → sizesSaid (c .sizes-of .result) ≡ headSizes (wordsOf (c .before .before .before .before .before .args .s .now))
+abbrev sheet : tie.After-sizes-of → List ℕ
+sheet c = wordsOf (c .before .before .before .before .before .args .s .now)
+
+abbrev sizes : tie.After-sizes-of → Sizes
+sizes c = sizesSaid (c .sizes-of .result)
+
+sizes-read : (c : tie.After-sizes-of) → sizes c ≡ headSizes (sheet c)
 unfolding headSizes sizesOf
 sizes-read c = ap sizesSaid (c .sizes-of .ensures ∙ ap sizesOf (c .before .before .before .word-or-zero .ensures))
 
-returns-2 : tie.Need-returns-2
+limits-next : (c : tie.After-sizes-of) → headChecked (sheet c)
+    ≡ require (between 1 mostPlaces (sizes c .places) && (between 1 mostSignals (sizes c .signals) && between 1 mostSamples (sizes c .samples))) 3 0 (accepted (sizes c))
 unfolding headChecked
-returns-2 c = simp (kind-1 (c .before .before .before), ← sizes-read (c .before .before), sym (c .before .within .ensures) ∙ not-true _ (c .if2 .taken))
+limits-next c =
+    let kind = same-kind (sheet c) 0 (c .before .before .kind .ensures) (c .before .before .before .word-or-zero .ensures) 0 (c .before .if1 .left) in
+    simp (kind, ← sizes-read c)
+
+returns-2 : tie.Need-returns-2
+returns-2 c =
+    let none = sym (c .before .within .ensures) ∙ not-true _ (c .if2 .taken) in
+    sym (limits-next (c .before .before) ∙ simp none)
 
 within-requires-2 : tie.Need-within-requires-2
 within-requires-2 c κs = search needs
 
+places-within : (c : tie.Else2) → between 1 mostPlaces (sizes (c .before .before) .places) ≡ true
+places-within c = sym (c .before .within .ensures) ∙ not-false _ (c .if2 .left)
+
 returns-3 : tie.Need-returns-3
-unfolding headChecked
-returns-3 c = simp (kind-1 (c .before .before .before .before .before), ← sizes-read (c .before .before .before .before), sym (c .before .before .before .within .ensures) ∙ not-false _ (c .before .before .if2 .left), sym (c .before .within2 .ensures) ∙ not-true _ (c .if3 .taken))
+returns-3 c =
+    let none = sym (c .before .within2 .ensures) ∙ not-true _ (c .if3 .taken) in
+    sym (limits-next (c .before .before .before .before) ∙ simp (places-within (c .before .before), none))
 
 within-requires-3 : tie.Need-within-requires-3
 within-requires-3 c κs = search needs
 
+signals-within : (c : tie.Else3) → between 1 mostSignals (sizes (c .before .before .before .before) .signals) ≡ true
+signals-within c = sym (c .before .within2 .ensures) ∙ not-false _ (c .if3 .left)
+
 returns-4 : tie.Need-returns-4
-unfolding headChecked
-returns-4 c = simp (kind-1 (c .before .before .before .before .before .before .before), ← sizes-read (c .before .before .before .before .before .before), sym (c .before .before .before .before .before .within .ensures) ∙ not-false _ (c .before .before .before .before .if2 .left), sym (c .before .before .before .within2 .ensures) ∙ not-false _ (c .before .before .if3 .left), sym (c .before .within3 .ensures) ∙ not-true _ (c .if4 .taken))
+returns-4 c =
+    let none = sym (c .before .within3 .ensures) ∙ not-true _ (c .if4 .taken) in
+    let signals = c .before .before in
+    sym (limits-next (signals .before .before .before .before) ∙ simp (places-within (signals .before .before), signals-within signals, none))
 
 returns-5 : tie.Need-returns-5
-unfolding headChecked
-returns-5 c = simp (kind-1 (c .before .before .before .before .before .before .before), ← sizes-read (c .before .before .before .before .before .before), sym (c .before .before .before .before .before .within .ensures) ∙ not-false _ (c .before .before .before .before .if2 .left), sym (c .before .before .before .within2 .ensures) ∙ not-false _ (c .before .before .if3 .left), sym (c .before .within3 .ensures) ∙ not-false _ (c .if4 .left))
+returns-5 c =
+    let samples = sym (c .before .within3 .ensures) ∙ not-false _ (c .if4 .left) in
+    let signals = c .before .before in
+    sym (limits-next (signals .before .before .before .before) ∙ simp (places-within (signals .before .before), signals-within signals, samples))
 
 pub check-head-spec : {M : Type 1} → statement M
 check-head-spec =

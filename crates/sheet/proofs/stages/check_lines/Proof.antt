@@ -2,6 +2,7 @@
 use mathlib.Core.Path.{_≡_, sym, _∙_, ap}
 use Prim.Native.Nat.{ℕ, _-_, _<_}
 use mathlib.Core.Bool.{true, false}
+use mathlib.Core.List.{List}
 use native.Mathlib.Omega.{arith}
 use Rattle.words.specs.Bytes.{wordsOf}
 use Rattle.sheet.specs.Limits.{mostLines}
@@ -31,8 +32,14 @@ word-or-zero-requires c κs = search needs
 kind-requires : tie.Need-kind-requires Inv-loop μ-loop
 kind-requires c κs = search needs
 
-kind-5 : (c : tie.Then1 Inv-loop μ-loop) → isKind 5 (wordsOf (c .before .before .before .before .before .args .s .now)) (c .before .before .before .loop .at) ≡ true
-kind-5 c = same-kind (wordsOf (c .before .before .before .before .before .args .s .now)) (c .before .before .before .loop .at) (c .before .kind .ensures) (c .before .before .word-or-zero .ensures) 4 (c .if1 .taken)
+abbrev sheet : tie.Then1 Inv-loop μ-loop → List ℕ
+sheet c = wordsOf (c .before .before .before .before .before .args .s .now)
+
+abbrev index : tie.Then1 Inv-loop μ-loop → ℕ
+index c = c .before .before .before .loop .at
+
+kind-5 : (c : tie.Then1 Inv-loop μ-loop) → isKind 5 (sheet c) (index c) ≡ true
+kind-5 c = same-kind (sheet c) (index c) (c .before .kind .ensures) (c .before .before .word-or-zero .ensures) 4 (c .if1 .taken)
 
 returns : tie.Need-returns Inv-loop μ-loop
 returns c =
@@ -44,7 +51,9 @@ slice-aggregate-decode-line : tie.Need-slice-aggregate-decode-line Inv-loop μ-l
 slice-aggregate-decode-line c = sym (c .before .before .before .before .before .loop .inv .room)
 
 decode-line-requires : tie.Need-decode-line-requires Inv-loop μ-loop
-decode-line-requires c κs = (kind-told 5 (wordsOf (c .before .before .before .before .before .before .before .args .s .now)) (c .before .before .before .before .before .loop .at) (kind-5 (c .before .before)) .0, c .before .before .before .before .before .before .before .pre)
+decode-line-requires c κs =
+    let turn = c .before .before in
+    (kind-told 5 (sheet turn) (index turn) (kind-5 turn) .0, c .before .before .before .before .before .before .before .pre)
 
 enum-known-fault : tie.Need-enum-known-fault Inv-loop μ-loop
 enum-known-fault c = search needs
@@ -54,7 +63,8 @@ returns-2 c =
     let g = c .before .before .before .before .before .before .before .before .before .before .before .args in
     let l = c .before .before .before .before .before .before .before .before .before .loop in
     let read = sym (c .before .before .before .decode-line .ensures) ∙ ap decodedSaid (c .before .fault .given .1) in
-    sym (ap (mapped lineCount) (line-refused (wordsOf (g .s .now)) (g .signals) (g .samples) (g .start) (l .inv) (kind-5 (c .before .before .before .before .before .before)) (c .before .before .before .before .before .if2 .left) read))
+    let room = c .before .before .before .before .before in
+    sym (ap (mapped lineCount) (line-refused (wordsOf (g .s .now)) (g .signals) (g .samples) (g .start) (l .inv) (kind-5 (room .before)) (room .if2 .left) read))
 
 enum-known-line : tie.Need-enum-known-line Inv-loop μ-loop
 enum-known-line c = search needs
@@ -79,10 +89,13 @@ loop-again c =
     let g = c .before .before .before .before .before .before .before .before .before .before .before .args in
     let l = c .before .before .before .before .before .before .before .before .before .loop in
     let read = sym (c .before .before .before .decode-line .ensures) ∙ ap decodedSaid (c .before .line .given .1) in
-    line-passed (wordsOf (g .s .now)) (g .signals) (g .samples) (g .start) (l .inv) (kind-5 (c .before .before .before .before .before .before)) (c .before .before .before .before .before .if2 .left) read
+    let room = c .before .before .before .before .before in
+    line-passed (wordsOf (g .s .now)) (g .signals) (g .samples) (g .start) (l .inv) (kind-5 (room .before)) (room .if2 .left) read
 
 no-line : (c : tie.Else1 Inv-loop μ-loop) → isKind 5 (wordsOf (c .before .before .before .before .before .args .s .now)) (c .before .before .before .loop .at) ≡ false
-no-line c = other-kind (wordsOf (c .before .before .before .before .before .args .s .now)) (c .before .before .before .loop .at) (c .before .kind .ensures) (c .before .before .word-or-zero .ensures) 5 (c .if1 .left)
+no-line c =
+    let w = wordsOf (c .before .before .before .before .before .args .s .now) in
+    other-kind w (c .before .before .before .loop .at) (c .before .kind .ensures) (c .before .before .word-or-zero .ensures) 5 (c .if1 .left)
 
 returns-3 : tie.Need-returns-3 Inv-loop μ-loop
 returns-3 c =
@@ -94,7 +107,8 @@ returns-4 : tie.Need-returns-4 Inv-loop μ-loop
 returns-4 c =
     let g = c .before .before .before .before .before .before .args in
     let l = c .before .before .before .before .loop in
-    sym (ap (mapped lineCount) (all-found (wordsOf (g .s .now)) (g .signals) (g .samples) (g .start) (l .inv) (no-line (c .before)) (c .if3 .left)) ∙ ap (λ (n : ℕ). accepted (n, l .at)) (l .inv .count))
+    let all = all-found (wordsOf (g .s .now)) (g .signals) (g .samples) (g .start) (l .inv) (no-line (c .before)) (c .if3 .left) in
+    sym (ap (mapped lineCount) all ∙ ap (λ (n : ℕ). accepted (n, l .at)) (l .inv .count))
 
 pub check-lines-spec : {M : Type 1} → statement M
 check-lines-spec =

@@ -1,12 +1,15 @@
 -- What is left to check decides the whole.
 use mathlib.Core.Path.{_≡_, refl, sym, _∙_, ap}
-use Prim.Native.Nat.{ℕ}
+use Prim.Native.Nat.{ℕ, _+_, _-_}
 use mathlib.Core.Bool.{true}
+use mathlib.Core.List.{List}
 use native.Mathlib.Omega.{arith}
+use lib.Dec.{eqb}
 use borrow.Author.Tests.{eq-eqb, ne-eqb}
 use Rattle.words.specs.Bytes.{wordsOf}
+use Rattle.words.specs.Word.{bits}
 use Rattle.words.proofs.Words.{words-count}
-use Rattle.sheet.specs.Checked.{isKind}
+use Rattle.sheet.specs.Checked.{require, wordAt, isKind}
 use Rattle.sheet.specs.Layout.{samplesFrom}
 use Rattle.sheet.proofs.Tests.{kind-told, other-kind, same-kind}
 use Rattle.sheet.proofs.Parts.{sample-more}
@@ -29,24 +32,43 @@ word-or-zero-requires c κs = search needs
 kind-requires : tie.Need-kind-requires Inv-loop μ-loop
 kind-requires c κs = search needs
 
+-- ---- there is a sample to check
+
+abbrev bytes : tie.In-loop Inv-loop μ-loop → List ℕ
+bytes c = c .before .before .before .args .s .now
+
+abbrev sheet : tie.In-loop Inv-loop μ-loop → List ℕ
+sheet c = wordsOf (bytes c)
+
+abbrev index : tie.In-loop Inv-loop μ-loop → ℕ
+index c = c .before .loop .at
+
+sample-next : (c : tie.In-loop Inv-loop μ-loop) → samplesFrom (sheet c) (c .before .before .before .args .count) (c .before .before .before .args .start)
+    ≡ require (isKind 4 (sheet c) (index c)) 8 (index c)
+    (require (eqb (bits 27 1 (wordAt (sheet c) (index c))) 0) 9 (index c) (samplesFrom (sheet c) (c .before .loop .left - 1) (index c + 1)))
+sample-next c = c .before .loop .inv ∙ sample-more (sheet c) (c .before .loop .left) (index c) (c .loop-test .taken)
+
 returns : tie.Need-returns Inv-loop μ-loop
 returns c =
-    let w = wordsOf (c .before .before .before .before .before .before .args .s .now) in
-    let l = c .before .before .before .before .loop in
-    let other = other-kind w (l .at) (c .before .kind .ensures) (c .before .before .word-or-zero .ensures) 4 (c .if1 .taken) in
-    sym (l .inv ∙ sample-more w (l .left) (l .at) (c .before .before .before .loop-test .taken) ∙ simp other)
+    let turn = c .before .before .before in
+    let other = other-kind (sheet turn) (index turn) (c .before .kind .ensures) (c .before .before .word-or-zero .ensures) 4 (c .if1 .taken) in
+    sym (sample-next turn ∙ simp other)
 
-kind-4 : (c : tie.Else1 Inv-loop μ-loop) → isKind 4 (wordsOf (c .before .before .before .before .before .before .args .s .now)) (c .before .before .before .before .loop .at) ≡ true
-kind-4 c = same-kind (wordsOf (c .before .before .before .before .before .before .args .s .now)) (c .before .before .before .before .loop .at) (c .before .kind .ensures) (c .before .before .word-or-zero .ensures) 3 (c .if1 .left)
+-- ---- its kind has passed
+
+abbrev to-turn : tie.Else1 Inv-loop μ-loop → tie.In-loop Inv-loop μ-loop
+to-turn c = c .before .before .before
+
+kind-4 : (c : tie.Else1 Inv-loop μ-loop) → isKind 4 (sheet (to-turn c)) (index (to-turn c)) ≡ true
+kind-4 c = same-kind (sheet (to-turn c)) (index (to-turn c)) (c .before .kind .ensures) (c .before .before .word-or-zero .ensures) 3 (c .if1 .left)
 
 returns-2 : tie.Need-returns-2 Inv-loop μ-loop
 returns-2 c =
-    let l = c .before .before .before .before .before .loop in
-    sym (l .inv ∙ sample-more (wordsOf (c .before .before .before .before .before .before .before .args .s .now)) (l .left) (l .at) (c .before .before .before .before .loop-test .taken)
-    ∙ simp (kind-4 (c .before), ← c .before .before .before .word-or-zero .ensures, ne-eqb _ 0 (c .if2 .taken)))
+    let read = c .before in
+    sym (sample-next (to-turn read) ∙ simp (kind-4 read, ← read .before .before .word-or-zero .ensures, ne-eqb _ 0 (c .if2 .taken)))
 
 add-at : tie.Need-add-at Inv-loop μ-loop
-add-at c = omega (arith, words-count (c .before .before .before .before .before .before .before .args .s .now), kind-told 4 (wordsOf (c .before .before .before .before .before .before .before .args .s .now)) (c .before .before .before .before .before .loop .at) (kind-4 (c .before)))
+add-at c = let there = kind-told 4 (sheet (to-turn (c .before))) (index (to-turn (c .before))) (kind-4 (c .before)) in omega (arith, words-count (bytes (to-turn (c .before))))
 
 sub-left : tie.Need-sub-left Inv-loop μ-loop
 sub-left c = search needs
@@ -56,9 +78,8 @@ loop-less c = search needs
 
 loop-again : tie.Need-loop-again Inv-loop μ-loop
 loop-again c =
-    let l = c .before .before .before .before .before .loop in
-    l .inv ∙ sample-more (wordsOf (c .before .before .before .before .before .before .before .args .s .now)) (l .left) (l .at) (c .before .before .before .before .loop-test .taken)
-    ∙ simp (kind-4 (c .before), ← c .before .before .before .word-or-zero .ensures, eq-eqb _ 0 (c .if2 .left))
+    let read = c .before in
+    sample-next (to-turn read) ∙ simp (kind-4 read, ← read .before .before .word-or-zero .ensures, eq-eqb _ 0 (c .if2 .left))
 
 returns-3 : tie.Need-returns-3 Inv-loop μ-loop
 unfolding samplesFrom

@@ -1,0 +1,49 @@
+-- A line of an accepted table has its operator's value on the earlier lines, in every reading; and the engine's value of a line, made from the
+-- words before it, is that of the chain reading.
+use mathlib.Core.Path.{_≡_, refl, sym, ap, subst, _∙_}
+use mathlib.Core.Bool.{Bool, true, false, cond}
+use mathlib.Core.List.{List, []}
+use Prim.Native.Nat.{ℕ, _+_, _<_, _≤_}
+use native.Mathlib.Nat.{zero-add}
+use native.Mathlib.Omega.{arith}
+use lib.Dec.{ltb, ltb→lt, T}
+use lib.ListN.{length, getD}
+use borrow.Author.Tests.{lt-ltb}
+use Rattle.logic.specs.Network.{Network}
+use Rattle.logic.specs.Table.{Operator, Line, lineIn, lengthOf, Recording, Reading, Signal, everTrue, value, valuesAfter, valueAt}
+use Rattle.logic.proofs.TableSteps.{before}
+use Rattle.logic.proofs.ValueSame.{value-same}
+use Rattle.sheet.proofs.AcceptedLines.{Sound, lengthsOf, GoodLine, GoodTable, length-same}
+
+-- lengths cut to the lines before line k
+abbrev cut : ℕ → (ℕ → ℕ) → ℕ → ℕ
+cut k lengths i = cond (ltb i k) (lengths i) 0
+
+cut-same : (k : ℕ) (lengths : ℕ → ℕ) (i : ℕ) → i < k → lengths i ≡ cut k lengths i
+cut-same k lengths i h = rw (lt-ltb i k h) refl
+
+cut-below : (k : ℕ) (lengths : ℕ → ℕ) (t i : ℕ) → t < cut k lengths i → (i < k) × (t < lengths i)
+cut-below k lengths t i h = go (ltb i k) refl h
+  where
+    go : (b : Bool) → ltb i k ≡ b → t < cond b (lengths i) 0 → (i < k) × (t < lengths i)
+    go true e h = (ltb→lt i k (rw e tt), h)
+    go false e h = absurd (omega arith)
+
+module _ (R : Reading) (N : Network) (x : Recording) (v T : ℕ) (lines : List Line) (good : GoodTable v T lines) (k : ℕ) (inside : k < length lines) where
+  -- signals that are the same on the earlier lines within their lengths give the line the same value
+  pub operands-same : (line line′ : ℕ → Signal R) → ((i t l : ℕ) → i < k → t < lengthsOf lines i → l < N.places → line i t l ≡ line′ i t l)
+      → (t l : ℕ) → t < lengthsOf lines k → l < N.places → value R N x line (lineIn lines k .operator) t l ≡ value R N x line′ (lineIn lines k .operator) t l
+  operands-same line line′ same t l h b =
+      let o : Operator = lineIn lines k .operator in
+      let g : GoodLine v T (lengthsOf lines) k (lineIn lines k) = good k inside in
+      let extent : lengthsOf lines k ≡ lengthOf T (cut k (lengthsOf lines)) o = g .extent ∙ length-same T v k (lengthsOf lines) (cut k (lengthsOf lines)) (cut-same k (lengthsOf lines)) o (g .sound) in
+      value-same R N x line line′ (cut k (lengthsOf lines)) (λ i u m c d. let (e, f) = cut-below k (lengthsOf lines) u i c in same i u m e f d) T o t l (subst (λ m. t < m) extent h) b
+
+  pub value-step : (t l : ℕ) → t < lengthsOf lines k → l < N.places → valueAt R N x lines k t l ≡ value R N x (valueAt R N x lines) (lineIn lines k .operator) t l
+  unfolding valueAt
+  value-step t l h b =
+      let (done, d, here, kept) = before R N x lines [] k inside in
+      let z : k ≡ 0 + k = sym (zero-add k) in
+      ap (λ (i : ℕ). getD (valuesAfter R N x [] lines) i (everTrue R) t l) z
+      ∙ ap (λ (f : Signal R). f t l) here
+      ∙ operands-same (λ i. getD done i (everTrue R)) (valueAt R N x lines) (λ i u m e _ _. sym (ap (λ (f : Signal R). f u m) (kept i (omega arith)))) t l h b
