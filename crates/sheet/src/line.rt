@@ -1,6 +1,5 @@
 // A line of the table, decoded: its operator, and its length from the lengths of the lines before it.
 use crate::fault::Fault;
-use crate::operator::Bounds;
 use crate::operator::Operator;
 use crate::operator::ReadOperator;
 use crate::operator::decode_operator;

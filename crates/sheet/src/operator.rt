@@ -66,24 +66,24 @@ pub enum Operator {
 }
 
 // The fields of a line word.
-pub struct Fields {
+pub(crate) struct Fields {
     pub code: u32,
     pub left: usize,
     pub right: usize,
 }
 
-pub enum ReadConstant {
+pub(crate) enum ReadConstant {
     Constant(i32),
     Refused(Fault, usize),
 }
 
-pub enum ReadBounds {
+pub(crate) enum ReadBounds {
     Bounds(Bounds),
     Refused(Fault, usize),
 }
 
 // An operator and the index after its words, or why there is none and where.
-pub enum ReadOperator {
+pub(crate) enum ReadOperator {
     Operator(Operator, usize),
     Refused(Fault, usize),
 }
