@@ -1,5 +1,6 @@
 -- A relation between the values of two lattices that top, bottom, meet and join keep is kept by everything that is defined by these.
 -- Its uses: thresholds (h a ≡ b), nearness (`Near d`), order, and the agreement of a margin with a verdict.
+use mathlib.Core.Path.{_≡_, refl, ap₂}
 use mathlib.Core.Bool.{Bool, true, false, cond}
 use mathlib.Core.List.{List, [], _∷_}
 use Prim.Native.Nat.{ℕ, zero, suc, _<_}
@@ -13,6 +14,15 @@ pub record Keeps (L M : Lattice) (R : L.Value → M.Value → Type 0) : Type 0 w
   pub keeps-bottom : R L.bottom M.bottom
   pub keeps-meet : (a b : L.Value) (c d : M.Value) → R a c → R b d → R (L.meet a b) (M.meet c d)
   pub keeps-join : (a b : L.Value) (c d : M.Value) → R a c → R b d → R (L.join a b) (M.join c d)
+
+-- equality is kept: what is defined over a lattice depends on values alone, and only where it looks
+pub same-kept : (L : Lattice) → Keeps L L (λ a b. a ≡ b)
+same-kept L = record {
+  keeps-top = refl;
+  keeps-bottom = refl;
+  keeps-meet = λ a b c d h k. ap₂ (L .meet) h k;
+  keeps-join = λ a b c d h k. ap₂ (L .join) h k;
+}
 
 module _ (L M : Lattice) (R : L.Value → M.Value → Type 0) (K : Keeps L M R) where
   pub cond-kept : (t : Bool) (a b : L.Value) (c d : M.Value) → R a c → R b d → R (cond t a b) (cond t c d)

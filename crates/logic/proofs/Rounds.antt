@@ -1,14 +1,16 @@
--- The rounds: the iteration on margins has come to the surround when it first rests, and that is within n rounds.
-use mathlib.Core.Path.{_≡_, refl, sym, _∙_}
+-- The rounds: the iteration on margins has come to the surround when it first rests, and that is within n rounds; counting the steps that
+-- change a margin gives their number.
+use mathlib.Core.Path.{_≡_, refl, sym, ap, _∙_}
 use mathlib.Core.Bool.{Bool, true, false, not, _&&_}
 use Prim.Native.Nat.{ℕ, zero, suc, pred, _<_, _≤_, zero-le, suc-le-suc}
 use native.Mathlib.Nat.{not-suc-le-zero, le-of-suc-le-suc}
 use native.Mathlib.Omega.{arith}
-use lib.Dec.{T}
+use lib.Dec.{T, T-not, not-T}
 use Rattle.logic.specs.Margin.{Margin, atMost, marginLattice}
 use Rattle.logic.specs.Surround.{surround, unbounded}
 use Rattle.logic.specs.Iteration.{iterate, masked, first, atRest, rounds}
 use Rattle.logic.proofs.Tests.{and-l, and-r, and-i, all-e, all-i}
+use Rattle.logic.proofs.Resting.{Rests}
 use Rattle.logic.proofs.Order.{atMost-anti}
 use Rattle.logic.proofs.Margins.{margin-apart, margin-refl}
 use Rattle.logic.proofs.Thresholds.{limit-at, settled}
@@ -47,6 +49,13 @@ first-not t (suc d) (suc j) b = go (t zero) b (λ c. first-not (λ i. t (suc i))
     go true b f = absurd (not-suc-le-zero b)
     go false b f = f (le-of-suc-le-suc b)
 
+-- the first that passes, where some number passes
+first-is : (t : ℕ → Bool) (d r : ℕ) → T (t d) → ((j : ℕ) → j < r → T (not (t j))) → T (t r) → first t d ≡ r
+first-is t d r h before at =
+    let low : r < first t d → ⊥ = λ b. T-not (t r) (first-not t d r b) at in
+    let high : first t d < r → ⊥ = λ b. T-not (t (first t d)) (before (first t d) b) (first-at t d h) in
+    omega arith
+
 -- ---- the rounds
 module _ (joined : ℕ → ℕ → Bool) (n : ℕ) (p q : ℕ → Margin) where
   abbrev W : ℕ → ℕ → Margin
@@ -55,26 +64,34 @@ module _ (joined : ℕ → ℕ → Bool) (n : ℕ) (p q : ℕ → Margin) where
   abbrev same : ℕ → ℕ → Bool
   same i l = atMost (W (suc i) l) (W i l) && atMost (W i l) (W (suc i) l)
 
-  rest-e : (i : ℕ) → T (atRest joined n p q i) → (l : ℕ) → l < n → W (suc i) l ≡ W i l
+  rest-e : (i : ℕ) → T (atRest joined n p q i) → Rests marginLattice joined n p q i
   unfolding atRest
   rest-e i h l b =
       let s = all-e (λ _. true) (same i) n h l b tt in
       atMost-anti (W (suc i) l) (W i l) (and-l (atMost (W (suc i) l) (W i l)) _ s) (and-r (atMost (W (suc i) l) (W i l)) _ s)
 
-  rest-i : (i : ℕ) → ((l : ℕ) → l < n → W (suc i) l ≡ W i l) → T (atRest joined n p q i)
+  rest-i : (i : ℕ) → Rests marginLattice joined n p q i → T (atRest joined n p q i)
   unfolding atRest
   rest-i i h = all-i (λ _. true) (same i) n (λ l b _. rw (h l b) (and-i (atMost (W i l) (W i l)) _ (margin-refl (W i l)) (margin-refl (W i l))))
+
+  at-end : T (atRest joined n p q (pred n))
+  at-end = rest-i (pred n) (settled marginLattice margin-apart joined n p q (pred n) (omega arith))
 
   last : ℕ
   last = first (atRest joined n p q) (pred n)
 
   at-last : T (atRest joined n p q last)
   unfolding last
-  at-last = first-at (atRest joined n p q) (pred n) (rest-i (pred n) (settled marginLattice margin-apart joined n p q (pred n) (omega arith)))
+  at-last = first-at (atRest joined n p q) (pred n) at-end
 
   pub rounds-bound : 1 ≤ n → rounds joined n p q ≤ n
   unfolding rounds
   rounds-bound h = omega (arith, first-le (atRest joined n p q) (pred n))
+
+  -- counting the steps that change a margin gives the rounds
+  pub rounds-counted : (r : ℕ) → ((j : ℕ) → j < r → Rests marginLattice joined n p q j → ⊥) → Rests marginLattice joined n p q r → rounds joined n p q ≡ suc r
+  unfolding rounds
+  rounds-counted r moves rests = ap suc (first-is (atRest joined n p q) (pred n) r at-end (λ j b. not-T (atRest joined n p q j) (λ h. moves j b (rest-e j h))) (rest-i r rests))
 
   -- Theorem 4.5 for margins: what the last round leaves is the unbounded
   pub theorem : (l : ℕ) → l < n → iterate marginLattice joined n p q (rounds joined n p q) l ≡ unbounded marginLattice joined n p q l

@@ -22,7 +22,7 @@ Small minusInfinity = Unit {0}
 Small (finite z) = natAbs z < 2 ^ 27
 Small plusInfinity = Unit {0}
 
-small-negate : (m : Margin) → Small m → Small (negate m)
+pub small-negate : (m : Margin) → Small m → Small (negate m)
 small-negate minusInfinity h = tt
 small-negate (finite (pos zero)) h = h
 small-negate (finite (pos (suc x))) h = h
@@ -43,7 +43,7 @@ up-small (pos a) (negsuc b) h k = omega arith
 up-small (negsuc a) (pos b) h k = tt
 up-small (negsuc a) (negsuc b) h k = omega arith
 
-difference-small : (a b : ℤ) → InBits 26 a → InBits 26 b → natAbs (a -ℤ b) < 2 ^ 27
+pub difference-small : (a b : ℤ) → InBits 26 a → InBits 26 b → natAbs (a -ℤ b) < 2 ^ 27
 difference-small a b h k =
     let s : natAbs (a -ℤ b) ≤ 134217727 = nearZ 134217727 a b .1 (up-small a b h k, up-small b a k h) in
     omega arith

@@ -2,7 +2,7 @@
 -- no at minus infinity is 0, no -1 is 2 (2^27 - 1), no 0 is 2^28, yes 0 is 2^28 + 1, yes at plus infinity is 2^29 + 1.
 -- The pairs that can arise are a chain in the order of both, so the lesser of two numbers is the "both" of the verdicts and the lesser margin.
 -- `chains` is a third reading of the logic: it is what the engine computes with, and no promise to a host speaks of it.
-use mathlib.Core.Bool.{Bool, true, false, cond}
+use mathlib.Core.Bool.{Bool, cond}
 use Prim.Native.Nat.{ℕ, suc, _+_, _-_, _*_, _/_, _%_, _^_}
 use lib.Dec.{leb, ltb, eqb}
 use lib.IntN.{ℤ, pos, negsuc, subℕ, _-ℤ_}

@@ -1,1 +1,128 @@
 // A verdict with its margin: as one number in the order of both, and as the word of an answer.
+ghost use mathlib.Core.Path.{_≡_};
+ghost use Prim.Native.Nat.{_-_, _≤_, _<_, _^_};
+ghost use lib.IntN.{_-ℤ_, natAbs};
+ghost use Rattle.logic.specs.Margin.{finite, negate};
+ghost use Rattle.logic.proofs.Small.{InBits};
+ghost use Rattle.values.specs.Chain.{marginCode, marginAt, highest, chainOf, chainVerdict, chainLattice, chainOpposite, chainDifference, chainWord, wordChain};
+
+// A margin by its place in the order of margins: 0 is minus infinity, 2^27 + z the number z, 2^28 plus infinity.
+pub struct Margin {
+    pub code: u32,
+}
+
+impl Margin {
+    pub const PLUS_INFINITY: Margin = Margin { code: 268435456 };
+
+    pub const MINUS_INFINITY: Margin = Margin { code: 0 };
+
+    pub fn finite(x: i32) -> Margin
+        requires { ⌜ natAbs x < 2 ^ 27 ⌝ }
+        ensures { λ r. ⌜ r .code ≡ marginCode (finite x) ⌝ }
+    {
+        Margin {
+            code: (x + 134217728) as u32,
+        }
+    }
+
+    pub fn negate(self) -> Margin
+        requires { ⌜ self .code ≤ 2 ^ 28 ⌝ }
+        ensures { λ r. ⌜ (r .code ≡ 2 ^ 28 - self .code) × (marginAt (r .code) ≡ negate (marginAt (self .code))) ⌝ }
+    {
+        Margin {
+            code: 268435456 - self.code,
+        }
+    }
+}
+
+pub fn chain(yes: bool, margin: Margin) -> u32
+    requires { ⌜ margin .code ≤ 2 ^ 28 ⌝ }
+    ensures { λ r. ⌜ r ≡ chainOf yes (marginAt (margin .code)) ⌝ }
+{
+    2 * margin.code + yes as u32
+}
+
+// Yes at plus infinity: the least of nothing, and what is true.
+pub fn top() -> u32
+    ensures { λ r. ⌜ r ≡ highest ⌝ }
+{
+    chain(true, Margin::PLUS_INFINITY)
+}
+
+// No at minus infinity: the greatest of nothing.
+pub fn bottom() -> u32
+    ensures { λ r. ⌜ r ≡ 0 ⌝ }
+{
+    chain(false, Margin::MINUS_INFINITY)
+}
+
+// The verdict.
+pub fn yes(c: u32) -> bool
+    ensures { λ r. ⌜ r ≡ chainVerdict c ⌝ }
+{
+    268435456 < c
+}
+
+// What an atom is worth, by the difference of a sample and a constant.
+pub fn difference(x: i32, c: i32) -> u32
+    requires { ⌜ InBits 26 x × InBits 26 c ⌝ }
+    ensures { λ r. ⌜ r ≡ chainDifference (x -ℤ c) ⌝ }
+{
+    let z = x - c;
+    chain(0 <= z, Margin::finite(z))
+}
+
+// Not.
+pub fn opposite(c: u32) -> u32
+    requires { ⌜ c ≤ highest ⌝ }
+    ensures { λ r. ⌜ r ≡ chainOpposite c ⌝ }
+{
+    let margin = Margin { code: c / 2 };
+    chain(c % 2 == 0, margin.negate())
+}
+
+pub fn lesser(a: u32, b: u32) -> u32
+    ensures { λ r. ⌜ r ≡ chainLattice .meet a b ⌝ }
+{
+    if a <= b { a } else { b }
+}
+
+pub fn greater(a: u32, b: u32) -> u32
+    ensures { λ r. ⌜ r ≡ chainLattice .join a b ⌝ }
+{
+    if a <= b { b } else { a }
+}
+
+// The word of an answer.
+pub fn word_of(c: u32) -> u32
+    requires { ⌜ c ≤ highest ⌝ }
+    ensures { λ r. ⌜ r ≡ chainWord c ⌝ }
+{
+    if c == bottom() {
+        12 * 268435456
+    } else if c == top() {
+        11 * 268435456
+    } else {
+        let payload = (c / 2 + 134217728) % 268435456;
+        if yes(c) {
+            9 * 268435456 + payload
+        } else {
+            10 * 268435456 + payload
+        }
+    }
+}
+
+// The number of a word.
+pub fn of_word(w: u32) -> u32
+    ensures { λ r. ⌜ r ≡ wordChain w ⌝ }
+{
+    let kind = words::kind(w);
+    let code = (words::payload(w) + 134217728) % 268435456;
+    if kind == 12 {
+        bottom()
+    } else if kind == 11 {
+        top()
+    } else {
+        2 * code + (kind == 9) as u32
+    }
+}
