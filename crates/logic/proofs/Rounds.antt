@@ -10,7 +10,7 @@ use Rattle.logic.specs.Margin.{Margin, atMost, marginLattice}
 use Rattle.logic.specs.Surround.{surround, unbounded}
 use Rattle.logic.specs.Iteration.{iterate, masked, first, atRest, rounds}
 use Rattle.logic.proofs.Tests.{and-l, and-r, and-i, all-e, all-i}
-use Rattle.logic.proofs.Resting.{Rests}
+use Rattle.logic.proofs.Resting.{Rests, rests-on}
 use Rattle.logic.proofs.Order.{atMost-anti}
 use Rattle.logic.proofs.Margins.{margin-apart, margin-refl}
 use Rattle.logic.proofs.Thresholds.{limit-at, settled}
@@ -92,6 +92,15 @@ module _ (joined : ℕ → ℕ → Bool) (n : ℕ) (p q : ℕ → Margin) where
   pub rounds-counted : (r : ℕ) → ((j : ℕ) → j < r → Rests marginLattice joined n p q j → ⊥) → Rests marginLattice joined n p q r → rounds joined n p q ≡ suc r
   unfolding rounds
   rounds-counted r moves rests = ap suc (first-is (atRest joined n p q) (pred n) r at-end (λ j b. not-T (atRest joined n p q j) (λ h. moves j b (rest-e j h))) (rest-i r rests))
+
+  -- from the rounds on, and no sooner, all steps rest
+  pub rests-after : (i : ℕ) → rounds joined n p q ≤ suc i → Rests marginLattice joined n p q i
+  unfolding rounds last
+  rests-after i h = rests-on marginLattice joined n p q last (rest-e last at-last) i (le-of-suc-le-suc h)
+
+  pub rounds-least : (i : ℕ) → Rests marginLattice joined n p q i → rounds joined n p q ≤ suc i
+  unfolding rounds
+  rounds-least i h = let late : i < first (atRest joined n p q) (pred n) → ⊥ = λ b. T-not (atRest joined n p q i) (first-not (atRest joined n p q) (pred n) i b) (rest-i i h) in omega arith
 
   -- Theorem 4.5 for margins: what the last round leaves is the unbounded
   pub theorem : (l : ℕ) → l < n → iterate marginLattice joined n p q (rounds joined n p q) l ≡ unbounded marginLattice joined n p q l

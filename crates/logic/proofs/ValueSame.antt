@@ -16,7 +16,7 @@ module _ (R : Reading) (N : Network) where
   AlikeBelow length f g = (t l : ℕ) → t < length → l < N.places → f t l ≡ g t l
 
   until-same : (p q p′ q′ : Signal R) (m : ℕ) → AlikeBelow m p p′ → AlikeBelow m q q′ → (lower upper : ℕ)
-      → AlikeBelow (m - upper) (untilAt R N p q lower upper) (untilAt R N p′ q′ lower upper)
+      → AlikeBelow (m - upper) (untilAt R p q lower upper) (untilAt R p′ q′ lower upper)
   unfolding untilAt
   until-same p q p′ q′ m hp hq lower upper t l b c = greatest-kept R.lattice R.lattice Same (same-kept R.lattice) (leb (t + lower)) _ _ (suc (t + upper))
       (λ u e. ap₂ (R.lattice .meet) (hq u l (omega arith) c)
@@ -41,7 +41,7 @@ module _ (R : Reading) (N : Network) where
     rights : (i j : ℕ) → AlikeBelow (min (len i) (len j)) (line j) (line′ j)
     rights i j t l b c = alike j t l (omega arith) c
 
-    opposites : (i : ℕ) → AlikeBelow (len i) (opposite R N (line i)) (opposite R N (line′ i))
+    opposites : (i : ℕ) → AlikeBelow (len i) (opposite R (line i)) (opposite R (line′ i))
     opposites i t l b c = ap R.opposite (alike i t l b c)
 
     pub value-same : (o : Operator) → AlikeBelow (lengthOf T len o) (value R N x line o) (value R N x line′ o)
