@@ -1,1 +1,2 @@
 pub mod StripLaws
+pub mod Least

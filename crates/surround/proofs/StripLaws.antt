@@ -10,7 +10,9 @@ use lib.ListN.{length, getD, set}
 use lib.Seq.{getD-set-same, getD-set-other}
 use Rattle.words.proofs.Rows.{same-index}
 use Rattle.surround.specs.Lanes.{lanes, laneOf}
-use Rattle.surround.specs.Strips.{Written, StripsApart}
+use Rattle.values.specs.Chain.{chainLattice}
+use Rattle.surround.specs.Strips.{Written, StripsApart, RowsApart}
+use Rattle.surround.specs.Steps.{RoadPulled}
 
 -- ---- writing
 pub written-none : (place : ℕ) (f : ℕ → ℕ) (s : List ℕ) → Written place 0 f s s
@@ -25,7 +27,7 @@ written-more place k f s t v w b l e =
           (getD-set-same t (place * lanes + k) v 0 l ∙ e);
       kept = λ p lane c h.
           getD-set-other t (place * lanes + k) (p * lanes + lane) v 0 (λ q. let (same, here) = same-index p lane place k lanes c b q in omega (arith, h same))
-          ∙ w .kept p lane c (λ same. omega (arith, h same))
+          ∙ w .kept p lane c (λ same. omega (arith, h same));
     }
 
 -- ---- comparing: what is known after the first k lanes
@@ -44,7 +46,7 @@ module _ (h : ℕ → ℕ) (a b : List ℕ) (place : ℕ) where
   sofar-same r s k w e q =
       record {
         alike = λ z. below-more (λ lane. h (laneOf a lane place) ≡ h (laneOf b lane place)) k (w .alike (sym e ∙ z)) q;
-        apart = λ z. let u = w .apart (sym e ∙ z) in (u .0, omega (arith, u .1), u .2)
+        apart = λ z. let u = w .apart (sym e ∙ z) in (u .0, omega (arith, u .1), u .2);
       }
 
   pub sofar-other : (s : Bool) (k : ℕ) → s ≡ true → (h (laneOf a k place) ≡ h (laneOf b k place) → ⊥) → Sofar s h a b place (k + 1)
@@ -52,6 +54,40 @@ module _ (h : ℕ → ℕ) (a b : List ℕ) (place : ℕ) where
 
   pub sofar-all : (r : Bool) (k : ℕ) → k ≡ lanes → Sofar r h a b place k → StripsApart r h a b place
   sofar-all r k e w = record {
-      alike = λ z lane l. w .alike z lane (omega arith);
-      apart = λ z. let u = w .apart z in (u .0, omega (arith, u .1), u .2)
-    }
+    alike = λ z lane l. w .alike z lane (omega arith);
+    apart = λ z. let u = w .apart z in (u .0, omega (arith, u .1), u .2);
+  }
+
+-- ---- strip after strip
+module _ (h : ℕ → ℕ) (a b : List ℕ) where
+  pub rows-none : RowsApart false h a b 0
+  rows-none = record { alike = λ e p lane l. absurd (omega arith); apart = λ e. absurd (false-true e) }
+
+  pub rows-more : (r : Bool) (k : ℕ) → RowsApart false h a b k → r ≡ false → StripsApart r h a b k → RowsApart false h a b (k + 1)
+  rows-more r k w e s = record {
+    alike = λ z p lane l m. below-more (λ q. h (laneOf a lane q) ≡ h (laneOf b lane q)) k (λ q c. w .alike z q lane c m) (s .alike e lane m) p l;
+    apart = λ z. absurd (false-true z);
+  }
+
+  pub rows-found : (r : Bool) (k n : ℕ) → k < n → r ≡ true → StripsApart r h a b k → RowsApart true h a b n
+  rows-found r k n l e s = record {
+    alike = λ z. absurd (false-true (sym z));
+    apart = λ _. let u = s .apart e in (k, u .0, l, u .1, u .2);
+  }
+
+-- ---- from the front on
+pub filled-more : (f : ℕ → ℕ) (s : List ℕ) (i v : ℕ) → i < length s → v ≡ f i → ((j : ℕ) → j < i → getD s j 0 ≡ f j) → (j : ℕ) → j < i + 1 → getD (set s i v) j 0 ≡ f j
+filled-more f s i v l e h = below-more (λ j. getD (set s i v) j 0 ≡ f j) i
+    (λ j b. getD-set-other s i j v 0 (λ q. absurd (omega arith)) ∙ h j b)
+    (getD-set-same s i v 0 l ∙ e)
+
+-- ---- two pulls along a road
+pub road-pulled : (a b : ℕ) (both x y z : List ℕ) → (a ≡ b → ⊥)
+    → Written a lanes (λ lane. chainLattice .meet (laneOf x lane a) (laneOf both lane b)) x y
+    → Written b lanes (λ lane. chainLattice .meet (laneOf y lane b) (laneOf both lane a)) y z
+    → RoadPulled a b both x z
+road-pulled a b both x y z ne v w = record {
+  first = λ lane l. w .kept a lane l (λ e. absurd (ne e)) ∙ v .written lane l;
+  second = λ lane l. w .written lane l ∙ ap (λ (u : ℕ). chainLattice .meet u (laneOf both lane a)) (v .kept b lane l (λ e. absurd (ne (sym e))));
+  other = λ p lane l u t. w .kept p lane l (λ e. absurd (t e)) ∙ v .kept p lane l (λ e. absurd (u e));
+}

@@ -5,14 +5,9 @@ ghost use lib.ListN.{length};
 ghost use Rattle.values.specs.Chain.{chainLattice};
 ghost use Rattle.surround.specs.Lanes.{lanes, laneOf};
 ghost use Rattle.surround.specs.Strips.{Written, StripsApart};
+use values::lesser;
 
 pub const LANES: usize = 16;
-
-fn lesser(a: u32, b: u32) -> u32
-    ensures { λ r. ⌜ r ≡ chainLattice .meet a b ⌝ }
-{
-    if a <= b { a } else { b }
-}
 
 pub fn zero_strip(row: &mut [u32], place: usize)
     requires { ⌜ place * lanes + lanes ≤ length (now row) ⌝ }

@@ -9,8 +9,6 @@ use Rattle.surround.proofs.StripLaws.{written-none, written-more}
 use borrow.Author.Needs.{needs}
 use Rattle.surround.proofs.strips.copy_strip.Statement.{statement}
 use Rattle.surround.proofs.strips.copy_strip.Tie as tie
-use Rattle.surround.proofs.strips.copy_strip.Reads as reads
-use Rattle.surround.proofs.strips.copy_strip.Lts as lts
 
 abbrev Inv-loop : tie.InvT-loop
 Inv-loop from to₀ place lane₀ to lane = (lane ≤ lanes) × (length to ≡ length to₀) × Written place lane (λ l. laneOf from l place) to₀ to

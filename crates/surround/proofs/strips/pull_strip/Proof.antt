@@ -9,9 +9,6 @@ use Rattle.surround.proofs.StripLaws.{written-none, written-more}
 use borrow.Author.Needs.{needs}
 use Rattle.surround.proofs.strips.pull_strip.Statement.{statement}
 use Rattle.surround.proofs.strips.pull_strip.Tie as tie
-use Rattle.surround.proofs.strips.pull_strip.Reads as reads
-use Rattle.surround.proofs.strips.pull_strip.Lts as lts
-use Rattle.surround.proofs.strips.lesser.Reads as lesser-reads
 
 abbrev Inv-loop : tie.InvT-loop
 Inv-loop x₀ both place other lane₀ x lane = (lane ≤ lanes) × (length x ≡ length x₀) × Written place lane (λ l. chainLattice .meet (laneOf x₀ l place) (laneOf both l other)) x₀ x
@@ -66,10 +63,12 @@ loop-again c =
     let h = c .before .before .before .before .loop in
     let g = c .before .before .before .before .before .before .before .args in
     let pulled : ℕ → ℕ = λ l. chainLattice .meet (laneOf (g .x .now) l (g .place)) (laneOf (g .both .now) l (g .other)) in
-    let same : laneOf (h .x) (h .lane) (g .place) ≡ laneOf (g .x .now) (h .lane) (g .place) = h .inv .2 .kept (g .place) (h .lane) (omega arith) (λ _. omega arith) in
-    (search needs, search needs,
-    written-more (g .place) (h .lane) pulled (g .x .now) (h .x) (c .lesser .result) (h .inv .2) (omega arith) (omega arith)
-      (c .lesser .ensures ∙ ap (λ (v : ℕ). chainLattice .meet v (laneOf (g .both .now) (h .lane) (g .other))) same))
+    let same : laneOf (h .x) (h .lane) (g .place) ≡ laneOf (g .x .now) (h .lane) (g .place) = h .inv .2 .kept (g .place) (h .lane) (omega arith) (λ _. omega arith) in (
+      search needs,
+      search needs,
+      written-more (g .place) (h .lane) pulled (g .x .now) (h .x) (c .lesser .result) (h .inv .2) (omega arith) (omega arith)
+          (c .lesser .ensures ∙ ap (λ (v : ℕ). chainLattice .meet v (laneOf (g .both .now) (h .lane) (g .other))) same),
+    )
 
 same-length : tie.Need-same-length Inv-loop μ-loop
 same-length c = search needs

@@ -7,8 +7,6 @@ use Rattle.surround.proofs.StripLaws.{Sofar, sofar-none, sofar-same, so
 use borrow.Author.Needs.{needs}
 use Rattle.surround.proofs.strips.strip_fell.Statement.{statement}
 use Rattle.surround.proofs.strips.strip_fell.Tie as tie
-use Rattle.surround.proofs.strips.strip_fell.Reads as reads
-use Rattle.surround.proofs.strips.strip_fell.Lts as lts
 
 abbrev Inv-loop : tie.InvT-loop
 Inv-loop old x place fell₀ lane₀ fell lane = (lane ≤ lanes) × Sofar fell (λ c. c / 2) old x place lane
@@ -48,12 +46,13 @@ loop-less c = search needs
 loop-again : tie.Need-loop-again Inv-loop μ-loop
 loop-again c =
     let h = c .before .before .before .before .loop in
-    let g = c .before .before .before .before .before .args in
-    (search needs,
-    ⊎-elim
-      (λ w. sofar-other (λ v. v / 2) (g .old .now) (g .x .now) (g .place) (c .if1 .fell) (h .lane) (w .1) (w .0 .taken))
-      (λ w. sofar-same (λ v. v / 2) (g .old .now) (g .x .now) (g .place) (h .fell) (c .if1 .fell) (h .lane) (h .inv .1) (w .1) (w .0 .left))
-      (c .if1 .came))
+    let g = c .before .before .before .before .before .args in (
+      search needs,
+      ⊎-elim
+          (λ w. sofar-other (λ v. v / 2) (g .old .now) (g .x .now) (g .place) (c .if1 .fell) (h .lane) (w .1) (w .0 .taken))
+          (λ w. sofar-same (λ v. v / 2) (g .old .now) (g .x .now) (g .place) (h .fell) (c .if1 .fell) (h .lane) (h .inv .1) (w .1) (w .0 .left))
+          (c .if1 .came),
+    )
 
 returns : tie.Need-returns Inv-loop μ-loop
 returns c =

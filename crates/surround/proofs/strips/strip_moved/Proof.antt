@@ -7,8 +7,6 @@ use Rattle.surround.proofs.StripLaws.{Sofar, sofar-none, sofar-same, so
 use borrow.Author.Needs.{needs}
 use Rattle.surround.proofs.strips.strip_moved.Statement.{statement}
 use Rattle.surround.proofs.strips.strip_moved.Tie as tie
-use Rattle.surround.proofs.strips.strip_moved.Reads as reads
-use Rattle.surround.proofs.strips.strip_moved.Lts as lts
 
 abbrev Inv-loop : tie.InvT-loop
 Inv-loop old x place moved₀ lane₀ moved lane = (lane ≤ lanes) × Sofar moved (λ c. c) old x place lane
@@ -48,12 +46,13 @@ loop-less c = search needs
 loop-again : tie.Need-loop-again Inv-loop μ-loop
 loop-again c =
     let h = c .before .before .before .before .loop in
-    let g = c .before .before .before .before .before .args in
-    (search needs,
-    ⊎-elim
-      (λ w. sofar-other (λ v. v) (g .old .now) (g .x .now) (g .place) (c .if1 .moved) (h .lane) (w .1) (w .0 .taken))
-      (λ w. sofar-same (λ v. v) (g .old .now) (g .x .now) (g .place) (h .moved) (c .if1 .moved) (h .lane) (h .inv .1) (w .1) (w .0 .left))
-      (c .if1 .came))
+    let g = c .before .before .before .before .before .args in (
+      search needs,
+      ⊎-elim
+          (λ w. sofar-other (λ v. v) (g .old .now) (g .x .now) (g .place) (c .if1 .moved) (h .lane) (w .1) (w .0 .taken))
+          (λ w. sofar-same (λ v. v) (g .old .now) (g .x .now) (g .place) (h .moved) (c .if1 .moved) (h .lane) (h .inv .1) (w .1) (w .0 .left))
+          (c .if1 .came),
+    )
 
 returns : tie.Need-returns Inv-loop μ-loop
 returns c =

@@ -9,8 +9,6 @@ use Rattle.surround.proofs.StripLaws.{written-none, written-more}
 use borrow.Author.Needs.{needs}
 use Rattle.surround.proofs.strips.zero_strip.Statement.{statement}
 use Rattle.surround.proofs.strips.zero_strip.Tie as tie
-use Rattle.surround.proofs.strips.zero_strip.Reads as reads
-use Rattle.surround.proofs.strips.zero_strip.Lts as lts
 
 abbrev Inv-loop : tie.InvT-loop
 Inv-loop row₀ place lane₀ row lane = (lane ≤ lanes) × (length row ≡ length row₀) × Written place lane (λ _. 0) row₀ row

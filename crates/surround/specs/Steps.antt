@@ -1,0 +1,49 @@
+-- What a round does, row by row: `both` holds what each place hands to its neighbours, and a pull takes it over where it is less.
+use mathlib.Core.Path.{_≡_}
+use mathlib.Core.Bool.{Bool}
+use mathlib.Core.List.{List}
+use Prim.Native.Nat.{ℕ, _*_, _<_, _≤_}
+use lib.Dec.{T}
+use lib.ListN.{length}
+use Rattle.logic.specs.Lattice.{leastOver}
+use Rattle.sheet.specs.Checked.{wordAt}
+use Rattle.sheet.specs.Layout.{roadAt, firstPlace, secondPlace}
+use Rattle.values.specs.Chain.{chainLattice, highest}
+use Rattle.surround.specs.Lanes.{lanes, laneOf, joinedBy}
+
+-- the words of the roads are there, and each road joins two of the n places
+pub record RoadsIn (sheet : List ℕ) (roads n : ℕ) : Type 0 where
+  pub there : (r : ℕ) → r < roads → roadAt r < length sheet
+  pub order : (r : ℕ) → r < roads → firstPlace (wordAt sheet (roadAt r)) < secondPlace (wordAt sheet (roadAt r))
+  pub inside : (r : ℕ) → r < roads → secondPlace (wordAt sheet (roadAt r)) < n
+
+-- the numbers of n places, none above the highest
+pub record Bounded (row : List ℕ) (n : ℕ) : Type 0 where
+  pub bound : (place lane : ℕ) → place < n → lane < lanes → laneOf row lane place ≤ highest
+
+-- old is x, and both the greater of x and right
+pub record Joined (x right old both : List ℕ) (n : ℕ) : Type 0 where
+  pub former : (place lane : ℕ) → place < n → lane < lanes → laneOf old lane place ≡ laneOf x lane place
+  pub handed : (place lane : ℕ) → place < n → lane < lanes → laneOf both lane place ≡ chainLattice .join (laneOf x lane place) (laneOf right lane place)
+
+-- each of two places takes over from the other
+pub record RoadPulled (a b : ℕ) (both before after : List ℕ) : Type 0 where
+  pub first : (lane : ℕ) → lane < lanes → laneOf after lane a ≡ chainLattice .meet (laneOf before lane a) (laneOf both lane b)
+  pub second : (lane : ℕ) → lane < lanes → laneOf after lane b ≡ chainLattice .meet (laneOf before lane b) (laneOf both lane a)
+  pub other : (place lane : ℕ) → lane < lanes → (place ≡ a → ⊥) → (place ≡ b → ⊥) → laneOf after lane place ≡ laneOf before lane place
+
+-- y is the least of x and of f where the test passes
+pub record LeastOf (y x : ℕ) (test : ℕ → Bool) (f : ℕ → ℕ) : Type 0 where
+  pub below : y ≤ x
+  pub under : (p : ℕ) → T (test p) → y ≤ f p
+  pub greatest : (z : ℕ) → z ≤ x → ((p : ℕ) → T (test p) → z ≤ f p) → z ≤ y
+
+-- each place has taken over along the first roads
+pub record Stepped (sheet : List ℕ) (roads : ℕ) (both before after : List ℕ) : Type 0 where
+  pub least : (place lane : ℕ) → lane < lanes → LeastOf (laneOf after lane place) (laneOf before lane place) (joinedBy sheet roads place) (laneOf both lane)
+
+-- one round of Definition 4.4 in every lane, with the former numbers in `old`
+pub record Round (sheet : List ℕ) (roads n : ℕ) (right before old after : List ℕ) : Type 0 where
+  pub former : (place lane : ℕ) → place < n → lane < lanes → laneOf old lane place ≡ laneOf before lane place
+  pub stepped : (place lane : ℕ) → place < n → lane < lanes → laneOf after lane place
+      ≡ chainLattice .meet (laneOf before lane place) (leastOver chainLattice (joinedBy sheet roads place) (λ k. chainLattice .join (laneOf before lane k) (laneOf right lane k)) n)
