@@ -1,24 +1,30 @@
 -- A margin's code and back: every code up to 2^28 is the code of one small margin, and the codes stand in the order of the margins.
 use mathlib.Core.Path.{_≡_, refl, sym, ap, subst, _∙_}
-use mathlib.Core.Logic.{_⊎_, inl, inr}
-use mathlib.Core.Bool.{Bool, true, false, not}
+use mathlib.Core.Logic.{_⊎_, inl, inr, ⊎-elim}
+use mathlib.Core.Bool.{Bool, true, false}
 use Prim.Native.Nat.{ℕ, zero, suc, _+_, _-_, _<_, _≤_, _^_, zero-le}
 use native.Mathlib.Nat.{eq-or-lt-of-le, eq-zero-or-pos}
 use native.Mathlib.Omega.{arith}
-use lib.Dec.{T, leb, ltb, le→leb, leb→le, ltb→lt, nltb→le}
+use lib.Dec.{T, leb, le→leb, leb→le}
 use lib.IntN.{pos, negsuc, subℕ}
 use mir.Val.{boolByte}
 use borrow.Author.Tests.{lt-ltb, le-ltb, ne-eqb}
 use Rattle.logic.specs.Margin.{Margin, minusInfinity, finite, plusInfinity, atMost, negate}
 use Rattle.logic.specs.Counts.{count}
 use Rattle.logic.proofs.Small.{Small, small-negate}
-use Rattle.logic.proofs.Tests.{bool-ext, decT}
+use Rattle.logic.proofs.Order.{atMost-plusInfinity}
+use Rattle.logic.proofs.Tests.{bool-ext}
 use Rattle.values.specs.Chain.{marginCode, marginAt}
+use Rattle.values.proofs.Naturals.{le-or-lt}
 
 -- ---- the margin of a code
-at-between : (code : ℕ) → 0 < code → code < 2 ^ 28 → marginAt code ≡ finite (subℕ code (2 ^ 27))
+pub at-between : (code : ℕ) → 0 < code → code < 2 ^ 28 → marginAt code ≡ finite (subℕ code (2 ^ 27))
 unfolding marginAt
 at-between code low high = simp (ne-eqb code 0 (λ e. omega arith), lt-ltb code (2 ^ 28) high)
+
+pub at-infinite : (code : ℕ) → 2 ^ 28 ≤ code → marginAt code ≡ plusInfinity
+unfolding marginAt
+at-infinite code high = simp (ne-eqb code 0 (λ e. omega arith), le-ltb code (2 ^ 28) high)
 
 pub at-code : (m : Margin) → Small m → marginAt (marginCode m) ≡ m
 unfolding marginAt
@@ -80,21 +86,26 @@ pub record Coded (code : ℕ) : Type 0 where
   pub codes : marginCode margin ≡ code
 
 pub coded : (code : ℕ) → code ≤ 2 ^ 28 → Coded code
-coded code h = by-cases (eq-zero-or-pos code) (eq-or-lt-of-le h) (decT (ltb code (2 ^ 27)))
+coded code h = by-cases (eq-zero-or-pos code) (eq-or-lt-of-le h) (le-or-lt (2 ^ 27) code)
   where
-    by-cases : (code ≡ 0) ⊎ (0 < code) → (code ≡ 2 ^ 28) ⊎ (code < 2 ^ 28) → T (ltb code (2 ^ 27)) ⊎ T (not (ltb code (2 ^ 27))) → Coded code
+    by-cases : (code ≡ 0) ⊎ (0 < code) → (code ≡ 2 ^ 28) ⊎ (code < 2 ^ 28) → (2 ^ 27 ≤ code) ⊎ (code < 2 ^ 27) → Coded code
     by-cases (inl e) q r = record { margin = minusInfinity; small = tt; codes = sym e }
     by-cases (inr p) (inl e) r = record { margin = plusInfinity; small = tt; codes = sym e }
-    by-cases (inr p) (inr q) (inl r) = let low = ltb→lt code (2 ^ 27) r in
-        record { margin = finite (negsuc (2 ^ 27 - suc code)); small = omega arith; codes = omega arith }
-    by-cases (inr p) (inr q) (inr r) = let high = nltb→le code (2 ^ 27) r in
-        record { margin = finite (pos (code - 2 ^ 27)); small = omega arith; codes = omega arith }
+    by-cases (inr p) (inr q) (inl r) = record { margin = finite (pos (code - 2 ^ 27)); small = omega arith; codes = omega arith }
+    by-cases (inr p) (inr q) (inr r) = record { margin = finite (negsuc (2 ^ 27 - suc code)); small = omega arith; codes = omega arith }
 
 pub code-at : (code : ℕ) → code ≤ 2 ^ 28 → marginCode (marginAt code) ≡ code
 code-at code h = let k = coded code h in ap (λ n. marginCode (marginAt n)) (sym (k .codes)) ∙ ap marginCode (at-code (k .margin) (k .small)) ∙ k .codes
 
 pub at-small : (code : ℕ) → code ≤ 2 ^ 28 → Small (marginAt code)
 at-small code h = let k = coded code h in subst Small (sym (at-code (k .margin) (k .small)) ∙ ap marginAt (k .codes)) (k .small)
+
+-- more is no less, beyond the codes too
+pub at-monotone : (a b : ℕ) → a ≤ b → T (atMost (marginAt a) (marginAt b))
+at-monotone a b h = ⊎-elim
+    (λ high. rw (at-infinite b high) (atMost-plusInfinity (marginAt a)))
+    (λ low. rw (code-order (marginAt a) (marginAt b) (at-small a (omega arith)) (at-small b (omega arith)), code-at a (omega arith), code-at b (omega arith)) (le→leb a b h))
+    (le-or-lt (2 ^ 28) b)
 
 pub at-negate : (code : ℕ) → code ≤ 2 ^ 28 → marginAt (2 ^ 28 - code) ≡ negate (marginAt code)
 at-negate code h =

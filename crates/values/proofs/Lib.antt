@@ -1,3 +1,9 @@
 pub mod ReadBack
+pub mod Naturals
 pub mod Codes
 pub mod Signed
+pub mod Valid
+pub mod Projections
+pub mod ChainTable
+pub mod ChainWords
+pub mod ChainSurround

@@ -1,17 +1,17 @@
 -- Every verdict has one of the kinds 9 to 12, and reading its word gives back the verdict and margin that it was made from: they agree and
 -- the margin is below 2^27 in size.
 use mathlib.Core.Path.{_≡_, refl, ap, ap₂, _∙_}
-use mathlib.Core.Bool.{Bool, true, false, cond, _&&_, _||_}
-use Prim.Native.Nat.{ℕ, zero, suc, _+_, _-_, _*_, _/_, _%_, _^_, _<_, _≤_}
+use mathlib.Core.Bool.{Bool, true, false}
+use Prim.Native.Nat.{ℕ, zero, suc, _-_, _^_, _<_, _≤_}
 use native.Mathlib.Omega.{arith}
-use lib.Dec.{T, ltb, leb, eqb, leb→le}
-use lib.IntN.{ℤ, pos, negsuc}
+use lib.Dec.{leb→le}
+use lib.IntN.{pos, negsuc}
 use borrow.Author.Tests.{lt-ltb, le-ltb, ne-eqb}
-use Rattle.words.specs.Word.{kindOf, payloadOf, wordOf, signed, unsigned}
+use Rattle.words.specs.Word.{kindOf, payloadOf, wordOf, signed}
 use Rattle.logic.specs.Margin.{Margin, minusInfinity, finite, plusInfinity}
 use Rattle.logic.specs.Steadiness.{Agree}
 use Rattle.logic.proofs.Small.{Small}
-use Rattle.values.specs.Said.{verdictWord, Said, says, said, saidBy}
+use Rattle.values.specs.Said.{verdictWord, says, said, saidBy}
 
 -- ---- two's complement of 28 bits, there and back
 signed-negsuc : (x : ℕ) → suc x < 2 ^ 27 → signed 28 (2 ^ 28 - suc x) ≡ negsuc x
@@ -21,10 +21,10 @@ signed-negsuc x h =
     rw (le-ltb (2 ^ 28 - suc x) (2 ^ 27) high, back) refl
 
 -- ---- a word of a kind and a payload
-kind-word : (k p : ℕ) → p < 2 ^ 28 → kindOf (wordOf k p) ≡ k
+pub kind-word : (k p : ℕ) → p < 2 ^ 28 → kindOf (wordOf k p) ≡ k
 kind-word k p h = omega arith
 
-payload-word : (k p : ℕ) → p < 2 ^ 28 → payloadOf (wordOf k p) ≡ p
+pub payload-word : (k p : ℕ) → p < 2 ^ 28 → payloadOf (wordOf k p) ≡ p
 payload-word k p h = omega arith
 
 said-word : (k p : ℕ) → p < 2 ^ 28 → saidBy (wordOf k p) ≡ said k p

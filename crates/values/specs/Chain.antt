@@ -3,7 +3,8 @@
 -- The pairs that can arise are a chain in the order of both, so the lesser of two numbers is the "both" of the verdicts and the lesser margin.
 -- `chains` is a third reading of the logic: it is what the engine computes with, and no promise to a host speaks of it.
 use mathlib.Core.Bool.{Bool, cond}
-use Prim.Native.Nat.{ℕ, suc, _+_, _-_, _*_, _/_, _%_, _^_}
+use mathlib.Core.Path.{_≡_}
+use Prim.Native.Nat.{ℕ, suc, _+_, _-_, _*_, _/_, _%_, _≤_, _^_}
 use lib.Dec.{leb, ltb, eqb}
 use lib.IntN.{ℤ, pos, negsuc, subℕ, _-ℤ_}
 use lib.Signed.{leZ}
@@ -35,6 +36,11 @@ chainMargin c = marginAt (c / 2)
 
 abbrev pub chainVerdict : ℕ → Bool
 chainVerdict c = ltb (2 ^ 28) c
+
+-- The numbers that can arise: margin and verdict agree, so those of a no are even and those of a yes odd.
+pub record Valid (c : ℕ) : Type 0 where
+  pub bounded : c ≤ highest
+  pub agrees : c % 2 ≡ count (chainVerdict c)
 
 abbrev pub chainLattice : Lattice
 chainLattice = ordered leb 0 highest
