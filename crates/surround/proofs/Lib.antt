@@ -1,2 +1,3 @@
 pub mod StripLaws
 pub mod Least
+pub mod Settling

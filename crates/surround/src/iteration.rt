@@ -5,7 +5,7 @@ ghost use lib.ListN.{length};
 ghost use Rattle.words.specs.Bytes.{wordsOf};
 ghost use Rattle.surround.specs.Lanes.{lanes, laneOf};
 ghost use Rattle.surround.specs.Strips.{RowsApart};
-ghost use Rattle.surround.specs.Steps.{RoadsIn, Bounded, Joined, RoadPulled, Stepped, Round};
+ghost use Rattle.surround.specs.Steps.{RoadsIn, Bounded, ValidRow, Joined, RoadPulled, Stepped, Round, Settled};
 use crate::strips::LANES;
 use crate::strips::pull_strip;
 use crate::strips::strip_fell;
@@ -81,4 +81,28 @@ fn moved(old: &[u32], x: &[u32], places: usize) -> bool
         }
     }
     false
+}
+
+// Steps until no place changes in any lane. The rounds count the steps in which a margin fell; verdicts may still move after these.
+pub fn settle(
+    x: &mut [u32],
+    right: &[u32],
+    old: &mut [u32],
+    both: &mut [u32],
+    places: usize,
+    sheet: &[u8],
+    roads: usize,
+) -> u64
+    requires { ⌜ RoadsIn (wordsOf (now sheet)) roads places × ValidRow (now x) places × ValidRow (now right) places × (places ≤ 64) × (places * lanes ≤ length (now x)) × (length (now right) ≡ length (now x)) × (length (now old) ≡ length (now x)) × (length (now both) ≡ length (now x)) ⌝ }
+    ensures { λ r. ⌜ Settled (wordsOf (now (sheet .entry))) roads places (now (right .entry)) (now (x .entry)) r (now (x .exit)) ⌝ }
+{
+    let mut rounds: u64 = 1;
+    loop {
+        round(x, right, old, both, places, sheet, roads);
+        if fell(old, x, places) {
+            rounds += 1;
+        } else if !moved(old, x, places) {
+            break rounds;
+        }
+    }
 }
