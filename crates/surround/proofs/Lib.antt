@@ -1,3 +1,4 @@
 pub mod StripLaws
 pub mod Least
 pub mod Settling
+pub mod RowLaws
