@@ -31,13 +31,6 @@ meet-min a b = go (decLe a b)
     go (yes h) = rw (le-leb a b h) (omega arith)
     go (no h) = rw (lt-leb a b (omega arith)) (omega arith)
 
-pub join-max : (a b : ℕ) → chainLattice .join a b ≡ max a b
-join-max a b = go (decLe a b)
-  where
-    go : Dec (a ≤ b) → cond (leb a b) b a ≡ max a b
-    go (yes h) = rw (le-leb a b h) (omega arith)
-    go (no h) = rw (lt-leb a b (omega arith)) (omega arith)
-
 -- ---- leastOver on chain numbers
 cond-le : (t : Bool) (z a b : ℕ) → (T t → z ≤ a) → z ≤ b → z ≤ cond t a b
 cond-le true z a b h k = h tt

@@ -17,7 +17,8 @@ use Rattle.values.proofs.ChainSurround.{halves-rest-after, rounds-of-halves}
 use Rattle.surround.specs.Lanes.{lanes, laneOf, joinedBy}
 use Rattle.surround.specs.Strips.{RowsApart}
 use Rattle.surround.specs.Steps.{Bounded, ValidRow, Round, stepIn, roundsIn, Settled}
-use Rattle.surround.proofs.Least.{meet-min, join-max}
+use Rattle.surround.proofs.Least.{meet-min}
+use Rattle.surround.proofs.Greatest.{most-le, le-most}
 
 -- ---- sums
 sum-le : (f g : ℕ → ℕ) (n : ℕ) → ((i : ℕ) → i < n → f i ≤ g i) → sumBelow f n ≤ sumBelow g n
@@ -45,17 +46,6 @@ total x n = sumBelow (λ place. sumBelow (λ lane. laneOf x lane place) lanes) n
 pub total-bound : (x : List ℕ) (n : ℕ) → Bounded x n → total x n ≤ n * (lanes * highest)
 unfolding total
 total-bound x n b = sum-bound _ n (lanes * highest) (λ place l. sum-bound (λ lane. laneOf x lane place) lanes highest (λ lane m. b .bound place lane l m))
-
--- ---- the greatest of numbers
-most-le : (f : ℕ → ℕ) (n b : ℕ) → ((i : ℕ) → i < n → f i ≤ b) → mostBelow f n ≤ b
-unfolding mostBelow
-most-le f zero b h = zero-le
-most-le f (suc n) b h = omega (arith, most-le f n b (λ i l. h i (omega arith)), h n (omega arith))
-
-le-most : (f : ℕ → ℕ) (n i : ℕ) → i < n → f i ≤ mostBelow f n
-unfolding mostBelow
-le-most f zero i l = absurd (not-suc-le-zero l)
-le-most f (suc n) i l = ⊎-elim (λ e. rw e (omega arith)) (λ k. omega (arith, le-most f n i k)) (below l)
 
 module _ (sheet : List ℕ) (roads n : ℕ) (right x₀ : List ℕ) where
   abbrev stepOf : ℕ → ℕ → ℕ → ℕ

@@ -1,6 +1,6 @@
 -- What is done for a block of samples: the strips of the operands are read once, and masked, settled and written centre by centre.
 use mathlib.Core.Path.{_≡_}
-use mathlib.Core.Bool.{Bool, cond}
+use mathlib.Core.Bool.{cond}
 use mathlib.Core.List.{List}
 use Prim.Native.Nat.{ℕ, _+_, _*_, _<_, _≤_}
 use lib.Dec.{ltb}
@@ -24,19 +24,14 @@ laneSignal words start n first count lane place = cond (ltb lane count) (signalI
 
 -- rows of the operands; a sheet with its roads; distances; bounds
 module _ (left right : List ℕ) (n : ℕ) (sheet : List ℕ) (roads : ℕ) (distances : List ℕ) (lower upper : ℕ) where
-  abbrev pub inner : ℕ → ℕ → Bool
-  inner centre = inTable distances n centre 0 upper
-
-  abbrev pub outer : ℕ → ℕ → Bool
-  outer centre = inTable distances n centre lower upper
-
   unfoldable pub laneSurround : ℕ → ℕ → ℕ
-  laneSurround lane centre = surround chainLattice (joinedBy sheet roads) n (inner centre) (outer centre) (laneOf left lane) (laneOf right lane) centre
+  laneSurround lane centre = surround chainLattice (joinedBy sheet roads) n (inTable distances n centre 0 upper) (inTable distances n centre lower upper)
+      (laneOf left lane) (laneOf right lane) centre
 
   unfoldable pub laneRounds : ℕ → ℕ → ℕ
   laneRounds centre lane = rounds (joinedBy sheet roads) n
-      (masked marginLattice (inner centre) (λ l. chainMargin (laneOf left lane l)))
-      (masked marginLattice (outer centre) (λ l. chainMargin (laneOf right lane l)))
+      (masked marginLattice (inTable distances n centre 0 upper) (λ l. chainMargin (laneOf left lane l)))
+      (masked marginLattice (inTable distances n centre lower upper) (λ l. chainMargin (laneOf right lane l)))
 
   -- the surround of every lane at a centre, with the greatest rounds of a lane
   pub record CentreDone (centre : ℕ) (after : List ℕ) (r : ℕ) : Type 0 where

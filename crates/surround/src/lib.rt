@@ -1,6 +1,6 @@
 // The surround: Definition 4.4's iteration for several samples side by side, from the words of an answer.
 ghost use mathlib.Core.Path.{_≡_};
-ghost use Prim.Native.Nat.{_*_, _≤_, _<_};
+ghost use Prim.Native.Nat.{_*_, _≤_, _<_, max};
 ghost use lib.ListN.{length};
 ghost use Rattle.words.specs.Bytes.{wordsOf, numbersOf};
 ghost use Rattle.surround.specs.Lanes.{lanes};
@@ -18,6 +18,12 @@ use strips::copy_strip;
 
 // A row of 16 lanes for each of the 64 places that a sheet may have.
 pub const ROW: usize = 1024;
+
+fn greater_of(a: u64, b: u64) -> u64
+    ensures { λ r. ⌜ r ≡ max a b ⌝ }
+{
+    if a < b { b } else { a }
+}
 
 // The surround about one centre: x has it at the centre, and no more than that.
 fn surround_centre(
@@ -41,4 +47,46 @@ fn surround_centre(
     mask(left, x, distances, centre, places, 0, upper);
     mask(right, ring, distances, centre, places, lower, upper);
     settle(x, ring, old, both, places, sheet, roads)
+}
+
+// The surrounds about all centres, and the greatest rounds of one.
+fn surround_centres(
+    left: &[u32],
+    right: &[u32],
+    places: usize,
+    sheet: &[u8],
+    roads: usize,
+    distances: &[u8],
+    lower: u64,
+    upper: u64,
+    out: &mut [u32],
+) -> u64
+    requires { ⌜ (places ≤ 64) × RoadsIn (wordsOf (now sheet)) roads places × (places * places ≤ length (numbersOf (wordsOf (now distances)))) × ValidRow (now left) places × ValidRow (now right) places × (places * lanes ≤ length (now left)) × (places * lanes ≤ length (now right)) × (places * lanes ≤ length (now out)) ⌝ }
+    ensures { λ r. ⌜ CentresDone (now (left .entry)) (now (right .entry)) places (wordsOf (now (sheet .entry))) roads (numbersOf (wordsOf (now (distances .entry)))) lower upper places (now (out .exit)) r ⌝ }
+{
+    let mut x: [u32; 1024] = [0; 1024];
+    let mut ring: [u32; 1024] = [0; 1024];
+    let mut old: [u32; 1024] = [0; 1024];
+    let mut both: [u32; 1024] = [0; 1024];
+    let mut most: u64 = 0;
+    for centre in 0..places {
+        let rounds = surround_centre(
+            left,
+            right,
+            places,
+            sheet,
+            roads,
+            distances,
+            lower,
+            upper,
+            centre,
+            &mut x,
+            &mut ring,
+            &mut old,
+            &mut both,
+        );
+        copy_strip(&x, out, centre);
+        most = greater_of(most, rounds);
+    }
+    most
 }

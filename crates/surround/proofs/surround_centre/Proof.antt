@@ -1,3 +1,11 @@
+use Prim.Native.Nat.{_*_, _≤_}
+use mathlib.Core.Path.{_≡_, sym, _∙_}
+use native.Mathlib.Omega.{arith}
+use lib.ListN.{length}
+use Rattle.words.specs.Bytes.{wordsOf, numbersOf}
+use Rattle.values.specs.Signals.{inTable}
+use Rattle.surround.specs.Lanes.{lanes}
+use Rattle.surround.proofs.Centres.{masked-valid, centre-done}
 use borrow.Author.Needs.{needs}
 use Rattle.surround.proofs.surround_centre.Statement.{statement}
 use Rattle.surround.proofs.surround_centre.Tie as tie
@@ -6,37 +14,53 @@ use Rattle.surround.proofs.surround_centre.Lts as lts
 use Rattle.surround.proofs.iteration.settle.Reads as settle-reads
 use Rattle.surround.proofs.rows.mask.Reads as mask-reads
 
--- src/lib.rt:27:5
 mask-requires : tie.Need-mask-requires
 mask-requires c κs = search needs
 
--- src/lib.rt:28:5
 mask-requires-2 : tie.Need-mask-requires-2
 mask-requires-2 c κs = search needs
 
--- src/lib.rt:29:5
 settle-requires : tie.Need-settle-requires
-settle-requires c κs = ?
+settle-requires c κs =
+    let g = c .before .before .before .before .before .before .before .before .before .before .before .before .before .before .before .before .before .before .before .before .args in
+    let p = c .before .before .before .before .before .before .before .before .before .before .before .before .before .before .before .before .before .before .before .before .pre in
+    let d = numbersOf (wordsOf (g .distances .now)) in
+    let x = c .before .before .before .before .before .before .before .before .before .before .mask in
+    let ring = c .before .before .before .before .before .before .mask2 in
+    let kx : length (x .last .1 .0) ≡ length (g .x .now) = x .kept .1 .0 in
+    let kr : length (ring .last .1 .0) ≡ length (g .ring .now) = ring .kept .1 .0 in
+    let room : g .places * lanes ≤ length (x .last .1 .0) = omega arith in (
+      p .2,
+      masked-valid (inTable d (g .places) (g .centre) 0 (g .upper)) (g .left .now) (x .last .1 .0) (g .places) (x .ensures) (p .4),
+      masked-valid (inTable d (g .places) (g .centre) (g .lower) (g .upper)) (g .right .now) (ring .last .1 .0) (g .places) (ring .ensures) (p .5),
+      p .1,
+      room,
+      kr ∙ p .9 ∙ sym kx,
+      p .10 ∙ sym kx,
+      p .11 ∙ sym kx,
+    )
 
--- src/lib.rt:23:1
 same-length : tie.Need-same-length
 same-length c = search needs
 
--- src/lib.rt:23:1
 same-length-2 : tie.Need-same-length-2
 same-length-2 c = search needs
 
--- src/lib.rt:23:1
 same-length-3 : tie.Need-same-length-3
 same-length-3 c = search needs
 
--- src/lib.rt:23:1
 same-length-4 : tie.Need-same-length-4
 same-length-4 c = search needs
 
--- src/lib.rt:23:1
 returns : tie.Need-returns
-returns c = ?
+returns c =
+    let g = c .before .before .before .before .before .before .before .before .before .before .before .before .before .before .before .before .before .before .before .before .before .before .before .before .before .before .before .args in
+    let p = c .before .before .before .before .before .before .before .before .before .before .before .before .before .before .before .before .before .before .before .before .before .before .before .before .before .before .before .pre in
+    let x = c .before .before .before .before .before .before .before .before .before .before .before .before .before .before .before .before .before .mask in
+    let ring = c .before .before .before .before .before .before .before .before .before .before .before .before .before .mask2 in
+    let s = c .before .before .before .before .before .before .settle in
+    centre-done (g .left .now) (g .right .now) (g .places) (wordsOf (g .sheet .now)) (g .roads) (numbersOf (wordsOf (g .distances .now))) (g .lower) (g .upper) (g .centre)
+    (x .last .1 .0) (ring .last .1 .0) (s .last .0) (s .result) (p .0) (p .4) (p .5) (x .ensures) (ring .ensures) (s .ensures)
 
 pub surround-centre-spec : {M : Type 1} → statement M
 surround-centre-spec =
