@@ -4,3 +4,4 @@ pub mod Greatest
 pub mod Settling
 pub mod RowLaws
 pub mod Centres
+pub mod BlockLaws

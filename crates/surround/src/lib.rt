@@ -90,3 +90,39 @@ fn surround_centres(
     }
     most
 }
+
+// The surround of two signals, which stand in the words of an answer, at samples first to first + count - 1: entry
+// centre * LANES + lane of `out` is the chain number of sample first + lane about the centre. The result is the greatest rounds.
+pub fn surround_block(
+    words: &[u8],
+    left: usize,
+    right: usize,
+    places: usize,
+    sheet: &[u8],
+    roads: usize,
+    distances: &[u8],
+    lower: u64,
+    upper: u64,
+    first: usize,
+    count: usize,
+    out: &mut [u32],
+) -> u64
+    requires { ⌜ BlockReady (wordsOf (now words)) left right places (wordsOf (now sheet)) roads (numbersOf (wordsOf (now distances))) first count × (places ≤ 64) × (places * lanes ≤ length (now out)) ⌝ }
+    ensures { λ r. ⌜ BlockDone (wordsOf (now (words .entry))) left right places (wordsOf (now (sheet .entry))) roads (numbersOf (wordsOf (now (distances .entry)))) first count lower upper (now (out .exit)) r ⌝ }
+{
+    let mut left_row: [u32; 1024] = [0; 1024];
+    let mut right_row: [u32; 1024] = [0; 1024];
+    load(words, left, places, first, count, &mut left_row);
+    load(words, right, places, first, count, &mut right_row);
+    surround_centres(
+        &left_row,
+        &right_row,
+        places,
+        sheet,
+        roads,
+        distances,
+        lower,
+        upper,
+        out,
+    )
+}

@@ -9,10 +9,6 @@ use Rattle.surround.proofs.Centres.{masked-valid, centre-done}
 use borrow.Author.Needs.{needs}
 use Rattle.surround.proofs.surround_centre.Statement.{statement}
 use Rattle.surround.proofs.surround_centre.Tie as tie
-use Rattle.surround.proofs.surround_centre.Reads as reads
-use Rattle.surround.proofs.surround_centre.Lts as lts
-use Rattle.surround.proofs.iteration.settle.Reads as settle-reads
-use Rattle.surround.proofs.rows.mask.Reads as mask-reads
 
 mask-requires : tie.Need-mask-requires
 mask-requires c κs = search needs

@@ -10,11 +10,6 @@ use Rattle.surround.proofs.Centres.{centres-none, centres-more}
 use borrow.Author.Needs.{needs}
 use Rattle.surround.proofs.surround_centres.Statement.{statement}
 use Rattle.surround.proofs.surround_centres.Tie as tie
-use Rattle.surround.proofs.surround_centres.Reads as reads
-use Rattle.surround.proofs.surround_centres.Lts as lts
-use Rattle.surround.proofs.greater_of.Reads as greater-of-reads
-use Rattle.surround.proofs.strips.copy_strip.Reads as copy-strip-reads
-use Rattle.surround.proofs.surround_centre.Reads as surround-centre-reads
 
 abbrev Inv-loop : tie.InvT-loop
 Inv-loop left right places sheet roads distances lower upper out₀ x₀ ring₀ old₀ both₀ most₀ centre₀ out x ring old both most centre =

@@ -7,9 +7,6 @@ use Rattle.surround.proofs.StripLaws.{rows-none, rows-more, rows-found}
 use borrow.Author.Needs.{needs}
 use Rattle.surround.proofs.iteration.fell.Statement.{statement}
 use Rattle.surround.proofs.iteration.fell.Tie as tie
-use Rattle.surround.proofs.iteration.fell.Reads as reads
-use Rattle.surround.proofs.iteration.fell.Lts as lts
-use Rattle.surround.proofs.strips.strip_fell.Reads as strip-fell-reads
 
 abbrev Inv-loop : tie.InvT-loop
 Inv-loop old x places place₀ place = (place ≤ places) × RowsApart false (λ v. v / 2) old x place

@@ -8,9 +8,6 @@ use Rattle.surround.proofs.StripLaws.{filled-more}
 use borrow.Author.Needs.{needs}
 use Rattle.surround.proofs.iteration.join.Statement.{statement}
 use Rattle.surround.proofs.iteration.join.Tie as tie
-use Rattle.surround.proofs.iteration.join.Reads as reads
-use Rattle.surround.proofs.iteration.join.Lts as lts
-use Rattle.values.proofs.greater.Reads as greater-reads
 
 abbrev Inv-loop : tie.InvT-loop
 Inv-loop x right places old₀ both₀ i₀ i-end old both i = (i ≤ i-end) × (length old ≡ length old₀) × (length both ≡ length both₀) × ((j : ℕ) → j < i → getD old j 0 ≡ getD x j 0) × ((j : ℕ) → j < i → getD both j 0 ≡ chainLattice .join (getD x j 0) (getD right j 0))

@@ -7,9 +7,6 @@ use Rattle.surround.proofs.StripLaws.{rows-none, rows-more, rows-found}
 use borrow.Author.Needs.{needs}
 use Rattle.surround.proofs.iteration.moved.Statement.{statement}
 use Rattle.surround.proofs.iteration.moved.Tie as tie
-use Rattle.surround.proofs.iteration.moved.Reads as reads
-use Rattle.surround.proofs.iteration.moved.Lts as lts
-use Rattle.surround.proofs.strips.strip_moved.Reads as strip-moved-reads
 
 abbrev Inv-loop : tie.InvT-loop
 Inv-loop old x places place₀ place = (place ≤ places) × RowsApart false (λ v. v) old x place

@@ -3,9 +3,6 @@ use Rattle.surround.proofs.StripLaws.{road-pulled}
 use borrow.Author.Needs.{needs}
 use Rattle.surround.proofs.iteration.pull_road.Statement.{statement}
 use Rattle.surround.proofs.iteration.pull_road.Tie as tie
-use Rattle.surround.proofs.iteration.pull_road.Reads as reads
-use Rattle.surround.proofs.iteration.pull_road.Lts as lts
-use Rattle.surround.proofs.strips.pull_strip.Reads as pull-strip-reads
 
 pull-strip-requires : tie.Need-pull-strip-requires
 pull-strip-requires c κs = search needs

@@ -8,10 +8,6 @@ use Rattle.surround.proofs.Least.{round-made, roads-wider}
 use borrow.Author.Needs.{needs}
 use Rattle.surround.proofs.iteration.round.Statement.{statement}
 use Rattle.surround.proofs.iteration.round.Tie as tie
-use Rattle.surround.proofs.iteration.round.Reads as reads
-use Rattle.surround.proofs.iteration.round.Lts as lts
-use Rattle.surround.proofs.iteration.join.Reads as join-reads
-use Rattle.surround.proofs.iteration.step.Reads as step-reads
 
 join-requires : tie.Need-join-requires
 join-requires c κs = search needs

@@ -11,11 +11,6 @@ use Rattle.surround.proofs.Settling.{total, total-bound, Going, going-s
 use borrow.Author.Needs.{needs}
 use Rattle.surround.proofs.iteration.settle.Statement.{statement}
 use Rattle.surround.proofs.iteration.settle.Tie as tie
-use Rattle.surround.proofs.iteration.settle.Reads as reads
-use Rattle.surround.proofs.iteration.settle.Lts as lts
-use Rattle.surround.proofs.iteration.fell.Reads as fell-reads
-use Rattle.surround.proofs.iteration.moved.Reads as moved-reads
-use Rattle.surround.proofs.iteration.round.Reads as round-reads
 
 abbrev Inv-loop : tie.InvT-loop
 Inv-loop x₀ right old₀ both₀ places sheet roads rounds₀ x old both rounds = (length x ≡ length x₀) × (length old ≡ length x₀) × (length both ≡ length x₀) × Going (wordsOf sheet) roads places right x₀ x rounds

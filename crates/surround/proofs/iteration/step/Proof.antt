@@ -13,10 +13,6 @@ use Rattle.surround.proofs.Least.{stepped-none, road-more}
 use borrow.Author.Needs.{needs}
 use Rattle.surround.proofs.iteration.step.Statement.{statement}
 use Rattle.surround.proofs.iteration.step.Tie as tie
-use Rattle.surround.proofs.iteration.step.Reads as reads
-use Rattle.surround.proofs.iteration.step.Lts as lts
-use Rattle.surround.proofs.iteration.pull_road.Reads as pull-road-reads
-use Rattle.words.proofs.word_at.Reads as word-at-reads
 
 abbrev Inv-loop : tie.InvT-loop
 Inv-loop x₀ both sheet roads r₀ x r = (r ≤ roads) × (length x ≡ length x₀) × Stepped (wordsOf sheet) r both x₀ x

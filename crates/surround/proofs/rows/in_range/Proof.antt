@@ -2,9 +2,6 @@ use borrow.Author.Tests.{le-leb, lt-leb}
 use borrow.Author.Needs.{needs}
 use Rattle.surround.proofs.rows.in_range.Statement.{statement}
 use Rattle.surround.proofs.rows.in_range.Tie as tie
-use Rattle.surround.proofs.rows.in_range.Reads as reads
-use Rattle.surround.proofs.rows.in_range.Lts as lts
-use Rattle.words.proofs.number_at.Reads as number-at-reads
 
 number-at-requires : tie.Need-number-at-requires
 number-at-requires c κs = search needs

@@ -9,9 +9,6 @@ use Rattle.surround.proofs.RowLaws.{row-none, row-more}
 use borrow.Author.Needs.{needs}
 use Rattle.surround.proofs.rows.load.Statement.{statement}
 use Rattle.surround.proofs.rows.load.Tie as tie
-use Rattle.surround.proofs.rows.load.Reads as reads
-use Rattle.surround.proofs.rows.load.Lts as lts
-use Rattle.surround.proofs.rows.load_strip.Reads as load-strip-reads
 
 abbrev Inv-loop : tie.InvT-loop
 Inv-loop words start places first count row₀ place₀ row place = (place ≤ places) × (length row ≡ length row₀) × RowOf (laneSignal (wordsOf words) start places first count) row place

@@ -10,9 +10,6 @@ use Rattle.surround.proofs.StripLaws.{written-more}
 use borrow.Author.Needs.{needs}
 use Rattle.surround.proofs.rows.load_strip.Statement.{statement}
 use Rattle.surround.proofs.rows.load_strip.Tie as tie
-use Rattle.surround.proofs.rows.load_strip.Reads as reads
-use Rattle.surround.proofs.rows.load_strip.Lts as lts
-use Rattle.surround.proofs.rows.signal_at.Reads as signal-at-reads
 
 abbrev Inv-loop : tie.InvT-loop
 Inv-loop words start places first count place row₀ lane₀ row lane = (lane ≤ lanes) × (length row ≡ length row₀) × Written place lane (λ l. laneSignal (wordsOf words) start places first count l place) row₀ row

@@ -15,10 +15,6 @@ use Rattle.surround.proofs.RowLaws.{row-none, row-more}
 use borrow.Author.Needs.{needs}
 use Rattle.surround.proofs.rows.mask.Statement.{statement}
 use Rattle.surround.proofs.rows.mask.Tie as tie
-use Rattle.surround.proofs.rows.mask.Reads as reads
-use Rattle.surround.proofs.rows.mask.Lts as lts
-use Rattle.surround.proofs.rows.in_range.Reads as in-range-reads
-use Rattle.surround.proofs.rows.mask_strip.Reads as mask-strip-reads
 
 abbrev Inv-loop : tie.InvT-loop
 Inv-loop from to₀ distances centre places lower upper place₀ to place = (place ≤ places) × (length to ≡ length to₀) × RowOf (λ lane. masked chainLattice (inTable (numbersOf (wordsOf distances)) places centre lower upper) (laneOf from lane)) to place

@@ -2,10 +2,6 @@ use mathlib.Core.Path.{_≡_, sym}
 use borrow.Author.Needs.{needs}
 use Rattle.surround.proofs.rows.mask_strip.Statement.{statement}
 use Rattle.surround.proofs.rows.mask_strip.Tie as tie
-use Rattle.surround.proofs.rows.mask_strip.Reads as reads
-use Rattle.surround.proofs.rows.mask_strip.Lts as lts
-use Rattle.surround.proofs.strips.copy_strip.Reads as copy-strip-reads
-use Rattle.surround.proofs.strips.zero_strip.Reads as zero-strip-reads
 
 copy-strip-requires : tie.Need-copy-strip-requires
 copy-strip-requires c κs = search needs

@@ -11,10 +11,6 @@ use Rattle.surround.proofs.RowLaws.{signal-index}
 use borrow.Author.Needs.{needs}
 use Rattle.surround.proofs.rows.signal_at.Statement.{statement}
 use Rattle.surround.proofs.rows.signal_at.Tie as tie
-use Rattle.surround.proofs.rows.signal_at.Reads as reads
-use Rattle.surround.proofs.rows.signal_at.Lts as lts
-use Rattle.values.proofs.of_word.Reads as of-word-reads
-use Rattle.words.proofs.word_at.Reads as word-at-reads
 
 index : (c : tie.Then1) → let g = c .before .before .args in (g .first + g .lane ≤ (g .first + g .lane) * g .places) × (g .start + ((g .first + g .lane) * g .places + g .place) < length (wordsOf (g .words .now)))
 index c = let g = c .before .before .args in signal-index (g .start) (g .first) (g .count) (g .places) (g .place) (g .lane) _ (c .before .before .pre .0) (c .before .before .pre .1) (c .if1 .taken)
