@@ -14,7 +14,8 @@ use Rattle.logic.specs.Margin.{finite}
 use Rattle.values.specs.Chain.{marginAt, highest, chainMargin, chainVerdict, chainWord, wordChain, Valid}
 use Rattle.values.specs.Said.{verdictWord}
 use Rattle.values.proofs.Naturals.{le-or-lt}
-use Rattle.values.proofs.Codes.{at-between, byte-count}
+use Rattle.values.proofs.Codes.{at-between}
+use Rattle.values.proofs.Machine.{byte-count}
 use Rattle.values.proofs.ReadBack.{kind-word, payload-word}
 use Rattle.values.proofs.Valid.{kinds}
 
@@ -33,7 +34,7 @@ word-finite false z = refl
 half-between : (c : ℕ) → Valid c → 0 < c → c < highest → (0 < c / 2) × (c / 2 < 2 ^ 28)
 half-between c valid low high = ⊎-elim (λ no. (omega arith, omega arith)) (λ yes. (omega arith, omega arith)) (kinds c valid)
 
-word-between : (c : ℕ) → 0 < c → c < highest → chainWord c ≡ wordOf (cond (chainVerdict c) 9 10) ((c / 2 + 2 ^ 27) % 2 ^ 28)
+pub word-between : (c : ℕ) → 0 < c → c < highest → chainWord c ≡ wordOf (cond (chainVerdict c) 9 10) ((c / 2 + 2 ^ 27) % 2 ^ 28)
 unfolding chainWord
 word-between c low high = simp (ne-eqb c 0 (λ e. omega arith), ne-eqb c highest (λ e. omega arith))
 

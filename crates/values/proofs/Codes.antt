@@ -1,19 +1,15 @@
--- A margin's code and back: every code up to 2^28 is the code of one small margin, and the codes stand in the order of the margins.
+-- A margin's code and back: every code up to 2^28 is the code of one small margin, and margins stand in the order of their codes.
 use mathlib.Core.Path.{_≡_, refl, sym, ap, subst, _∙_}
 use mathlib.Core.Logic.{_⊎_, inl, inr, ⊎-elim}
-use mathlib.Core.Bool.{Bool, true, false}
-use Prim.Native.Nat.{ℕ, zero, suc, _+_, _-_, _<_, _≤_, _^_, zero-le}
+use Prim.Native.Nat.{ℕ, zero, suc, _+_, _-_, _<_, _≤_, _^_}
 use native.Mathlib.Nat.{eq-or-lt-of-le, eq-zero-or-pos}
 use native.Mathlib.Omega.{arith}
-use lib.Dec.{T, leb, le→leb, leb→le}
+use lib.Dec.{T, le→leb}
 use lib.IntN.{pos, negsuc, subℕ}
-use mir.Val.{boolByte}
 use borrow.Author.Tests.{lt-ltb, le-ltb, ne-eqb}
 use Rattle.logic.specs.Margin.{Margin, minusInfinity, finite, plusInfinity, atMost, negate}
-use Rattle.logic.specs.Counts.{count}
 use Rattle.logic.proofs.Small.{Small, small-negate}
 use Rattle.logic.proofs.Order.{atMost-plusInfinity}
-use Rattle.logic.proofs.Tests.{bool-ext}
 use Rattle.values.specs.Chain.{marginCode, marginAt}
 use Rattle.values.proofs.Naturals.{le-or-lt}
 
@@ -29,10 +25,14 @@ at-infinite code high = simp (ne-eqb code 0 (λ e. omega arith), le-ltb code (2 
 pub at-code : (m : Margin) → Small m → marginAt (marginCode m) ≡ m
 unfolding marginAt
 at-code minusInfinity s = refl
-at-code (finite (pos x)) s = at-between (2 ^ 27 + x) (omega arith) (omega arith)
-    ∙ (let back : 2 ^ 27 + x - 2 ^ 27 ≡ x = omega arith in let high : 2 ^ 27 ≤ 2 ^ 27 + x = omega arith in simp (le-ltb (2 ^ 27 + x) (2 ^ 27) high, back))
-at-code (finite (negsuc x)) s = at-between (2 ^ 27 - suc x) (omega arith) (omega arith)
-    ∙ (let back : 2 ^ 27 - suc (2 ^ 27 - suc x) ≡ x = omega arith in let low : 2 ^ 27 - suc x < 2 ^ 27 = omega arith in simp (lt-ltb (2 ^ 27 - suc x) (2 ^ 27) low, back))
+at-code (finite (pos x)) s =
+    let back : 2 ^ 27 + x - 2 ^ 27 ≡ x = omega arith in
+    let high : 2 ^ 27 ≤ 2 ^ 27 + x = omega arith in
+    at-between (2 ^ 27 + x) (omega arith) (omega arith) ∙ simp (le-ltb (2 ^ 27 + x) (2 ^ 27) high, back)
+at-code (finite (negsuc x)) s =
+    let back : 2 ^ 27 - suc (2 ^ 27 - suc x) ≡ x = omega arith in
+    let low : 2 ^ 27 - suc x < 2 ^ 27 = omega arith in
+    at-between (2 ^ 27 - suc x) (omega arith) (omega arith) ∙ simp (lt-ltb (2 ^ 27 - suc x) (2 ^ 27) low, back)
 at-code plusInfinity s = refl
 
 -- ---- the code of a margin
@@ -42,50 +42,35 @@ code-bound (finite (pos x)) s = omega arith
 code-bound (finite (negsuc x)) s = omega arith
 code-bound plusInfinity s = omega arith
 
-pub code-negate : (m : Margin) → Small m → marginCode (negate m) ≡ 2 ^ 28 - marginCode m
+code-negate : (m : Margin) → Small m → marginCode (negate m) ≡ 2 ^ 28 - marginCode m
 code-negate minusInfinity s = refl
 code-negate (finite (pos zero)) s = refl
 code-negate (finite (pos (suc x))) s = omega arith
 code-negate (finite (negsuc x)) s = omega arith
 code-negate plusInfinity s = refl
 
--- the codes stand in the order of the margins
-pub code-order : (a b : Margin) → Small a → Small b → atMost a b ≡ leb (marginCode a) (marginCode b)
-code-order a b s t = bool-ext _ _ (λ h. le→leb (marginCode a) (marginCode b) (up a b s t h)) (λ h. down a b s t (leb→le (marginCode a) (marginCode b) h))
-  where
-    up : (a b : Margin) → Small a → Small b → T (atMost a b) → marginCode a ≤ marginCode b
-    up minusInfinity b s t h = zero-le
-    up (finite a) minusInfinity s t h = absurd h
-    up (finite (pos a)) (finite (pos b)) s t h = omega (arith, leb→le a b h)
-    up (finite (pos a)) (finite (negsuc b)) s t h = absurd h
-    up (finite (negsuc a)) (finite (pos b)) s t h = omega arith
-    up (finite (negsuc a)) (finite (negsuc b)) s t h = omega (arith, leb→le b a h)
-    up (finite a) plusInfinity s t h = code-bound (finite a) s
-    up plusInfinity minusInfinity s t h = absurd h
-    up plusInfinity (finite b) s t h = absurd h
-    up plusInfinity plusInfinity s t h = omega arith
-
-    down : (a b : Margin) → Small a → Small b → marginCode a ≤ marginCode b → T (atMost a b)
-    down minusInfinity b s t h = tt
-    down (finite (pos a)) minusInfinity s t h = absurd (omega arith)
-    down (finite (negsuc a)) minusInfinity s t h = absurd (omega arith)
-    down (finite (pos a)) (finite (pos b)) s t h = le→leb a b (omega arith)
-    down (finite (pos a)) (finite (negsuc b)) s t h = absurd (omega arith)
-    down (finite (negsuc a)) (finite (pos b)) s t h = tt
-    down (finite (negsuc a)) (finite (negsuc b)) s t h = le→leb b a (omega arith)
-    down (finite a) plusInfinity s t h = tt
-    down plusInfinity minusInfinity s t h = absurd (omega arith)
-    down plusInfinity (finite (pos b)) s t h = absurd (omega arith)
-    down plusInfinity (finite (negsuc b)) s t h = absurd (omega arith)
-    down plusInfinity plusInfinity s t h = tt
+-- margins stand in the order of their codes
+code-order : (a b : Margin) → Small a → Small b → marginCode a ≤ marginCode b → T (atMost a b)
+code-order minusInfinity b s t h = tt
+code-order (finite (pos a)) minusInfinity s t h = absurd (omega arith)
+code-order (finite (negsuc a)) minusInfinity s t h = absurd (omega arith)
+code-order (finite (pos a)) (finite (pos b)) s t h = le→leb a b (omega arith)
+code-order (finite (pos a)) (finite (negsuc b)) s t h = absurd (omega arith)
+code-order (finite (negsuc a)) (finite (pos b)) s t h = tt
+code-order (finite (negsuc a)) (finite (negsuc b)) s t h = le→leb b a (omega arith)
+code-order (finite a) plusInfinity s t h = tt
+code-order plusInfinity minusInfinity s t h = absurd (omega arith)
+code-order plusInfinity (finite (pos b)) s t h = absurd (omega arith)
+code-order plusInfinity (finite (negsuc b)) s t h = absurd (omega arith)
+code-order plusInfinity plusInfinity s t h = tt
 
 -- ---- every code up to 2^28 is that of a small margin
-pub record Coded (code : ℕ) : Type 0 where
-  pub margin : Margin
-  pub small : Small margin
-  pub codes : marginCode margin ≡ code
+record Coded (code : ℕ) : Type 0 where
+  margin : Margin
+  small : Small margin
+  codes : marginCode margin ≡ code
 
-pub coded : (code : ℕ) → code ≤ 2 ^ 28 → Coded code
+coded : (code : ℕ) → code ≤ 2 ^ 28 → Coded code
 coded code h = by-cases (eq-zero-or-pos code) (eq-or-lt-of-le h) (le-or-lt (2 ^ 27) code)
   where
     by-cases : (code ≡ 0) ⊎ (0 < code) → (code ≡ 2 ^ 28) ⊎ (code < 2 ^ 28) → (2 ^ 27 ≤ code) ⊎ (code < 2 ^ 27) → Coded code
@@ -104,14 +89,11 @@ at-small code h = let k = coded code h in subst Small (sym (at-code (k .margin) 
 pub at-monotone : (a b : ℕ) → a ≤ b → T (atMost (marginAt a) (marginAt b))
 at-monotone a b h = ⊎-elim
     (λ high. rw (at-infinite b high) (atMost-plusInfinity (marginAt a)))
-    (λ low. rw (code-order (marginAt a) (marginAt b) (at-small a (omega arith)) (at-small b (omega arith)), code-at a (omega arith), code-at b (omega arith)) (le→leb a b h))
+    (λ low. code-order (marginAt a) (marginAt b) (at-small a (omega arith)) (at-small b (omega arith)) (omega (arith, code-at a (omega arith), code-at b (omega arith))))
     (le-or-lt (2 ^ 28) b)
 
 pub at-negate : (code : ℕ) → code ≤ 2 ^ 28 → marginAt (2 ^ 28 - code) ≡ negate (marginAt code)
 at-negate code h =
-    ap (λ n. marginAt (2 ^ 28 - n)) (sym (code-at code h)) ∙ ap marginAt (sym (code-negate (marginAt code) (at-small code h))) ∙ at-code (negate (marginAt code)) (small-negate (marginAt code) (at-small code h))
-
--- ---- a yes as a number
-pub byte-count : (b : Bool) → (boolByte b ≡ count b) × (count b ≤ 1)
-byte-count true = (refl, omega arith)
-byte-count false = (refl, omega arith)
+    let m : Margin = marginAt code in
+    let s : Small m = at-small code h in
+    ap (λ n. marginAt (2 ^ 28 - n)) (sym (code-at code h)) ∙ ap marginAt (sym (code-negate m s)) ∙ at-code (negate m) (small-negate m s)

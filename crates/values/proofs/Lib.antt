@@ -1,7 +1,7 @@
 pub mod ReadBack
 pub mod Naturals
 pub mod Codes
-pub mod Signed
+pub mod Machine
 pub mod Valid
 pub mod Projections
 pub mod ChainTable

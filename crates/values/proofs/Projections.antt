@@ -18,7 +18,8 @@ use Rattle.logic.proofs.Margins.{atLeast}
 use Rattle.logic.proofs.Monotone.{monotone-kept}
 use Rattle.values.specs.Chain.{marginCode, marginAt, highest, chainOf, chainMargin, chainVerdict, chainLattice, chainOpposite, chainDifference}
 use Rattle.values.proofs.Naturals.{le-or-lt, leb-trans, leb-total}
-use Rattle.values.proofs.Codes.{at-infinite, at-code, at-monotone, at-negate, byte-count}
+use Rattle.values.proofs.Codes.{at-infinite, at-code, at-monotone, at-negate}
+use Rattle.values.proofs.Machine.{byte-count}
 
 -- ---- margins
 pub margin-kept : Keeps chainLattice marginLattice (λ c m. chainMargin c ≡ m)

@@ -93,36 +93,34 @@ pub fn greater(a: u32, b: u32) -> u32
     if a <= b { b } else { a }
 }
 
-// The word of an answer.
+// The word of an answer. The case between the ends is computed first: what is left is a choice of numbers, and a loop over it vectorises.
 pub fn word_of(c: u32) -> u32
     requires { ⌜ c ≤ highest ⌝ }
     ensures { λ r. ⌜ r ≡ chainWord c ⌝ }
 {
+    let kind = 10 - yes(c) as u32;
+    let word = kind * 268435456 + (c / 2 + 134217728) % 268435456;
     if c == bottom() {
         12 * 268435456
     } else if c == top() {
         11 * 268435456
     } else {
-        let payload = (c / 2 + 134217728) % 268435456;
-        if yes(c) {
-            9 * 268435456 + payload
-        } else {
-            10 * 268435456 + payload
-        }
+        word
     }
 }
 
-// The number of a word.
+// The number of a word, in the same manner.
 pub fn of_word(w: u32) -> u32
     ensures { λ r. ⌜ r ≡ wordChain w ⌝ }
 {
     let kind = words::kind(w);
     let code = (words::payload(w) + 134217728) % 268435456;
+    let number = 2 * code + (kind == 9) as u32;
     if kind == 12 {
         bottom()
     } else if kind == 11 {
         top()
     } else {
-        2 * code + (kind == 9) as u32
+        number
     }
 }

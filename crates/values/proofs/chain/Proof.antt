@@ -2,7 +2,8 @@ use mathlib.Core.Path.{sym, ap₂}
 use Prim.Native.Nat.{_+_, _*_}
 use native.Mathlib.Omega.{arith}
 use borrow.Author.Needs.{needs}
-use Rattle.values.proofs.Codes.{code-at, byte-count}
+use Rattle.values.proofs.Codes.{code-at}
+use Rattle.values.proofs.Machine.{byte-count}
 use Rattle.values.proofs.chain.Statement.{statement}
 use Rattle.values.proofs.chain.Tie as tie
 

@@ -10,7 +10,7 @@ use Rattle.logic.specs.Margin.{finite}
 use Rattle.logic.proofs.Small.{difference-small}
 use Rattle.values.specs.Chain.{chainOf, marginAt}
 use Rattle.values.proofs.Codes.{at-code, code-bound}
-use Rattle.values.proofs.Signed.{small-fits}
+use Rattle.values.proofs.Machine.{small-fits}
 use Rattle.values.proofs.difference.Statement.{statement}
 use Rattle.values.proofs.difference.Tie as tie
 

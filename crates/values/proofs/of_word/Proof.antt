@@ -1,10 +1,10 @@
 use mathlib.Core.Path.{_∙_}
-use lib.Dec.{eqb}
 use native.Mathlib.Omega.{arith}
+use lib.Dec.{eqb}
 use borrow.Author.Needs.{needs}
 use borrow.Author.Tests.{eq-eqb, ne-eqb}
 use Rattle.values.specs.Chain.{wordChain}
-use Rattle.values.proofs.Codes.{byte-count}
+use Rattle.values.proofs.Machine.{byte-count}
 use Rattle.values.proofs.of_word.Statement.{statement}
 use Rattle.values.proofs.of_word.Tie as tie
 
@@ -17,20 +17,20 @@ payload-requires c κs = search needs
 add-code : tie.Need-add-code
 add-code c = search needs
 
+mul-number : tie.Need-mul-number
+mul-number c = search needs
+
+cast-number : tie.Need-cast-number
+cast-number c = search needs
+
+add-number : tie.Need-add-number
+add-number c = record { fits = omega (arith, byte-count (eqb (c .before .kind .result) 9)) }
+
 bottom-requires : tie.Need-bottom-requires
 bottom-requires c κs = search needs
 
 top-requires : tie.Need-top-requires
 top-requires c κs = search needs
-
-mul-result : tie.Need-mul-result
-mul-result c = search needs
-
-cast-result : tie.Need-cast-result
-cast-result c = search needs
-
-add-result : tie.Need-add-result
-add-result c = record { fits = omega (arith, byte-count (eqb (c .before .before .before .kind .result) 9)) }
 
 returns : tie.Need-returns
 unfolding wordChain
@@ -38,11 +38,14 @@ returns c = c .bottom .ensures ∙ simp (← c .before .before .before .kind .en
 
 returns-2 : tie.Need-returns-2
 unfolding wordChain
-returns-2 c = c .top .ensures ∙ simp (← c .before .before .before .before .kind .ensures, ne-eqb _ _ (c .before .before .if1 .left), eq-eqb _ _ (c .before .if2 .taken))
+returns-2 c =
+    c .top .ensures
+    ∙ simp (← c .before .before .before .before .kind .ensures, ne-eqb _ _ (c .before .before .if1 .left), eq-eqb _ _ (c .before .if2 .taken))
 
 returns-3 : tie.Need-returns-3
 unfolding wordChain
-returns-3 c = simp (← c .before .before .before .kind .ensures, ← c .before .before .payload .ensures, ne-eqb _ _ (c .before .if1 .left), ne-eqb _ _ (c .if2 .left))
+returns-3 c =
+    simp (← c .before .before .before .kind .ensures, ← c .before .before .payload .ensures, ne-eqb _ _ (c .before .if1 .left), ne-eqb _ _ (c .if2 .left))
     (omega (arith, byte-count (eqb (c .before .before .before .kind .result) 9)))
 
 pub of-word-spec : {M : Type 1} → statement M
@@ -52,11 +55,11 @@ of-word-spec =
     kind-requires
     payload-requires
     add-code
+    mul-number
+    cast-number
+    add-number
     bottom-requires
     top-requires
-    mul-result
-    cast-result
-    add-result
     returns
     returns-2
     returns-3)

@@ -8,7 +8,7 @@ use mir.Facts.{toZ-ofZ}
 use Rattle.logic.specs.Margin.{finite}
 use Rattle.values.specs.Chain.{marginCode}
 use Rattle.values.proofs.Codes.{code-bound}
-use Rattle.values.proofs.Signed.{plus-code}
+use Rattle.values.proofs.Machine.{plus-code}
 use Rattle.values.proofs.Margin.finite.Statement.{statement}
 use Rattle.values.proofs.Margin.finite.Tie as tie
 
