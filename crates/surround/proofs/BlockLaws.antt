@@ -2,7 +2,7 @@
 use mathlib.Core.Path.{_≡_, refl, sym, ap, subst, _∙_}
 use mathlib.Core.Bool.{Bool, true, false, cond}
 use mathlib.Core.List.{List}
-use Prim.Native.Nat.{ℕ, zero, suc, _+_, _<_, _≤_}
+use Prim.Native.Nat.{ℕ, _+_, _<_, _≤_}
 use native.Mathlib.Omega.{arith}
 use lib.Dec.{T, ltb, ltb→lt}
 use borrow.Author.Tests.{lt-ltb, le-ltb}
@@ -20,7 +20,7 @@ use Rattle.surround.proofs.Greatest.{most-same, most-front}
 
 -- ---- one row
 module _ (words : List ℕ) (start n first count : ℕ) (row : List ℕ) (w : RowOf (laneSignal words start n first count) row n) where
-  pub lane-signal : (lane l : ℕ) → count ≤ lanes → lane < count → l < n → laneOf row lane l ≡ signalIn words start n (first + lane) l
+  lane-signal : (lane l : ℕ) → count ≤ lanes → lane < count → l < n → laneOf row lane l ≡ signalIn words start n (first + lane) l
   lane-signal lane l h c b = w .at l lane b (omega arith) ∙ simp (lt-ltb lane count c)
 
   lane-zero : (lane l : ℕ) → lane < lanes → count ≤ lane → l < n → laneOf row lane l ≡ 0

@@ -1,9 +1,9 @@
 -- The least of a number and of what lies at the other ends of roads: one road more, and all roads together as the definition has it.
 use mathlib.Core.Path.{_≡_, sym, ap, subst, _∙_}
-use mathlib.Core.Bool.{Bool, true, false, cond, _&&_, _||_}
+use mathlib.Core.Bool.{Bool, true, false, cond, _&&_}
 use mathlib.Core.List.{List}
 use mathlib.Core.Logic.{_⊎_, inl, inr, ⊎-elim}
-use Prim.Native.Nat.{ℕ, zero, suc, _+_, _<_, _≤_, min, max}
+use Prim.Native.Nat.{ℕ, zero, suc, _+_, _<_, _≤_, min}
 use native.Mathlib.Nat.{not-suc-le-zero}
 use native.Mathlib.Decide.{ℕ-discrete, decLe}
 use native.Mathlib.Numerals.{add-one}
@@ -57,7 +57,7 @@ module _ (test : ℕ → Bool) (f : ℕ → ℕ) where
       (λ k. let b = over-under n p k t in omega arith)
       (below l))
 
-  pub least-over : (y x n : ℕ) → x ≤ highest → ((p : ℕ) → T (test p) → p < n) → LeastOf y x test f → y ≡ chainLattice .meet x (leastOver chainLattice test f n)
+  least-over : (y x n : ℕ) → x ≤ highest → ((p : ℕ) → T (test p) → p < n) → LeastOf y x test f → y ≡ chainLattice .meet x (leastOver chainLattice test f n)
   least-over y x n h inside w = rw meet-min (
       let up = over-greatest n y (omega (arith, w .below)) (λ p _ t. w .under p t) in
       let down = w .greatest (min x (leastOver chainLattice test f n)) (omega arith) (λ p t. let u = over-under n p (inside p t) t in omega arith) in
@@ -184,7 +184,7 @@ stepped-none sheet both x = record {
   };
 }
 
-pub joined-inside : (sheet : List ℕ) (roads n : ℕ) → RoadsIn sheet roads n → (r : ℕ) → r ≤ roads → (q p : ℕ) → T (joinedBy sheet r q p) → p < n
+joined-inside : (sheet : List ℕ) (roads n : ℕ) → RoadsIn sheet roads n → (r : ℕ) → r ≤ roads → (q p : ℕ) → T (joinedBy sheet r q p) → p < n
 joined-inside sheet roads n i zero l q p h = absurd (not-joined sheet q p h)
 joined-inside sheet roads n i (suc r) l q p h = ⊎-elim
     (λ k. let o = i .order r l in let b = i .inside r l in ⊎-elim (λ e. let f = e .1 in omega arith) (λ e. let f = e .0 in omega arith) (joins-e sheet r q p k))

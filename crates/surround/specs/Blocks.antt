@@ -5,14 +5,15 @@ use mathlib.Core.List.{List}
 use Prim.Native.Nat.{ℕ, _+_, _*_, _<_, _≤_}
 use lib.Dec.{ltb}
 use lib.ListN.{length}
-use Rattle.logic.specs.Margin.{Margin, marginLattice}
+use Rattle.logic.specs.Margin.{marginLattice}
 use Rattle.logic.specs.Surround.{surround}
 use Rattle.logic.specs.Iteration.{masked, rounds}
 use Rattle.logic.specs.Counts.{mostBelow}
+use Rattle.sheet.specs.Limits.{mostPlaces}
 use Rattle.values.specs.Chain.{chainLattice, chainMargin, Valid}
 use Rattle.values.specs.Signals.{signalIn, inTable}
 use Rattle.surround.specs.Lanes.{lanes, laneOf, joinedBy, surroundValue, blockRounds}
-use Rattle.surround.specs.Steps.{RoadsIn}
+use Rattle.surround.specs.Steps.{RoadsIn, ValidRow}
 
 -- a row by its numbers, as far as the first k places
 pub record RowOf (f : ℕ → ℕ → ℕ) (row : List ℕ) (k : ℕ) : Type 0 where
@@ -43,10 +44,21 @@ module _ (left right : List ℕ) (n : ℕ) (sheet : List ℕ) (roads : ℕ) (dis
     pub values : RowOf laneSurround out k
     pub rounds : r ≡ mostBelow (λ centre. mostBelow (laneRounds centre) lanes) k
 
+-- what the rows of the operands, the sheet and the distances must be for this
+pub record RowsReady (left right : List ℕ) (n : ℕ) (sheet : List ℕ) (roads : ℕ) (distances : List ℕ) : Type 0 where
+  pub few-places : n ≤ mostPlaces
+  pub left-valid : ValidRow left n
+  pub right-valid : ValidRow right n
+  pub left-room : n * lanes ≤ length left
+  pub right-room : n * lanes ≤ length right
+  pub roads-in : RoadsIn sheet roads n
+  pub distances-there : n * n ≤ length distances
+
 -- words with the signals of the operands, n to a sample, which begin at `left` and `right`; samples `first` to first + count - 1
 module _ (words : List ℕ) (left right n : ℕ) (sheet : List ℕ) (roads : ℕ) (distances : List ℕ) (first count : ℕ) where
-  -- what is lent is long enough and says what it must
+  -- what is lent holds all that is read, and the signals are numbers that can arise
   pub record BlockReady : Type 0 where
+    pub few-places : n ≤ mostPlaces
     pub some : 1 ≤ count
     pub few : count ≤ lanes
     pub left-there : left + (first + count) * n ≤ length words

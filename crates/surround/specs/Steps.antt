@@ -2,7 +2,7 @@
 use mathlib.Core.Path.{_≡_}
 use mathlib.Core.Bool.{Bool}
 use mathlib.Core.List.{List}
-use Prim.Native.Nat.{ℕ, suc, _<_, _≤_}
+use Prim.Native.Nat.{ℕ, suc, _*_, _<_, _≤_}
 use lib.Dec.{T}
 use lib.ListN.{length}
 use Rattle.logic.specs.Lattice.{leastOver}
@@ -25,6 +25,13 @@ pub record Bounded (row : List ℕ) (n : ℕ) : Type 0 where
 
 pub record ValidRow (row : List ℕ) (n : ℕ) : Type 0 where
   pub valid : (place lane : ℕ) → place < n → lane < lanes → Valid (laneOf row lane place)
+
+-- rows with room for n places, all of one length
+pub record Rooms (n : ℕ) (x right old both : List ℕ) : Type 0 where
+  pub room : n * lanes ≤ length x
+  pub right-room : length right ≡ length x
+  pub old-room : length old ≡ length x
+  pub both-room : length both ≡ length x
 
 -- old is x, and both the greater of x and right
 pub record Joined (x right old both : List ℕ) (n : ℕ) : Type 0 where

@@ -10,12 +10,12 @@ pub record Written (place k : ℕ) (f : ℕ → ℕ) (before after : List ℕ) :
   pub written : (lane : ℕ) → lane < k → laneOf after lane place ≡ f lane
   pub kept : (p lane : ℕ) → lane < lanes → (p ≡ place → k ≤ lane) → laneOf after lane p ≡ laneOf before lane p
 
--- whether a reading h tells two strips apart in some lane
-pub record StripsApart (r : Bool) (h : ℕ → ℕ) (a b : List ℕ) (place : ℕ) : Type 0 where
-  pub alike : r ≡ false → (lane : ℕ) → lane < lanes → h (laneOf a lane place) ≡ h (laneOf b lane place)
-  pub apart : r ≡ true → (lane : ℕ) × (lane < lanes) × (h (laneOf a lane place) ≡ h (laneOf b lane place) → ⊥)
+-- whether a reading h tells two rows apart in one of the first k lanes of a place
+pub record StripsApart (r : Bool) (h : ℕ → ℕ) (a b : List ℕ) (place k : ℕ) : Type 0 where
+  pub alike : r ≡ false → (lane : ℕ) → lane < k → h (laneOf a lane place) ≡ h (laneOf b lane place)
+  pub apart : r ≡ true → (lane : ℕ) × (lane < k) × (h (laneOf a lane place) ≡ h (laneOf b lane place) → ⊥)
 
--- the same of the strips of all n places
+-- the same of all lanes of n places
 pub record RowsApart (r : Bool) (h : ℕ → ℕ) (a b : List ℕ) (n : ℕ) : Type 0 where
   pub alike : r ≡ false → (place lane : ℕ) → place < n → lane < lanes → h (laneOf a lane place) ≡ h (laneOf b lane place)
   pub apart : r ≡ true → (place : ℕ) × (lane : ℕ) × (place < n) × (lane < lanes) × (h (laneOf a lane place) ≡ h (laneOf b lane place) → ⊥)

@@ -1,12 +1,12 @@
 // Definition 4.4's iteration on rows of lanes: all places step together from the former round.
-ghost use mathlib.Core.Path.{_≡_};
 ghost use Prim.Native.Nat.{_+_, _*_, _/_, _≤_, _<_};
 ghost use lib.ListN.{length};
 ghost use Rattle.words.specs.Bytes.{wordsOf};
-ghost use Rattle.surround.specs.Lanes.{lanes, laneOf};
+ghost use Rattle.sheet.specs.Limits.{mostPlaces};
+ghost use Rattle.surround.specs.Lanes.{lanes};
 ghost use Rattle.surround.specs.Strips.{RowsApart};
-ghost use Rattle.surround.specs.Steps.{RoadsIn, Bounded, ValidRow, Joined, RoadPulled, Stepped, Round, Settled};
-use crate::strips::LANES;
+ghost use Rattle.surround.specs.Steps.{RoadsIn, Bounded, ValidRow, Rooms, Joined, RoadPulled, Stepped, Round, Settled};
+use crate::LANES;
 use crate::strips::pull_strip;
 use crate::strips::strip_fell;
 use crate::strips::strip_moved;
@@ -50,7 +50,7 @@ fn round(
     sheet: &[u8],
     roads: usize,
 )
-    requires { ⌜ RoadsIn (wordsOf (now sheet)) roads places × Bounded (now x) places × (places * lanes ≤ length (now x)) × (length (now right) ≡ length (now x)) × (length (now old) ≡ length (now x)) × (length (now both) ≡ length (now x)) ⌝ }
+    requires { ⌜ RoadsIn (wordsOf (now sheet)) roads places × Bounded (now x) places × Rooms places (now x) (now right) (now old) (now both) ⌝ }
     ensures { λ _. ⌜ Round (wordsOf (now (sheet .entry))) roads places (now (right .entry)) (now (x .entry)) (now (old .exit)) (now (x .exit)) ⌝ }
 {
     join(x, right, places, old, both);
@@ -93,7 +93,7 @@ pub fn settle(
     sheet: &[u8],
     roads: usize,
 ) -> u64
-    requires { ⌜ RoadsIn (wordsOf (now sheet)) roads places × ValidRow (now x) places × ValidRow (now right) places × (places ≤ 64) × (places * lanes ≤ length (now x)) × (length (now right) ≡ length (now x)) × (length (now old) ≡ length (now x)) × (length (now both) ≡ length (now x)) ⌝ }
+    requires { ⌜ RoadsIn (wordsOf (now sheet)) roads places × ValidRow (now x) places × ValidRow (now right) places × (places ≤ mostPlaces) × Rooms places (now x) (now right) (now old) (now both) ⌝ }
     ensures { λ r. ⌜ Settled (wordsOf (now (sheet .entry))) roads places (now (right .entry)) (now (x .entry)) r (now (x .exit)) ⌝ }
 {
     let mut rounds: u64 = 1;

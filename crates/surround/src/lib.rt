@@ -4,8 +4,8 @@ ghost use Prim.Native.Nat.{_*_, _≤_, _<_, max};
 ghost use lib.ListN.{length};
 ghost use Rattle.words.specs.Bytes.{wordsOf, numbersOf};
 ghost use Rattle.surround.specs.Lanes.{lanes};
-ghost use Rattle.surround.specs.Steps.{RoadsIn, ValidRow};
-ghost use Rattle.surround.specs.Blocks.{CentreDone, CentresDone, BlockReady, BlockDone};
+ghost use Rattle.surround.specs.Steps.{Rooms};
+ghost use Rattle.surround.specs.Blocks.{RowsReady, CentreDone, CentresDone, BlockReady, BlockDone};
 
 mod iteration;
 mod rows;
@@ -16,8 +16,11 @@ use rows::load;
 use rows::mask;
 use strips::copy_strip;
 
-// A row of 16 lanes for each of the 64 places that a sheet may have.
-pub const ROW: usize = 1024;
+// Samples side by side.
+pub const LANES: usize = 16;
+
+// The length of a row with the lanes of the most places.
+pub const ROW: usize = 64 * LANES;
 
 fn greater_of(a: u64, b: u64) -> u64
     ensures { λ r. ⌜ r ≡ max a b ⌝ }
@@ -41,7 +44,7 @@ fn surround_centre(
     old: &mut [u32],
     both: &mut [u32],
 ) -> u64
-    requires { ⌜ (centre < places) × (places ≤ 64) × RoadsIn (wordsOf (now sheet)) roads places × (places * places ≤ length (numbersOf (wordsOf (now distances)))) × ValidRow (now left) places × ValidRow (now right) places × (places * lanes ≤ length (now left)) × (places * lanes ≤ length (now right)) × (places * lanes ≤ length (now x)) × (length (now ring) ≡ length (now x)) × (length (now old) ≡ length (now x)) × (length (now both) ≡ length (now x)) ⌝ }
+    requires { ⌜ (centre < places) × RowsReady (now left) (now right) places (wordsOf (now sheet)) roads (numbersOf (wordsOf (now distances))) × Rooms places (now x) (now ring) (now old) (now both) ⌝ }
     ensures { λ r. ⌜ CentreDone (now (left .entry)) (now (right .entry)) places (wordsOf (now (sheet .entry))) roads (numbersOf (wordsOf (now (distances .entry)))) lower upper centre (now (x .exit)) r ⌝ }
 {
     mask(left, x, distances, centre, places, 0, upper);
@@ -61,13 +64,13 @@ fn surround_centres(
     upper: u64,
     out: &mut [u32],
 ) -> u64
-    requires { ⌜ (places ≤ 64) × RoadsIn (wordsOf (now sheet)) roads places × (places * places ≤ length (numbersOf (wordsOf (now distances)))) × ValidRow (now left) places × ValidRow (now right) places × (places * lanes ≤ length (now left)) × (places * lanes ≤ length (now right)) × (places * lanes ≤ length (now out)) ⌝ }
+    requires { ⌜ RowsReady (now left) (now right) places (wordsOf (now sheet)) roads (numbersOf (wordsOf (now distances))) × (places * lanes ≤ length (now out)) ⌝ }
     ensures { λ r. ⌜ CentresDone (now (left .entry)) (now (right .entry)) places (wordsOf (now (sheet .entry))) roads (numbersOf (wordsOf (now (distances .entry)))) lower upper places (now (out .exit)) r ⌝ }
 {
-    let mut x: [u32; 1024] = [0; 1024];
-    let mut ring: [u32; 1024] = [0; 1024];
-    let mut old: [u32; 1024] = [0; 1024];
-    let mut both: [u32; 1024] = [0; 1024];
+    let mut x: [u32; ROW] = [0; ROW];
+    let mut ring: [u32; ROW] = [0; ROW];
+    let mut old: [u32; ROW] = [0; ROW];
+    let mut both: [u32; ROW] = [0; ROW];
     let mut most: u64 = 0;
     for centre in 0..places {
         let rounds = surround_centre(
@@ -107,11 +110,11 @@ pub fn surround_block(
     count: usize,
     out: &mut [u32],
 ) -> u64
-    requires { ⌜ BlockReady (wordsOf (now words)) left right places (wordsOf (now sheet)) roads (numbersOf (wordsOf (now distances))) first count × (places ≤ 64) × (places * lanes ≤ length (now out)) ⌝ }
+    requires { ⌜ BlockReady (wordsOf (now words)) left right places (wordsOf (now sheet)) roads (numbersOf (wordsOf (now distances))) first count × (places * lanes ≤ length (now out)) ⌝ }
     ensures { λ r. ⌜ BlockDone (wordsOf (now (words .entry))) left right places (wordsOf (now (sheet .entry))) roads (numbersOf (wordsOf (now (distances .entry)))) first count lower upper (now (out .exit)) r ⌝ }
 {
-    let mut left_row: [u32; 1024] = [0; 1024];
-    let mut right_row: [u32; 1024] = [0; 1024];
+    let mut left_row: [u32; ROW] = [0; ROW];
+    let mut right_row: [u32; ROW] = [0; ROW];
     load(words, left, places, first, count, &mut left_row);
     load(words, right, places, first, count, &mut right_row);
     surround_centres(

@@ -11,7 +11,7 @@ ghost use Rattle.values.specs.Signals.{inTable};
 ghost use Rattle.surround.specs.Lanes.{lanes, laneOf};
 ghost use Rattle.surround.specs.Strips.{Written};
 ghost use Rattle.surround.specs.Blocks.{RowOf, laneSignal};
-use crate::strips::LANES;
+use crate::LANES;
 use crate::strips::copy_strip;
 use crate::strips::zero_strip;
 

@@ -1,13 +1,11 @@
 // Loops over the lanes of one place. Their count is a constant, so that the compiler unrolls them.
-ghost use mathlib.Core.Path.{_≡_};
-ghost use Prim.Native.Nat.{_+_, _*_, _/_, _≤_, _<_};
+ghost use Prim.Native.Nat.{_+_, _*_, _/_, _≤_};
 ghost use lib.ListN.{length};
 ghost use Rattle.values.specs.Chain.{chainLattice};
 ghost use Rattle.surround.specs.Lanes.{lanes, laneOf};
 ghost use Rattle.surround.specs.Strips.{Written, StripsApart};
+use crate::LANES;
 use values::lesser;
-
-pub const LANES: usize = 16;
 
 pub fn zero_strip(row: &mut [u32], place: usize)
     requires { ⌜ place * lanes + lanes ≤ length (now row) ⌝ }
@@ -42,7 +40,7 @@ pub fn pull_strip(x: &mut [u32], both: &[u32], place: usize, other: usize)
 // Whether a margin, half of a chain number, is another in one of the lanes.
 pub fn strip_fell(old: &[u32], x: &[u32], place: usize) -> bool
     requires { ⌜ (place * lanes + lanes ≤ length (now old)) × (place * lanes + lanes ≤ length (now x)) ⌝ }
-    ensures { λ r. ⌜ StripsApart r (λ c. c / 2) (now (old .entry)) (now (x .entry)) place ⌝ }
+    ensures { λ r. ⌜ StripsApart r (λ c. c / 2) (now (old .entry)) (now (x .entry)) place lanes ⌝ }
 {
     let mut fell = false;
     for lane in 0..LANES {
@@ -57,7 +55,7 @@ pub fn strip_fell(old: &[u32], x: &[u32], place: usize) -> bool
 // Whether a chain number is another in one of the lanes.
 pub fn strip_moved(old: &[u32], x: &[u32], place: usize) -> bool
     requires { ⌜ (place * lanes + lanes ≤ length (now old)) × (place * lanes + lanes ≤ length (now x)) ⌝ }
-    ensures { λ r. ⌜ StripsApart r (λ c. c) (now (old .entry)) (now (x .entry)) place ⌝ }
+    ensures { λ r. ⌜ StripsApart r (λ c. c) (now (old .entry)) (now (x .entry)) place lanes ⌝ }
 {
     let mut moved = false;
     for lane in 0..LANES {

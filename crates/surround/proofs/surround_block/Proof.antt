@@ -1,8 +1,4 @@
-use Prim.Native.Nat.{_*_, _≤_}
-use native.Mathlib.Omega.{arith}
-use lib.ListN.{length}
 use Rattle.words.specs.Bytes.{wordsOf, numbersOf}
-use Rattle.surround.specs.Lanes.{lanes}
 use Rattle.surround.proofs.BlockLaws.{row-valid, block-done}
 use borrow.Author.Needs.{needs}
 use Rattle.surround.proofs.surround_block.Statement.{statement}
@@ -29,18 +25,20 @@ slice-aggregate-surround-centres-2 c = search needs
 surround-centres-requires : tie.Need-surround-centres-requires
 surround-centres-requires c κs =
     let g = c .before .before .before .before .before .before .before .before .before .before .before .before .before .args in
-    let p = c .before .before .before .before .before .before .before .before .before .before .before .before .before .pre in
+    let ready = c .before .before .before .before .before .before .before .before .before .before .before .before .before .pre .0 in
     let w = wordsOf (g .words .now) in
     let l = c .before .before .before .before .before .before .before .load in
     let r = c .before .before .before .before .load2 in (
-      p .1,
-      p .0 .roads-in,
-      p .0 .distances-there,
-      row-valid w (g .left) (g .places) (g .first) (g .count) (l .last .1 .1 .1 .1 .1 .0) (l .ensures) (p .0 .left-valid),
-      row-valid w (g .right) (g .places) (g .first) (g .count) (r .last .1 .1 .1 .1 .1 .0) (r .ensures) (p .0 .right-valid),
-      search needs,
-      search needs,
-      p .2,
+      record {
+        few-places = ready .few-places;
+        left-valid = row-valid w (g .left) (g .places) (g .first) (g .count) (l .last .1 .1 .1 .1 .1 .0) (l .ensures) (ready .left-valid);
+        right-valid = row-valid w (g .right) (g .places) (g .first) (g .count) (r .last .1 .1 .1 .1 .1 .0) (r .ensures) (ready .right-valid);
+        left-room = search needs;
+        right-room = search needs;
+        roads-in = ready .roads-in;
+        distances-there = ready .distances-there;
+      },
+      c .before .before .before .before .before .before .before .before .before .before .before .before .before .pre .1,
     )
 
 same-length : tie.Need-same-length

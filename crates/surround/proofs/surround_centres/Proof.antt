@@ -1,10 +1,8 @@
-use Prim.Native.Nat.{ℕ, _-_, _*_, _≤_, _<_}
-use mathlib.Core.Path.{_≡_, refl, sym, subst, _∙_}
-use mathlib.Core.List.{List}
+use Prim.Native.Nat.{ℕ, _-_, _≤_}
+use mathlib.Core.Path.{_≡_, refl, subst, _∙_}
 use native.Mathlib.Omega.{arith}
 use lib.ListN.{length}
 use Rattle.words.specs.Bytes.{wordsOf, numbersOf}
-use Rattle.surround.specs.Lanes.{lanes}
 use Rattle.surround.specs.Blocks.{CentresDone}
 use Rattle.surround.proofs.Centres.{centres-none, centres-more}
 use borrow.Author.Needs.{needs}
@@ -45,9 +43,7 @@ slice-aggregate-surround-centre-4 : tie.Need-slice-aggregate-surround-centre-4 I
 slice-aggregate-surround-centre-4 c = search needs
 
 surround-centre-requires : tie.Need-surround-centre-requires Inv-loop μ-loop
-surround-centre-requires c κs =
-    let p = c .before .before .before .before .before .before .before .before .before .before .before .pre in
-    (search needs, p .0, p .1, p .2, p .3, p .4, p .5, p .6, search needs, search needs, search needs, search needs)
+surround-centre-requires c κs = (search needs, c .before .before .before .before .before .before .before .before .before .before .before .pre .0, search needs)
 
 slice-aggregate-copy-strip : tie.Need-slice-aggregate-copy-strip Inv-loop μ-loop
 slice-aggregate-copy-strip c = search needs

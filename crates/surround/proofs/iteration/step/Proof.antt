@@ -1,14 +1,13 @@
 use Rattle.words.proofs.Words.{words-count}
 use Prim.Native.Nat.{ℕ, _+_, _-_, _*_, _/_, _%_, _≤_, _<_}
-use mathlib.Core.Path.{_≡_, sym, subst, _∙_}
-use mathlib.Core.List.{List}
+use mathlib.Core.Path.{_≡_, subst, _∙_}
 use native.Mathlib.Omega.{arith}
 use lib.ListN.{length}
 use Rattle.words.specs.Bytes.{wordsOf}
 use Rattle.sheet.specs.Checked.{wordAt}
 use Rattle.sheet.specs.Layout.{roadAt, firstPlace, secondPlace}
 use Rattle.surround.specs.Lanes.{lanes}
-use Rattle.surround.specs.Steps.{RoadsIn, Stepped, RoadPulled}
+use Rattle.surround.specs.Steps.{Stepped, RoadPulled}
 use Rattle.surround.proofs.Least.{stepped-none, road-more}
 use borrow.Author.Needs.{needs}
 use Rattle.surround.proofs.iteration.step.Statement.{statement}

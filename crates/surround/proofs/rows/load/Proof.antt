@@ -1,9 +1,8 @@
-use Prim.Native.Nat.{ℕ, _-_, _*_, _≤_, _<_}
+use Prim.Native.Nat.{ℕ, _-_, _≤_}
 use mathlib.Core.Path.{_≡_, refl, subst, _∙_}
 use native.Mathlib.Omega.{arith}
 use lib.ListN.{length}
 use Rattle.words.specs.Bytes.{wordsOf}
-use Rattle.surround.specs.Lanes.{lanes}
 use Rattle.surround.specs.Blocks.{RowOf, laneSignal}
 use Rattle.surround.proofs.RowLaws.{row-none, row-more}
 use borrow.Author.Needs.{needs}

@@ -9,7 +9,7 @@ use Rattle.words.proofs.Rows.{in-table}
 use Rattle.logic.specs.Iteration.{masked}
 use Rattle.values.specs.Chain.{chainLattice}
 use Rattle.values.specs.Signals.{inTable}
-use Rattle.surround.specs.Lanes.{lanes, laneOf}
+use Rattle.surround.specs.Lanes.{laneOf}
 use Rattle.surround.specs.Blocks.{RowOf}
 use Rattle.surround.proofs.RowLaws.{row-none, row-more}
 use borrow.Author.Needs.{needs}

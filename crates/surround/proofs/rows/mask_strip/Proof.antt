@@ -1,4 +1,3 @@
-use mathlib.Core.Path.{_≡_, sym}
 use borrow.Author.Needs.{needs}
 use Rattle.surround.proofs.rows.mask_strip.Statement.{statement}
 use Rattle.surround.proofs.rows.mask_strip.Tie as tie

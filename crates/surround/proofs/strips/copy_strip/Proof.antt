@@ -1,11 +1,10 @@
 use mathlib.Core.Path.{_≡_, refl, subst}
-use Prim.Native.Nat.{ℕ, _+_, _-_, _*_, _≤_, _<_}
+use Prim.Native.Nat.{ℕ, _-_, _≤_}
 use native.Mathlib.Omega.{arith}
-use lib.ListN.{length, length-set}
-use Rattle.values.specs.Chain.{chainLattice}
+use lib.ListN.{length}
 use Rattle.surround.specs.Lanes.{lanes, laneOf}
 use Rattle.surround.specs.Strips.{Written}
-use Rattle.surround.proofs.StripLaws.{written-none, written-more}
+use Rattle.surround.proofs.StripLaws.{written-more}
 use borrow.Author.Needs.{needs}
 use Rattle.surround.proofs.strips.copy_strip.Statement.{statement}
 use Rattle.surround.proofs.strips.copy_strip.Tie as tie

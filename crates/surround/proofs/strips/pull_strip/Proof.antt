@@ -1,11 +1,11 @@
 use mathlib.Core.Path.{_≡_, ap, subst, _∙_}
-use Prim.Native.Nat.{ℕ, _+_, _-_, _*_, _≤_, _<_}
+use Prim.Native.Nat.{ℕ, _-_, _≤_}
 use native.Mathlib.Omega.{arith}
-use lib.ListN.{length, length-set}
+use lib.ListN.{length}
 use Rattle.values.specs.Chain.{chainLattice}
 use Rattle.surround.specs.Lanes.{lanes, laneOf}
 use Rattle.surround.specs.Strips.{Written}
-use Rattle.surround.proofs.StripLaws.{written-none, written-more}
+use Rattle.surround.proofs.StripLaws.{written-more}
 use borrow.Author.Needs.{needs}
 use Rattle.surround.proofs.strips.pull_strip.Statement.{statement}
 use Rattle.surround.proofs.strips.pull_strip.Tie as tie

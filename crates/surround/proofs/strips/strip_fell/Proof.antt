@@ -1,15 +1,16 @@
-use mathlib.Core.Path.{_≡_}
+use mathlib.Core.Path.{_≡_, subst}
 use mathlib.Core.Logic.{⊎-elim}
-use Prim.Native.Nat.{ℕ, _+_, _-_, _*_, _/_, _≤_, _<_}
+use Prim.Native.Nat.{_-_, _/_, _≤_}
 use native.Mathlib.Omega.{arith}
-use Rattle.surround.specs.Lanes.{lanes, laneOf}
-use Rattle.surround.proofs.StripLaws.{Sofar, sofar-none, sofar-same, sofar-other, sofar-all}
+use Rattle.surround.specs.Lanes.{lanes}
+use Rattle.surround.specs.Strips.{StripsApart}
+use Rattle.surround.proofs.StripLaws.{strips-none, strips-same, strips-other}
 use borrow.Author.Needs.{needs}
 use Rattle.surround.proofs.strips.strip_fell.Statement.{statement}
 use Rattle.surround.proofs.strips.strip_fell.Tie as tie
 
 abbrev Inv-loop : tie.InvT-loop
-Inv-loop old x place fell₀ lane₀ fell lane = (lane ≤ lanes) × Sofar fell (λ c. c / 2) old x place lane
+Inv-loop old x place fell₀ lane₀ fell lane = (lane ≤ lanes) × StripsApart fell (λ c. c / 2) old x place lane
 
 abbrev μ-loop : tie.MeasureT-loop
 μ-loop old x place fell₀ lane₀ fell lane = lanes - lane
@@ -17,7 +18,7 @@ abbrev μ-loop : tie.MeasureT-loop
 loop-holds : tie.Need-loop-holds Inv-loop μ-loop
 loop-holds c =
     let g = c .args in
-    (search needs, sofar-none (λ v. v / 2) (g .old .now) (g .x .now) (g .place))
+    (search needs, strips-none (λ v. v / 2) (g .old .now) (g .x .now) (g .place))
 
 mul-at : tie.Need-mul-at Inv-loop μ-loop
 mul-at c = search needs
@@ -49,16 +50,17 @@ loop-again c =
     let g = c .before .before .before .before .before .args in (
       search needs,
       ⊎-elim
-          (λ w. sofar-other (λ v. v / 2) (g .old .now) (g .x .now) (g .place) (c .if1 .fell) (h .lane) (w .1) (w .0 .taken))
-          (λ w. sofar-same (λ v. v / 2) (g .old .now) (g .x .now) (g .place) (h .fell) (c .if1 .fell) (h .lane) (h .inv .1) (w .1) (w .0 .left))
+          (λ w. strips-other (λ v. v / 2) (g .old .now) (g .x .now) (g .place) (c .if1 .fell) (h .lane) (w .1) (w .0 .taken))
+          (λ w. strips-same (λ v. v / 2) (g .old .now) (g .x .now) (g .place) (h .fell) (c .if1 .fell) (h .lane) (h .inv .1) (w .1) (w .0 .left))
           (c .if1 .came),
     )
 
 returns : tie.Need-returns Inv-loop μ-loop
 returns c =
-    let h = c .before .loop in
     let g = c .before .before .args in
-    sofar-all (λ v. v / 2) (g .old .now) (g .x .now) (g .place) (h .fell) (h .lane) (omega arith) (h .inv .1)
+    let h = c .before .loop in
+    let e : h .lane ≡ lanes = omega arith in
+    subst (StripsApart (h .fell) (λ v. v / 2) (g .old .now) (g .x .now) (g .place)) e (h .inv .1)
 
 pub strip-fell-spec : {M : Type 1} → statement M
 strip-fell-spec =
