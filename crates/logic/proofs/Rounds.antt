@@ -1,16 +1,16 @@
--- The rounds: the iteration on margins has come to the surround when it first rests, and that is within n rounds; counting the steps that
--- change a margin gives their number.
-use mathlib.Core.Path.{_≡_, refl, sym, ap, _∙_}
+-- The rounds: the iteration on margins has come to the surround when it first rests, and that is within n rounds; it rests from then on.
+use mathlib.Core.Path.{_≡_, refl, sym, _∙_}
 use mathlib.Core.Bool.{Bool, true, false, not, _&&_}
 use Prim.Native.Nat.{ℕ, zero, suc, pred, _<_, _≤_, zero-le, suc-le-suc}
-use native.Mathlib.Nat.{not-suc-le-zero, le-of-suc-le-suc}
+use native.Mathlib.Nat.{not-suc-le-zero, le-of-suc-le-suc, le-antisymm}
 use native.Mathlib.Omega.{arith}
-use lib.Dec.{T, T-not, not-T}
+use lib.Dec.{T, T-not}
 use Rattle.logic.specs.Margin.{Margin, atMost, marginLattice}
 use Rattle.logic.specs.Surround.{surround, unbounded}
 use Rattle.logic.specs.Iteration.{iterate, masked, first, atRest, rounds}
 use Rattle.logic.proofs.Tests.{and-l, and-r, and-i, all-e, all-i}
-use Rattle.logic.proofs.Resting.{Rests}
+use Rattle.logic.proofs.Keeps.{same-kept, iterate-kept}
+use Rattle.logic.proofs.Resting.{Rests, rests-on}
 use Rattle.logic.proofs.Order.{atMost-anti}
 use Rattle.logic.proofs.Margins.{margin-apart, margin-refl}
 use Rattle.logic.proofs.Thresholds.{limit-at, settled}
@@ -49,13 +49,6 @@ first-not t (suc d) (suc j) b = go (t zero) b (λ c. first-not (λ i. t (suc i))
     go true b f = absurd (not-suc-le-zero b)
     go false b f = f (le-of-suc-le-suc b)
 
--- the first that passes, where some number passes
-first-is : (t : ℕ → Bool) (d r : ℕ) → T (t d) → ((j : ℕ) → j < r → T (not (t j))) → T (t r) → first t d ≡ r
-first-is t d r h before at =
-    let low : r < first t d → ⊥ = λ b. T-not (t r) (first-not t d r b) at in
-    let high : first t d < r → ⊥ = λ b. T-not (t (first t d)) (before (first t d) b) (first-at t d h) in
-    omega arith
-
 -- ---- the rounds
 module _ (joined : ℕ → ℕ → Bool) (n : ℕ) (p q : ℕ → Margin) where
   abbrev W : ℕ → ℕ → Margin
@@ -88,15 +81,31 @@ module _ (joined : ℕ → ℕ → Bool) (n : ℕ) (p q : ℕ → Margin) where
   unfolding rounds
   rounds-bound h = omega (arith, first-le (atRest joined n p q) (pred n))
 
-  -- counting the steps that change a margin gives the rounds
-  pub rounds-counted : (r : ℕ) → ((j : ℕ) → j < r → Rests marginLattice joined n p q j → ⊥) → Rests marginLattice joined n p q r → rounds joined n p q ≡ suc r
+  -- from the rounds on, and no sooner, all steps rest
+  pub rests-after : (i : ℕ) → rounds joined n p q ≤ suc i → Rests marginLattice joined n p q i
+  unfolding rounds last
+  rests-after i h = rests-on marginLattice joined n p q last (rest-e last at-last) i (le-of-suc-le-suc h)
+
+  pub rounds-least : (i : ℕ) → Rests marginLattice joined n p q i → rounds joined n p q ≤ suc i
   unfolding rounds
-  rounds-counted r moves rests = ap suc (first-is (atRest joined n p q) (pred n) r at-end (λ j b. not-T (atRest joined n p q j) (λ h. moves j b (rest-e j h))) (rest-i r rests))
+  rounds-least i h = let late : i < first (atRest joined n p q) (pred n) → ⊥ = λ b. T-not (atRest joined n p q i) (first-not (atRest joined n p q) (pred n) i b) (rest-i i h) in omega arith
 
   -- Theorem 4.5 for margins: what the last round leaves is the unbounded
   pub theorem : (l : ℕ) → l < n → iterate marginLattice joined n p q (rounds joined n p q) l ≡ unbounded marginLattice joined n p q l
   unfolding rounds last
   theorem l b = rest-e last at-last l b ∙ limit-at marginLattice margin-apart joined n p q last (rest-e last at-last) l b
+
+-- the rounds depend on the margins of the n places alone
+module _ (joined : ℕ → ℕ → Bool) (n : ℕ) where
+  rounds-at-most : (p q p′ q′ : ℕ → Margin) → ((l : ℕ) → l < n → p l ≡ p′ l) → ((l : ℕ) → l < n → q l ≡ q′ l) → rounds joined n p q ≤ rounds joined n p′ q′
+  unfolding rounds
+  rounds-at-most p q p′ q′ hp hq =
+      let same = iterate-kept marginLattice marginLattice (λ a b. a ≡ b) (same-kept marginLattice) joined n p q p′ q′ hp hq in
+      let i : ℕ = first (atRest joined n p′ q′) (pred n) in
+      rounds-least joined n p q i (λ l b. same (suc i) l b ∙ rests-after joined n p′ q′ i (omega arith) l b ∙ sym (same i l b))
+
+  pub rounds-same : (p q p′ q′ : ℕ → Margin) → ((l : ℕ) → l < n → p l ≡ p′ l) → ((l : ℕ) → l < n → q l ≡ q′ l) → rounds joined n p q ≡ rounds joined n p′ q′
+  rounds-same p q p′ q′ hp hq = le-antisymm (rounds-at-most p q p′ q′ hp hq) (rounds-at-most p′ q′ p q (λ l b. sym (hp l b)) (λ l b. sym (hq l b)))
 
 -- with Corollary 4.6: the unbounded within bounds, by the iteration on the masked values
 pub theorem-in : (joined : ℕ → ℕ → Bool) (n : ℕ) (inside edge : ℕ → Bool) (p q : ℕ → Margin) (l : ℕ) → l < n

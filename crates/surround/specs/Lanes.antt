@@ -4,7 +4,7 @@ use mathlib.Core.Bool.{Bool}
 use mathlib.Core.List.{List}
 use Prim.Native.Nat.{ℕ, _+_, _*_}
 use lib.ListN.{getD}
-use Rattle.logic.specs.Margin.{Margin, marginLattice}
+use Rattle.logic.specs.Margin.{marginLattice}
 use Rattle.logic.specs.Network.{isRoad}
 use Rattle.logic.specs.Surround.{surround}
 use Rattle.logic.specs.Iteration.{masked, rounds}

@@ -1,1 +1,4 @@
 pub mod Lanes
+pub mod Strips
+pub mod Steps
+pub mod Blocks

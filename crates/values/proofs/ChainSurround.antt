@@ -11,9 +11,9 @@ use Rattle.logic.specs.Iteration.{iterate, masked, rounds}
 use Rattle.logic.proofs.Keeps.{Keeps, masked-kept, iterate-kept, surround-kept}
 use Rattle.logic.proofs.Thresholds.{Apart}
 use Rattle.logic.proofs.Margins.{margin-apart}
-use Rattle.logic.proofs.Resting.{Rests, rests-on}
+use Rattle.logic.proofs.Resting.{Rests}
 use Rattle.logic.proofs.Limit.{verdict-apart, rested}
-use Rattle.logic.proofs.Rounds.{rounds-counted}
+use Rattle.logic.proofs.Rounds.{rests-after, rounds-least}
 use Rattle.values.specs.Chain.{marginCode, marginAt, chainMargin, chainVerdict, Valid, chainLattice}
 use Rattle.values.proofs.Codes.{code-at}
 use Rattle.values.proofs.Valid.{valid-kept, determined}
@@ -88,9 +88,9 @@ module _ (joined : ℕ → ℕ → Bool) (n : ℕ) (inside edge : ℕ → Bool) 
           ∙ ap marginCode (margin-step p q hp hq (suc i) l b ∙ r l b ∙ sym (margin-step p q hp hq i l b))
           ∙ half-code i l b
 
-      -- a step that changes no half is followed only by such steps
-      pub halves-rest-on : (i : ℕ) → HalvesRest i → (j : ℕ) → i ≤ j → HalvesRest j
-      halves-rest-on i r j h = from-margins j (rests-on marginLattice joined n inner outer i (to-margins i r) j h)
+      -- from the rounds on, and no sooner, no step changes a half
+      pub halves-rest-after : (i : ℕ) → rounds joined n inner outer ≤ suc i → HalvesRest i
+      halves-rest-after i h = from-margins i (rests-after joined n inner outer i h)
 
-      pub rounds-of-halves : (r : ℕ) → ((j : ℕ) → j < r → HalvesRest j → ⊥) → HalvesRest r → rounds joined n inner outer ≡ suc r
-      rounds-of-halves r moves rests = rounds-counted joined n inner outer r (λ j b h. moves j b (from-margins j h)) (to-margins r rests)
+      pub rounds-of-halves : (i : ℕ) → HalvesRest i → rounds joined n inner outer ≤ suc i
+      rounds-of-halves i r = rounds-least joined n inner outer i (to-margins i r)

@@ -1,0 +1,32 @@
+-- Rows that are written strip by strip, and where the words of a signal and the distances of a centre stand.
+use mathlib.Core.Path.{_≡_, _∙_}
+use mathlib.Core.List.{List}
+use Prim.Native.Nat.{ℕ, _+_, _*_, _<_, _≤_}
+use native.Mathlib.Nat.{le-mul-of-pos-right}
+use native.Mathlib.Omega.{arith}
+use borrow.Author.Count.{below-more}
+use Rattle.words.proofs.Rows.{in-table}
+use Rattle.surround.specs.Lanes.{lanes, laneOf}
+use Rattle.surround.specs.Strips.{Written}
+use Rattle.surround.specs.Blocks.{RowOf}
+
+pub row-none : (f : ℕ → ℕ → ℕ) (row : List ℕ) → RowOf f row 0
+row-none f row = record { at = λ place lane b l. absurd (omega arith) }
+
+pub row-more : (f : ℕ → ℕ → ℕ) (g : ℕ → ℕ) (row row′ : List ℕ) (k : ℕ) → RowOf f row k → Written k lanes g row row′
+    → ((lane : ℕ) → lane < lanes → g lane ≡ f lane k) → RowOf f row′ (k + 1)
+row-more f g row row′ k w s e = record {
+  at = λ place lane b l. below-more (λ p. laneOf row′ lane p ≡ f lane p) k
+      (λ p c. s .kept p lane l (λ q. absurd (omega arith)) ∙ w .at p lane c l)
+      (s .written lane l ∙ e lane l)
+      place b;
+}
+
+-- ---- indices
+pub signal-index : (start first count n l lane room : ℕ) → start + (first + count) * n ≤ room → l < n → lane < count
+    → (first + lane ≤ (first + lane) * n) × (start + ((first + lane) * n + l) < room)
+signal-index start first count n l lane room h b c =
+    let i : first + lane < first + count = omega arith in
+    let t = in-table i b in
+    let m = le-mul-of-pos-right {m = n} (first + lane) (omega arith) in
+    (m, omega arith)

@@ -1,0 +1,87 @@
+use Prim.Native.Nat.{ℕ, _+_, _-_, _*_, _≤_, _<_}
+use mathlib.Core.Path.{_≡_, ap, subst, _∙_}
+use mathlib.Core.Bool.{Bool, cond}
+use native.Mathlib.Omega.{arith}
+use lib.ListN.{length}
+use Rattle.words.specs.Bytes.{wordsOf, numbersOf}
+use Rattle.words.proofs.Numbers.{length-numbers}
+use Rattle.words.proofs.Rows.{in-table}
+use Rattle.logic.specs.Iteration.{masked}
+use Rattle.values.specs.Chain.{chainLattice}
+use Rattle.values.specs.Signals.{inTable}
+use Rattle.surround.specs.Lanes.{laneOf}
+use Rattle.surround.specs.Blocks.{RowOf}
+use Rattle.surround.proofs.RowLaws.{row-none, row-more}
+use borrow.Author.Needs.{needs}
+use Rattle.surround.proofs.rows.mask.Statement.{statement}
+use Rattle.surround.proofs.rows.mask.Tie as tie
+
+abbrev Inv-loop : tie.InvT-loop
+Inv-loop from to₀ distances centre places lower upper place₀ to place = (place ≤ places) × (length to ≡ length to₀) × RowOf (λ lane. masked chainLattice (inTable (numbersOf (wordsOf distances)) places centre lower upper) (laneOf from lane)) to place
+
+abbrev μ-loop : tie.MeasureT-loop
+μ-loop from to₀ distances centre places lower upper place₀ to place = places - place
+
+loop-holds : tie.Need-loop-holds Inv-loop μ-loop
+loop-holds c = (search needs, search needs, row-none _ (c .before .before .before .args .to .now))
+
+index : (c : tie.In-loop Inv-loop μ-loop) → let g = c .before .before .before .before .before .args in g .centre * g .places + c .before .loop .place < length (numbersOf (wordsOf (g .distances .now)))
+index c = let t = in-table (c .before .before .before .before .before .pre .0) (c .loop-test .taken) in omega (arith, c .before .before .before .before .before .pre .1)
+
+mul-in-range : tie.Need-mul-in-range Inv-loop μ-loop
+mul-in-range c = omega (arith, index c, length-numbers (c .before .before .before .before .before .args .distances .now))
+
+add-in-range : tie.Need-add-in-range Inv-loop μ-loop
+add-in-range c = omega (arith, index c, length-numbers (c .before .before .before .before .before .args .distances .now))
+
+in-range-requires : tie.Need-in-range-requires Inv-loop μ-loop
+in-range-requires c κs = index c
+
+mask-strip-requires : tie.Need-mask-strip-requires Inv-loop μ-loop
+mask-strip-requires c κs = search needs
+
+add-place : tie.Need-add-place Inv-loop μ-loop
+add-place c = search needs
+
+loop-less : tie.Need-loop-less Inv-loop μ-loop
+loop-less c = search needs
+
+loop-again : tie.Need-loop-again Inv-loop μ-loop
+unfolding masked inTable
+loop-again c =
+    let g = c .before .before .before .before .before .before .before .before .before .before .args in
+    let h = c .before .before .before .before .before .before .loop in
+    let r = c .before .before .mask-strip in
+    let f : ℕ → ℕ → ℕ = λ lane. masked chainLattice (inTable (numbersOf (wordsOf (g .distances .now))) (g .places) (g .centre) (g .lower) (g .upper)) (laneOf (g .from .now) lane) in (
+      search needs,
+      r .kept .1 .0 ∙ h .inv .1,
+      row-more f (λ lane. cond (c .before .before .before .before .in-range .result) (laneOf (g .from .now) lane (h .place)) 0) (h .to) (r .last .1 .0) (h .place) (h .inv .2) (r .ensures)
+          (λ lane _. ap (λ (t : Bool). cond t (laneOf (g .from .now) lane (h .place)) 0) (c .before .before .before .before .in-range .ensures)),
+    )
+
+same-length : tie.Need-same-length Inv-loop μ-loop
+same-length c = search needs
+
+returns : tie.Need-returns Inv-loop μ-loop
+returns c =
+    let g = c .before .before .before .before .before .args in
+    let h = c .before .loop in
+    let e : h .place ≡ g .places = omega arith in
+    subst (RowOf (λ lane. masked chainLattice (inTable (numbersOf (wordsOf (g .distances .now))) (g .places) (g .centre) (g .lower) (g .upper)) (laneOf (g .from .now) lane)) (h .to)) e (h .inv .2)
+
+pub mask-spec : {M : Type 1} → statement M
+mask-spec =
+    tie.close
+    (tie.spec
+    Inv-loop
+    μ-loop
+    loop-holds
+    mul-in-range
+    add-in-range
+    in-range-requires
+    mask-strip-requires
+    add-place
+    loop-less
+    loop-again
+    same-length
+    returns)

@@ -1,0 +1,26 @@
+use borrow.Author.Needs.{needs}
+use Rattle.surround.proofs.rows.mask_strip.Statement.{statement}
+use Rattle.surround.proofs.rows.mask_strip.Tie as tie
+
+copy-strip-requires : tie.Need-copy-strip-requires
+copy-strip-requires c κs = search needs
+
+zero-strip-requires : tie.Need-zero-strip-requires
+zero-strip-requires c κs = search needs
+
+same-length : tie.Need-same-length
+same-length c = search needs
+
+returns : tie.Need-returns
+returns c = rw (c .before .before .before .before .if1 .taken) (c .before .before .copy-strip .ensures)
+
+same-length-2 : tie.Need-same-length-2
+same-length-2 c = search needs
+
+returns-2 : tie.Need-returns-2
+returns-2 c = rw (c .before .before .before .before .if1 .left) (c .before .before .zero-strip .ensures)
+
+pub mask-strip-spec : {M : Type 1} → statement M
+mask-strip-spec =
+    tie.close
+    (tie.spec copy-strip-requires zero-strip-requires same-length returns same-length-2 returns-2)

@@ -1,0 +1,78 @@
+use mathlib.Core.Path.{_≡_, refl, subst}
+use Prim.Native.Nat.{ℕ, _-_, _≤_}
+use native.Mathlib.Omega.{arith}
+use lib.ListN.{length}
+use Rattle.surround.specs.Lanes.{lanes, laneOf}
+use Rattle.surround.specs.Strips.{Written}
+use Rattle.surround.proofs.StripLaws.{written-more}
+use borrow.Author.Needs.{needs}
+use Rattle.surround.proofs.strips.copy_strip.Statement.{statement}
+use Rattle.surround.proofs.strips.copy_strip.Tie as tie
+
+abbrev Inv-loop : tie.InvT-loop
+Inv-loop from to₀ place lane₀ to lane = (lane ≤ lanes) × (length to ≡ length to₀) × Written place lane (λ l. laneOf from l place) to₀ to
+
+abbrev μ-loop : tie.MeasureT-loop
+μ-loop from to₀ place lane₀ to lane = lanes - lane
+
+loop-holds : tie.Need-loop-holds Inv-loop μ-loop
+loop-holds c = search needs
+
+mul-at : tie.Need-mul-at Inv-loop μ-loop
+mul-at c = search needs
+
+add-at : tie.Need-add-at Inv-loop μ-loop
+add-at c = search needs
+
+mul-to : tie.Need-mul-to Inv-loop μ-loop
+mul-to c = search needs
+
+shared-slice-read-to : tie.Need-shared-slice-read-to Inv-loop μ-loop
+shared-slice-read-to c = search needs
+
+mul-to-2 : tie.Need-mul-to-2 Inv-loop μ-loop
+mul-to-2 c = search needs
+
+slice-write-to : tie.Need-slice-write-to Inv-loop μ-loop
+slice-write-to c = search needs
+
+add-lane : tie.Need-add-lane Inv-loop μ-loop
+add-lane c = search needs
+
+loop-less : tie.Need-loop-less Inv-loop μ-loop
+loop-less c = search needs
+
+loop-again : tie.Need-loop-again Inv-loop μ-loop
+loop-again c =
+    let h = c .before .before .loop in
+    let g = c .before .before .before .args in
+    (search needs, search needs, written-more (g .place) (h .lane) (λ l. laneOf (g .from .now) l (g .place)) (g .to .now) (h .to) (laneOf (g .from .now) (h .lane) (g .place)) (h .inv .2) (omega arith) (omega arith) refl)
+
+same-length : tie.Need-same-length Inv-loop μ-loop
+same-length c = search needs
+
+returns : tie.Need-returns Inv-loop μ-loop
+returns c =
+    let h = c .before .loop in
+    let g = c .before .before .args in
+    let e : h .lane ≡ lanes = omega arith in
+    subst (λ (k : ℕ). Written (g .place) k (λ l. laneOf (g .from .now) l (g .place)) (g .to .now) (h .to)) e (h .inv .2)
+
+pub copy-strip-spec : {M : Type 1} → statement M
+copy-strip-spec =
+    tie.close
+    (tie.spec
+    Inv-loop
+    μ-loop
+    loop-holds
+    mul-at
+    add-at
+    mul-to
+    shared-slice-read-to
+    mul-to-2
+    slice-write-to
+    add-lane
+    loop-less
+    loop-again
+    same-length
+    returns)

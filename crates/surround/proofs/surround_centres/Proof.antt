@@ -1,0 +1,102 @@
+use Prim.Native.Nat.{ℕ, _-_, _≤_}
+use mathlib.Core.Path.{_≡_, refl, subst, _∙_}
+use native.Mathlib.Omega.{arith}
+use lib.ListN.{length}
+use Rattle.words.specs.Bytes.{wordsOf, numbersOf}
+use Rattle.surround.specs.Blocks.{CentresDone}
+use Rattle.surround.proofs.Centres.{centres-none, centres-more}
+use borrow.Author.Needs.{needs}
+use Rattle.surround.proofs.surround_centres.Statement.{statement}
+use Rattle.surround.proofs.surround_centres.Tie as tie
+
+abbrev Inv-loop : tie.InvT-loop
+Inv-loop left right places sheet roads distances lower upper out₀ x₀ ring₀ old₀ both₀ most₀ centre₀ out x ring old both most centre =
+    (centre ≤ places) × (length out ≡ length out₀) × (length x ≡ 1024) × (length ring ≡ 1024) × (length old ≡ 1024) × (length both ≡ 1024)
+    × CentresDone left right places (wordsOf sheet) roads (numbersOf (wordsOf distances)) lower upper centre out most
+
+abbrev μ-loop : tie.MeasureT-loop
+μ-loop left right places sheet roads distances lower upper out₀ x₀ ring₀ old₀ both₀ most₀ centre₀ out x ring old both most centre =
+    places - centre
+
+loop-holds : tie.Need-loop-holds Inv-loop μ-loop
+loop-holds c =
+    let g = c .before .before .before .before .before .args in (
+      search needs,
+      refl,
+      search needs,
+      search needs,
+      search needs,
+      search needs,
+      centres-none (g .left .now) (g .right .now) (g .places) (wordsOf (g .sheet .now)) (g .roads) (numbersOf (wordsOf (g .distances .now))) (g .lower) (g .upper) (g .out .now),
+    )
+
+slice-aggregate-surround-centre : tie.Need-slice-aggregate-surround-centre Inv-loop μ-loop
+slice-aggregate-surround-centre c = search needs
+
+slice-aggregate-surround-centre-2 : tie.Need-slice-aggregate-surround-centre-2 Inv-loop μ-loop
+slice-aggregate-surround-centre-2 c = search needs
+
+slice-aggregate-surround-centre-3 : tie.Need-slice-aggregate-surround-centre-3 Inv-loop μ-loop
+slice-aggregate-surround-centre-3 c = search needs
+
+slice-aggregate-surround-centre-4 : tie.Need-slice-aggregate-surround-centre-4 Inv-loop μ-loop
+slice-aggregate-surround-centre-4 c = search needs
+
+surround-centre-requires : tie.Need-surround-centre-requires Inv-loop μ-loop
+surround-centre-requires c κs = (search needs, c .before .before .before .before .before .before .before .before .before .before .before .pre .0, search needs)
+
+slice-aggregate-copy-strip : tie.Need-slice-aggregate-copy-strip Inv-loop μ-loop
+slice-aggregate-copy-strip c = search needs
+
+copy-strip-requires : tie.Need-copy-strip-requires Inv-loop μ-loop
+copy-strip-requires c κs = search needs
+
+greater-of-requires : tie.Need-greater-of-requires Inv-loop μ-loop
+greater-of-requires c κs = search needs
+
+add-centre : tie.Need-add-centre Inv-loop μ-loop
+add-centre c = search needs
+
+loop-less : tie.Need-loop-less Inv-loop μ-loop
+loop-less c = search needs
+
+loop-again : tie.Need-loop-again Inv-loop μ-loop
+loop-again c =
+    let g = c .before .before .before .before .before .before .before .before .before .before .before .before .before .before .before .before .before .before .before .before .before .before .args in
+    let h = c .before .before .before .before .before .before .before .before .before .before .before .before .before .before .before .before .loop in
+    let s = c .before .before .before .before .before .before .before .before .before .before .surround-centre in
+    let w = c .before .before .before .copy-strip in
+    let done = centres-more (g .left .now) (g .right .now) (g .places) (wordsOf (g .sheet .now)) (g .roads) (numbersOf (wordsOf (g .distances .now))) (g .lower) (g .upper)
+    (h .centre) (h .out) (s .last .1 .1 .1 .1 .1 .1 .1 .1 .1 .0) (w .last .1 .0) (h .most) (s .result) (h .inv .6) (s .ensures) (w .ensures) in
+    (search needs, w .kept .1 .0 ∙ h .inv .1, search needs, search needs, search needs, search needs, rw (c .greater-of .ensures) done)
+
+same-length : tie.Need-same-length Inv-loop μ-loop
+same-length c = search needs
+
+returns : tie.Need-returns Inv-loop μ-loop
+returns c =
+    let g = c .before .before .before .before .before .before .before .args in
+    let h = c .before .loop in
+    let e : h .centre ≡ g .places = omega arith in
+    subst (λ (k : ℕ). CentresDone (g .left .now) (g .right .now) (g .places) (wordsOf (g .sheet .now)) (g .roads) (numbersOf (wordsOf (g .distances .now))) (g .lower) (g .upper) k (h .out) (h .most)) e (h .inv .6)
+
+pub surround-centres-spec : {M : Type 1} → statement M
+surround-centres-spec =
+    tie.close
+    (tie.spec
+    Inv-loop
+    μ-loop
+    loop-holds
+    slice-aggregate-surround-centre
+    slice-aggregate-surround-centre-2
+    slice-aggregate-surround-centre-3
+    slice-aggregate-surround-centre-4
+    surround-centre-requires
+    slice-aggregate-copy-strip
+    copy-strip-requires
+    greater-of-requires
+    add-centre
+    loop-less
+    loop-again
+    same-length
+    returns)

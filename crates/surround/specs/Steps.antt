@@ -1,0 +1,77 @@
+-- What a round does, row by row: `both` holds what each place hands to its neighbours, and a pull takes it over where it is less.
+use mathlib.Core.Path.{_≡_}
+use mathlib.Core.Bool.{Bool}
+use mathlib.Core.List.{List}
+use Prim.Native.Nat.{ℕ, suc, _*_, _<_, _≤_}
+use lib.Dec.{T}
+use lib.ListN.{length}
+use Rattle.logic.specs.Lattice.{leastOver}
+use Rattle.logic.specs.Iteration.{iterate, rounds}
+use Rattle.logic.specs.Counts.{mostBelow}
+use Rattle.sheet.specs.Checked.{wordAt}
+use Rattle.sheet.specs.Layout.{roadAt, firstPlace, secondPlace}
+use Rattle.values.specs.Chain.{chainLattice, chainMargin, highest, Valid}
+use Rattle.surround.specs.Lanes.{lanes, laneOf, joinedBy}
+
+-- the words of the roads are there, and each road joins two of the n places
+pub record RoadsIn (sheet : List ℕ) (roads n : ℕ) : Type 0 where
+  pub there : (r : ℕ) → r < roads → roadAt r < length sheet
+  pub order : (r : ℕ) → r < roads → firstPlace (wordAt sheet (roadAt r)) < secondPlace (wordAt sheet (roadAt r))
+  pub inside : (r : ℕ) → r < roads → secondPlace (wordAt sheet (roadAt r)) < n
+
+-- the numbers of n places, none above the highest; and all of them numbers that can arise
+pub record Bounded (row : List ℕ) (n : ℕ) : Type 0 where
+  pub bound : (place lane : ℕ) → place < n → lane < lanes → laneOf row lane place ≤ highest
+
+pub record ValidRow (row : List ℕ) (n : ℕ) : Type 0 where
+  pub valid : (place lane : ℕ) → place < n → lane < lanes → Valid (laneOf row lane place)
+
+-- rows with room for n places, all of one length
+pub record Rooms (n : ℕ) (x right old both : List ℕ) : Type 0 where
+  pub room : n * lanes ≤ length x
+  pub right-room : length right ≡ length x
+  pub old-room : length old ≡ length x
+  pub both-room : length both ≡ length x
+
+-- old is x, and both the greater of x and right
+pub record Joined (x right old both : List ℕ) (n : ℕ) : Type 0 where
+  pub former : (place lane : ℕ) → place < n → lane < lanes → laneOf old lane place ≡ laneOf x lane place
+  pub handed : (place lane : ℕ) → place < n → lane < lanes → laneOf both lane place ≡ chainLattice .join (laneOf x lane place) (laneOf right lane place)
+
+-- each of two places takes over from the other
+pub record RoadPulled (a b : ℕ) (both before after : List ℕ) : Type 0 where
+  pub first : (lane : ℕ) → lane < lanes → laneOf after lane a ≡ chainLattice .meet (laneOf before lane a) (laneOf both lane b)
+  pub second : (lane : ℕ) → lane < lanes → laneOf after lane b ≡ chainLattice .meet (laneOf before lane b) (laneOf both lane a)
+  pub other : (place lane : ℕ) → lane < lanes → (place ≡ a → ⊥) → (place ≡ b → ⊥) → laneOf after lane place ≡ laneOf before lane place
+
+-- y is the least of x and of f where the test passes
+pub record LeastOf (y x : ℕ) (test : ℕ → Bool) (f : ℕ → ℕ) : Type 0 where
+  pub below : y ≤ x
+  pub under : (p : ℕ) → T (test p) → y ≤ f p
+  pub greatest : (z : ℕ) → z ≤ x → ((p : ℕ) → T (test p) → z ≤ f p) → z ≤ y
+
+-- each place has taken over along the first roads
+pub record Stepped (sheet : List ℕ) (roads : ℕ) (both before after : List ℕ) : Type 0 where
+  pub least : (place lane : ℕ) → lane < lanes → LeastOf (laneOf after lane place) (laneOf before lane place) (joinedBy sheet roads place) (laneOf both lane)
+
+-- one round of Definition 4.4 in every lane, with the former numbers in `old`
+pub record Round (sheet : List ℕ) (roads n : ℕ) (right before old after : List ℕ) : Type 0 where
+  pub former : (place lane : ℕ) → place < n → lane < lanes → laneOf old lane place ≡ laneOf before lane place
+  pub stepped : (place lane : ℕ) → place < n → lane < lanes → laneOf after lane place
+      ≡ chainLattice .meet (laneOf before lane place) (leastOver chainLattice (joinedBy sheet roads place) (λ k. chainLattice .join (laneOf before lane k) (laneOf right lane k)) n)
+
+module _ (sheet : List ℕ) (roads n : ℕ) (right x : List ℕ) where
+  -- Definition 4.4's iteration in one lane: what it has at step i
+  abbrev pub stepIn : ℕ → ℕ → ℕ → ℕ
+  stepIn lane = iterate chainLattice (joinedBy sheet roads) n (laneOf x lane) (laneOf right lane)
+
+  -- the rounds of one lane
+  abbrev pub roundsIn : ℕ → ℕ
+  roundsIn lane = rounds (joinedBy sheet roads) n (λ l. chainMargin (laneOf x lane l)) (λ l. chainMargin (laneOf right lane l))
+
+  -- every lane has come to rest, and r is the greatest rounds of a lane
+  pub record Settled (r : ℕ) (after : List ℕ) : Type 0 where
+    pub steps : ℕ
+    pub reached : (place lane : ℕ) → place < n → lane < lanes → laneOf after lane place ≡ stepIn lane steps place
+    pub rests : (place lane : ℕ) → place < n → lane < lanes → stepIn lane (suc steps) place ≡ stepIn lane steps place
+    pub counted : r ≡ mostBelow roundsIn lanes

@@ -1,0 +1,104 @@
+// Rows of lanes from the words of an answer, and rows masked by distance.
+ghost use mathlib.Core.Path.{_≡_};
+ghost use mathlib.Core.Bool.{cond, _&&_};
+ghost use Prim.Native.Nat.{_+_, _*_, _≤_, _<_};
+ghost use lib.Dec.{leb};
+ghost use lib.ListN.{length, getD};
+ghost use Rattle.words.specs.Bytes.{wordsOf, numbersOf};
+ghost use Rattle.logic.specs.Iteration.{masked};
+ghost use Rattle.values.specs.Chain.{chainLattice};
+ghost use Rattle.values.specs.Signals.{inTable};
+ghost use Rattle.surround.specs.Lanes.{lanes, laneOf};
+ghost use Rattle.surround.specs.Strips.{Written};
+ghost use Rattle.surround.specs.Blocks.{RowOf, laneSignal};
+use crate::LANES;
+use crate::strips::copy_strip;
+use crate::strips::zero_strip;
+
+// The chain number of a place at the sample of a lane.
+fn signal_at(
+    words: &[u8],
+    start: usize,
+    places: usize,
+    first: usize,
+    count: usize,
+    place: usize,
+    lane: usize,
+) -> u32
+    requires { ⌜ (start + (first + count) * places ≤ length (wordsOf (now words))) × (place < places) ⌝ }
+    ensures { λ r. ⌜ r ≡ laneSignal (wordsOf (now (words .entry))) start places first count lane place ⌝ }
+{
+    if lane < count {
+        values::of_word(words::word_at(words, start + ((first + lane) * places + place)))
+    } else {
+        0
+    }
+}
+
+fn load_strip(
+    words: &[u8],
+    start: usize,
+    places: usize,
+    first: usize,
+    count: usize,
+    place: usize,
+    row: &mut [u32],
+)
+    requires { ⌜ (start + (first + count) * places ≤ length (wordsOf (now words))) × (place < places) × (place * lanes + lanes ≤ length (now row)) ⌝ }
+    ensures { λ _. ⌜ Written place lanes (λ lane. laneSignal (wordsOf (now (words .entry))) start places first count lane place) (now (row .entry)) (now (row .exit)) ⌝ }
+{
+    for lane in 0..LANES {
+        row[place * LANES + lane] = signal_at(words, start, places, first, count, place, lane);
+    }
+}
+
+// Decodes a signal at the samples of a block, once for all centres.
+pub fn load(words: &[u8], start: usize, places: usize, first: usize, count: usize, row: &mut [u32])
+    requires { ⌜ (start + (first + count) * places ≤ length (wordsOf (now words))) × (places * lanes ≤ length (now row)) ⌝ }
+    ensures { λ _. ⌜ RowOf (laneSignal (wordsOf (now (words .entry))) start places first count) (now (row .exit)) places ⌝ }
+{
+    for place in 0..places {
+        load_strip(words, start, places, first, count, place, row);
+    }
+}
+
+fn in_range(distances: &[u8], at: usize, lower: u64, upper: u64) -> bool
+    requires { ⌜ at < length (numbersOf (wordsOf (now distances))) ⌝ }
+    ensures { λ r. ⌜ r ≡ (leb lower (getD (numbersOf (wordsOf (now (distances .entry)))) at 0) && leb (getD (numbersOf (wordsOf (now (distances .entry)))) at 0) upper) ⌝ }
+{
+    let distance = words::number_at(distances, at);
+    if distance < lower {
+        return false;
+    }
+    distance <= upper
+}
+
+fn mask_strip(from: &[u32], to: &mut [u32], place: usize, inside: bool)
+    requires { ⌜ (place * lanes + lanes ≤ length (now from)) × (place * lanes + lanes ≤ length (now to)) ⌝ }
+    ensures { λ _. ⌜ Written place lanes (λ lane. cond inside (laneOf (now (from .entry)) lane place) 0) (now (to .entry)) (now (to .exit)) ⌝ }
+{
+    if inside {
+        copy_strip(from, to, place);
+    } else {
+        zero_strip(to, place);
+    }
+}
+
+// Corollary 4.6: a number outside its range about the centre counts as the lowest.
+pub fn mask(
+    from: &[u32],
+    to: &mut [u32],
+    distances: &[u8],
+    centre: usize,
+    places: usize,
+    lower: u64,
+    upper: u64,
+)
+    requires { ⌜ (centre < places) × (places * places ≤ length (numbersOf (wordsOf (now distances)))) × (places * lanes ≤ length (now from)) × (places * lanes ≤ length (now to)) ⌝ }
+    ensures { λ _. ⌜ RowOf (λ lane. masked chainLattice (inTable (numbersOf (wordsOf (now (distances .entry)))) places centre lower upper) (laneOf (now (from .entry)) lane)) (now (to .exit)) places ⌝ }
+{
+    for place in 0..places {
+        let inside = in_range(distances, centre * places + place, lower, upper);
+        mask_strip(from, to, place, inside);
+    }
+}
