@@ -6,4 +6,3 @@ pub mod limits;
 pub mod line;
 pub mod operator;
 mod stages;
-mod word;
