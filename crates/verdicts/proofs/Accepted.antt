@@ -20,7 +20,7 @@ use Rattle.sheet.proofs.RefusalNumbers.{Numbered, accepts, refuses, check-numbe
 use Rattle.values.specs.Said.{Said, says, nothing}
 use Rattle.verdicts.specs.Answer.{wordsNeeded}
 use Rattle.verdicts.specs.Judged.{Judged, refusal, answered, judgedBy, judged}
-use Rattle.verdicts.specs.Lookup.{verdictNumber, wholeAnswer, saidAt, lookedUp}
+use Rattle.lookup.specs.Lookup.{verdictNumber, wholeAnswer, saidAt, lookedUp}
 use Rattle.verdicts.proofs.AnswerWords.{InFields}
 use Rattle.verdicts.proofs.AnswerSays.{answer-says}
 use Rattle.verdicts.proofs.WholeAnswer.{InAnswer, answer-whole}

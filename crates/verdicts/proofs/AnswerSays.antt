@@ -15,7 +15,7 @@ use Rattle.logic.proofs.TableKeeps.{ConstantsIn}
 use Rattle.sheet.specs.Checked.{wordAt}
 use Rattle.values.specs.Said.{Said, says, nothing, saidBy}
 use Rattle.verdicts.specs.Answer.{wordFor}
-use Rattle.verdicts.specs.Lookup.{headPlaces, headLines, lineLength, lineStart, saidAt}
+use Rattle.lookup.specs.Lookup.{headPlaces, headLines, lineLength, lineStart, saidAt}
 use Rattle.values.proofs.ReadBack.{read-back}
 use Rattle.verdicts.proofs.AnswerWords.{InFields, answer, places-read, lines-read, start-read, length-read, verdict-word}
 

@@ -16,7 +16,7 @@ use Rattle.logic.specs.Table.{Line, lineIn, Recording}
 use Rattle.logic.specs.Counts.{sumBelow}
 use Rattle.sheet.specs.Checked.{wordAt}
 use Rattle.verdicts.specs.Answer.{lineIndex, wordsNeeded, wordFor, lineWords, headWord, answerWords}
-use Rattle.verdicts.specs.Lookup.{headPlaces, headLines, headSamples, lineStart, lineLength}
+use Rattle.lookup.specs.Lookup.{headPlaces, headLines, headSamples, lineStart, lineLength}
 
 -- a word of the part between the head and the end
 behind-head : (m e z : List ℕ) (h k : ℕ) → k < length m → getD (h ∷ ((m ++ e) ++ z)) (1 + k) 0 ≡ getD m k 0

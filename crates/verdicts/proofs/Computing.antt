@@ -17,7 +17,7 @@ use Rattle.sheet.specs.Roads.{joins, weightAmong, network, recording, distanceT
 use Rattle.values.specs.Said.{Said, said}
 use Rattle.verdicts.specs.Answer.{lineIndex, wordsNeeded, wordFor, lineWords, headWord, answerWords}
 use Rattle.verdicts.specs.Judged.{Judged, answered, judged}
-use Rattle.verdicts.specs.Lookup.{lineStart, saidAt}
+use Rattle.lookup.specs.Lookup.{lineStart, saidAt}
 
 -- with 4,096 distances and 64 answer words lent
 unfoldable pub answerOf : List ℕ → Judged

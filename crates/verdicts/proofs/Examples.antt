@@ -14,7 +14,7 @@ use Rattle.sheet.specs.Layout.{Layout, checked}
 use Rattle.sheet.specs.Roads.{network, recording}
 use Rattle.values.specs.Said.{Said, says, nothing}
 use Rattle.verdicts.specs.Judged.{Judged, refusal, judged}
-use Rattle.verdicts.specs.Lookup.{saidAt}
+use Rattle.lookup.specs.Lookup.{saidAt}
 use Rattle.verdicts.proofs.Computing.{answerOf}
 
 -- ---- the sheets

@@ -22,7 +22,7 @@ use Rattle.sheet.proofs.SameLayout.{same-layout}
 use Rattle.sheet.proofs.SameNetwork.{network-same, recordings-near}
 use Rattle.values.specs.Said.{Said, says, nothing}
 use Rattle.verdicts.specs.Judged.{Judged, answered, judged}
-use Rattle.verdicts.specs.Lookup.{saidAt}
+use Rattle.lookup.specs.Lookup.{saidAt}
 use Rattle.verdicts.specs.Steady.{Steady, SteadyVerdicts}
 use Rattle.verdicts.proofs.Accepted.{Answered, accepted-answered, answered-says}
 
