@@ -6,7 +6,7 @@ use lib.Dec.{leb, eqb}
 use lib.ListN.{length, replicate}
 use Rattle.words.specs.Bytes.{wordsOf, bytesOf, halvesOf}
 use Rattle.verdicts.specs.Judged.{Result, Judged, refusal, judged}
-use Rattle.verdicts.specs.Lookup.{lookedUp}
+use Rattle.lookup.specs.Lookup.{lookedUp}
 
 abbrev multiple : ℕ → ℕ → Bool
 multiple size bytes = eqb (bytes % size) 0

@@ -5,7 +5,7 @@ use mathlib.Core.Bool.{Bool, true, false, not, cond}
 use Prim.Native.Nat.{ℕ, zero, suc, _+_, _<_, _≤_, zero-le}
 use native.Mathlib.Nat.{not-suc-le-zero, le-refl, le-of-lt, zero-add, add-zero}
 use native.Mathlib.Omega.{arith}
-use lib.Dec.{T, T-not, leb, eqb, leb→le, le→leb, eqb→eq, eqb-refl, nleb→lt}
+use lib.Dec.{T, T-not, eqb, leb→le, le→leb, eqb→eq, eqb-refl, nleb→lt}
 use Rattle.logic.specs.Distance.{Distance, dist, none, atMost, add, lesser, Path, here, step, IsDistance, direct, distance}
 use Rattle.logic.specs.Network.{Network, distanceIn}
 use Rattle.logic.proofs.Tests.{below}

@@ -1,8 +1,7 @@
 -- Corollary 4.6: the surround within bounds is the unbounded surround of the masked values.
 use mathlib.Core.Path.{_≡_, refl, sym, ap, _∙_}
 use mathlib.Core.Bool.{Bool, true, false, cond, _&&_, and-false}
-use Prim.Native.Nat.{ℕ, _<_}
-use lib.Dec.{T}
+use Prim.Native.Nat.{ℕ}
 use Rattle.logic.specs.Lattice.{Lattice, verdictLattice, leastOver}
 use Rattle.logic.specs.Surround.{holds, greatestRegion, allowed, regionValue, surround, unbounded}
 use Rattle.logic.specs.Iteration.{masked}

@@ -1,8 +1,7 @@
 -- The iteration on verdicts rests after n - 1 steps at the latest: each step that changes anything loses a place, and a first step that
 -- loses a place starts from fewer than all n.
-use mathlib.Core.Path.{_≡_}
 use mathlib.Core.Logic.{_⊎_, inl, inr, ⊎-elim}
-use mathlib.Core.Bool.{Bool, true, false, not, _||_}
+use mathlib.Core.Bool.{Bool, true, false, not}
 use Prim.Native.Nat.{ℕ, zero, suc, _+_, _<_, _≤_, zero-le}
 use native.Mathlib.Nat.{not-suc-le-zero, lt-suc-self, le-suc, le-trans}
 use native.Mathlib.Decide.{le-ind}

@@ -1,9 +1,8 @@
 -- Margins of samples and constants of 27 bits are below 2^27 in size, over every table: so they fit 28 bits and never are -2^27.
-use mathlib.Core.Path.{_≡_}
 use mathlib.Core.List.{List}
-use Prim.Native.Nat.{ℕ, zero, suc, _+_, _<_, _≤_, _^_}
+use Prim.Native.Nat.{ℕ, zero, suc, _<_, _≤_, _^_}
 use native.Mathlib.Omega.{arith}
-use lib.IntN.{ℤ, pos, negsuc, negℤ, natAbs, _-ℤ_}
+use lib.IntN.{ℤ, pos, negsuc, natAbs, _-ℤ_}
 use Rattle.logic.specs.Margin.{Margin, minusInfinity, finite, plusInfinity, atMost, negate, marginLattice}
 use Rattle.logic.specs.Network.{Network}
 use Rattle.logic.specs.Table.{Line, Recording, margins, valueAt}

@@ -3,7 +3,7 @@
 use mathlib.Core.Path.{_≡_}
 use mathlib.Core.List.{List}
 use Prim.Native.Nat.{ℕ, _≤_, _<_}
-use lib.IntN.{ℤ, negℤ, natAbs, _-ℤ_, _+ℤ_, negℤ-+ℤ, negℤ-negℤ, +ℤ-assoc, +ℤ-comm, +ℤ-invl, +ℤ-idl}
+use lib.IntN.{ℤ, negℤ, natAbs, _-ℤ_, negℤ-+ℤ, negℤ-negℤ, +ℤ-assoc, +ℤ-comm, +ℤ-invl, +ℤ-idl}
 use Rattle.logic.specs.Margin.{finite}
 use Rattle.logic.specs.Network.{Network}
 use Rattle.logic.specs.Table.{Line, Recording, margins, valueAt}

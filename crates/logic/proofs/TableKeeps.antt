@@ -1,9 +1,8 @@
 -- One induction over the lines of a table, for every relation that the operations keep. Steadiness and the agreement of margin and verdict
 -- are its instances.
-use mathlib.Core.List.{List, [], _∷_, _++_}
-use Prim.Native.Nat.{ℕ, zero, suc, _+_, _<_}
+use mathlib.Core.List.{List, [], _∷_}
+use Prim.Native.Nat.{ℕ, suc, _+_, _<_}
 use lib.Dec.{leb}
-use lib.ListN.{getD}
 use lib.IntN.{ℤ}
 use Rattle.logic.specs.Network.{Network, joined, within}
 use Rattle.logic.specs.Table.{Operator, True, AtLeast, AtMost, Not, And, Until, Somewhere, Surrounded, Or, Eventually, Always, Everywhere, Line, Recording, Reading, Signal, untilAt, somewhereAt, surroundAt, value, valuesAfter, valueAt}

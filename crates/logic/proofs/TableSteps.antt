@@ -1,13 +1,13 @@
 -- The value of a line is its operator's value on the earlier lines: what is known of them does not change when lines are added.
-use mathlib.Core.Path.{_≡_, refl, sym, ap, _∙_}
+use mathlib.Core.Path.{_≡_, refl, ap, _∙_}
 use mathlib.Core.List.{List, [], _∷_, _++_}
-use Prim.Native.Nat.{ℕ, zero, suc, _+_, _<_, _≤_}
+use Prim.Native.Nat.{ℕ, zero, suc, _+_, _<_}
 use native.Mathlib.Nat.{not-suc-le-zero, le-of-suc-le-suc}
 use native.Mathlib.Omega.{arith}
 use lib.ListN.{length, getD, length-append, List·getD-append}
 use lib.Seq.{getD-at}
 use Rattle.logic.specs.Network.{Network}
-use Rattle.logic.specs.Table.{Line, lineIn, Recording, Reading, Signal, everTrue, value, valuesAfter, valueAt}
+use Rattle.logic.specs.Table.{Line, lineIn, Recording, Reading, Signal, everTrue, value, valuesAfter}
 
 module _ (R : Reading) (N : Network) (x : Recording) where
   -- the value of a line after what is known

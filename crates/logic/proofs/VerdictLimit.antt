@@ -2,8 +2,7 @@
 -- lost, and the places that are left when nothing changes any more are such a region.
 use mathlib.Core.Path.{_≡_}
 use mathlib.Core.Logic.{⊎-elim}
-use mathlib.Core.Bool.{Bool, true, false, not, _||_}
-use mathlib.Core.List.{List}
+use mathlib.Core.Bool.{Bool, not, _||_}
 use Prim.Native.Nat.{ℕ, zero, suc, _<_}
 use lib.Dec.{T, T-not}
 use Rattle.logic.specs.Lattice.{verdictLattice, leastOver}

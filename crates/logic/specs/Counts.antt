@@ -3,7 +3,7 @@ use mathlib.Core.Bool.{Bool, true, false}
 use mathlib.Core.List.{List}
 use Prim.Native.Nat.{ℕ, zero, suc, _+_, max}
 use lib.ListN.{length}
-use Rattle.logic.specs.Margin.{Margin, marginLattice}
+use Rattle.logic.specs.Margin.{marginLattice}
 use Rattle.logic.specs.Network.{Network, joined, within}
 use Rattle.logic.specs.Iteration.{masked, rounds}
 use Rattle.logic.specs.Table.{Operator, True, AtLeast, AtMost, Not, And, Until, Somewhere, Surrounded, Or, Eventually, Always, Everywhere, Line, lineIn, Recording, Signal, verdicts, margins, valueAt}

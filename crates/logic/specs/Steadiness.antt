@@ -2,7 +2,7 @@
 use mathlib.Core.Bool.{Bool, true, false}
 use lib.Dec.{T}
 use Prim.Native.Nat.{ℕ, _≤_, _<_}
-use lib.IntN.{ℤ, pos, natAbs, _-ℤ_}
+use lib.IntN.{pos, natAbs, _-ℤ_}
 use Rattle.logic.specs.Margin.{Margin, minusInfinity, finite, plusInfinity, atMost}
 
 -- at most d apart, or the same infinity

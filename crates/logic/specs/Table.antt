@@ -1,14 +1,14 @@
 -- The meaning of a table of lines, codes 0 to 11 (Definitions 3.1 and 3.4), once for verdicts and margins: a reading says what values
 -- are, how they are negated and what the two atoms are worth.
-use mathlib.Core.Bool.{Bool, true, false, not}
+use mathlib.Core.Bool.{not}
 use mathlib.Core.List.{List, [], _∷_, _++_}
-use Prim.Native.Nat.{ℕ, zero, suc, _+_, _-_, min}
+use Prim.Native.Nat.{ℕ, suc, _+_, _-_, min}
 use lib.Dec.{leb}
 use lib.ListN.{getD}
 use lib.IntN.{ℤ, _-ℤ_}
 use lib.Signed.{leZ}
 use Rattle.logic.specs.Lattice.{Lattice, verdictLattice, leastOver, greatestOver}
-use Rattle.logic.specs.Margin.{Margin, finite, negate, marginLattice}
+use Rattle.logic.specs.Margin.{finite, negate, marginLattice}
 use Rattle.logic.specs.Network.{Network, joined, within}
 use Rattle.logic.specs.Surround.{surround}
 

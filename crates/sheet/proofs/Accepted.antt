@@ -1,9 +1,8 @@
 -- What the acceptance of each part tells: limits, places of the words, and what was found.
-use Prim.Native.Nat.{ℕ, zero, suc, _+_, _*_, _<_, _≤_, _^_}
+use Prim.Native.Nat.{ℕ, zero, suc, _+_, _*_, _≤_, _^_}
 use mathlib.Core.Bool.{Bool, true, false, _&&_}
 use mathlib.Core.List.{List}
-use mathlib.Core.Path.{_≡_, refl, sym, _∙_, subst}
-use native.Mathlib.Decide.{ℕ-discrete}
+use mathlib.Core.Path.{_≡_, refl, subst}
 use native.Mathlib.Nat.{mul-le-mul}
 use native.Mathlib.Omega.{arith}
 use lib.Dec.{leb, eqb}
@@ -12,9 +11,9 @@ use borrow.Author.Tests.{leb-true, eqb-true}
 use Rattle.words.specs.Word.{bits, payloadOf}
 use Rattle.sheet.specs.Limits.{mostPlaces, mostSignals, mostSamples}
 use Rattle.sheet.specs.Checked.{accepted, require, between, wordAt, isKind}
-use Rattle.sheet.specs.Layout.{Sizes, roadAt, weightAt, sampleCount, headSizes, headChecked, roadsFrom, samplesFrom, endChecked}
-use Rattle.sheet.specs.Checking.{mapped, roadChecked}
-use Rattle.sheet.proofs.Checks.{same-accepted, require-accepted, bind-accepted}
+use Rattle.sheet.specs.Layout.{Sizes, sampleCount, headSizes, headChecked, samplesFrom, endChecked}
+use Rattle.sheet.specs.Checking.{mapped}
+use Rattle.sheet.proofs.Checks.{same-accepted, require-accepted}
 use Rattle.sheet.proofs.Tests.{and-true}
 
 -- ---- head

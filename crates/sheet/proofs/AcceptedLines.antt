@@ -11,14 +11,14 @@ use lib.Dec.{T, leb, eqb, ltb, leb→le, ltb→lt, nltb→le}
 use lib.ListN.{length, length-append, List·getD-append, List·getD-eq-default}
 use lib.Seq.{getD-at}
 use lib.IntN.{ℤ, pos, negsuc}
-use Rattle.words.specs.Word.{bits, payloadOf, signed, sampleOf}
+use Rattle.words.specs.Word.{bits, payloadOf, sampleOf}
 use Rattle.logic.specs.Table.{Operator, True, AtLeast, AtMost, Not, And, Until, Somewhere, Surrounded, Or, Eventually, Always, Everywhere, Line, lineIn, lengthOf}
 use Rattle.logic.proofs.Tests.{and-l, and-r, below}
-use Rattle.logic.proofs.Lists.{Each, All, none, more, each-append, each-at}
+use Rattle.logic.proofs.Lists.{All, none, more, each-at}
 use Rattle.logic.proofs.TableKeeps.{ConstantIn, ConstantsIn}
 use Rattle.logic.proofs.Small.{InBits}
 use Rattle.sheet.specs.Limits.{mostLines}
-use Rattle.sheet.specs.Checked.{Checked, accepted, refused, _>>=_, require, wordAt, isKind}
+use Rattle.sheet.specs.Checked.{Checked, accepted, _>>=_, require, wordAt, isKind}
 use Rattle.sheet.specs.Codes.{Code, constant, atom, unary, binary, unaryBounded, binaryBounded, unknown, codes, codeOf}
 use Rattle.sheet.specs.Lines.{constantAt, boundsAt, operatorBy, operatorAt, lineAt, linesFrom}
 use Rattle.sheet.proofs.Checks.{never, require-e, bind-e, accepted-inj}

@@ -6,11 +6,10 @@ use mathlib.Core.List.{List}
 use Prim.Native.Nat.{ℕ, zero, suc, _*_, _<_, _≤_, zero-le}
 use native.Mathlib.Nat.{eq-or-lt-of-le, mul-le-mul}
 use native.Mathlib.Omega.{arith}
-use lib.Dec.{eqb, ltb, leb, ltb→lt, leb→le}
+use lib.Dec.{eqb, ltb, ltb→lt}
 use lib.ListN.{length}
 use Rattle.words.specs.Word.{bits, payloadOf}
 use Rattle.logic.proofs.Tests.{and-l, and-r}
-use Rattle.sheet.specs.Limits.{leastDistances}
 use Rattle.sheet.specs.Checked.{Checked, accepted, require, wordAt, isKind}
 use Rattle.sheet.specs.Layout.{Layout, roadAt, weightAt, firstPlace, secondPlace, roadsFrom, checked}
 use Rattle.sheet.specs.Roads.{GoodRoad}

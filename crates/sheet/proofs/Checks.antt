@@ -1,13 +1,10 @@
 -- Checks one after the other: what a check that accepts, or one that refuses, tells of its parts.
-use Prim.Native.Nat.{ℕ, _<_, _≤_}
+use Prim.Native.Nat.{ℕ}
 use mathlib.Core.Bool.{Bool, true, false}
-use mathlib.Core.List.{List}
 use mathlib.Core.Path.{_≡_, refl}
 use native.Mathlib.Omega.{arith}
-use lib.Dec.{T, leb, ltb, leb→le, ltb→lt}
-use lib.ListN.{length}
-use Rattle.logic.proofs.Tests.{and-l, and-r}
-use Rattle.sheet.specs.Checked.{Checked, accepted, refused, _>>=_, require, between, isKind}
+use lib.Dec.{T}
+use Rattle.sheet.specs.Checked.{Checked, accepted, refused, _>>=_, require}
 use Rattle.sheet.specs.Checking.{mapped}
 
 pub never : {A : Type 0} {number place : ℕ} {a : A} → refused number place ≡ accepted a → ⊥
@@ -55,11 +52,3 @@ require-e false number place next a e = absurd (never e)
 
 pub bind-e : {A B : Type 0} (c : Checked A) (next : A → Checked B) (b : B) → (c >>= next) ≡ accepted b → (a : A) × (c ≡ accepted a) × (next a ≡ accepted b)
 bind-e c next b e = bind-accepted c next e
-
-pub between-e : (low high x : ℕ) → T (between low high x) → (low ≤ x) × (x ≤ high)
-between-e low high x h = (leb→le low x (and-l (leb low x) _ h), leb→le x high (and-r (leb low x) _ h))
-
--- a word of some kind is there
-pub kind-inside : (s : List ℕ) (kind at : ℕ) → T (isKind kind s at) → at < length s
-unfolding isKind
-kind-inside s kind at h = ltb→lt at (length s) (and-l (ltb at (length s)) _ h)

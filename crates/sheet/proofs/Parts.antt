@@ -6,7 +6,6 @@ use mathlib.Core.Path.{_≡_, refl, sym, _∙_, ap}
 use native.Mathlib.Omega.{arith}
 use lib.Dec.{ltb, eqb}
 use lib.ListN.{length}
-use borrow.Author.Tests.{ltb-true}
 use Rattle.words.specs.Word.{bits, payloadOf}
 use Rattle.sheet.specs.Checked.{accepted, refused, _>>=_, require, wordAt, isKind}
 use Rattle.sheet.specs.Layout.{roadAt, weightAt, firstPlace, secondPlace, roadsFrom, samplesFrom}

@@ -1,22 +1,21 @@
 -- Two accepted sheets alike in every word but their samples have the same layout: the check reads every other word alike, and of the samples
 -- it keeps only their count.
 use mathlib.Core.Path.{_≡_, refl, sym, ap, ap₂, subst, _∙_}
-use mathlib.Core.Logic.{_⊎_, inl, inr, ⊎-elim}
+use mathlib.Core.Logic.{⊎-elim}
 use mathlib.Core.Bool.{Bool, true, false, not, _&&_, and-false}
 use mathlib.Core.List.{List, [], _∷_, _++_}
 use Prim.Native.Nat.{ℕ, zero, suc, _+_, _-_}
-use native.Mathlib.Omega.{arith}
 use lib.Dec.{T, eqb, ltb}
 use lib.ListN.{length}
 use Rattle.words.specs.Word.{bits, kindOf, payloadOf}
 use Rattle.logic.specs.Table.{Operator, Line, lineIn}
 use Rattle.sheet.specs.Limits.{mostLines}
-use Rattle.sheet.specs.Checked.{Checked, accepted, refused, _>>=_, require, wordAt, isKind}
+use Rattle.sheet.specs.Checked.{Checked, accepted, _>>=_, require, wordAt, isKind}
 use Rattle.sheet.specs.Codes.{Code, constant, atom, unary, binary, unaryBounded, binaryBounded, unknown, codeOf}
 use Rattle.sheet.specs.Lines.{constantAt, boundsAt, operatorBy, operatorAt, lineAt, linesFrom}
-use Rattle.sheet.specs.Layout.{Sizes, Layout, headSizes, headChecked, roadAt, weightAt, firstPlace, secondPlace, roadsFrom, samplesFrom, sampleCount}
-use Rattle.sheet.specs.Apart.{SamplesApart, SamplesNear}
-use Rattle.sheet.proofs.Checks.{require-e, accepted-inj}
+use Rattle.sheet.specs.Layout.{Sizes, Layout, headSizes, headChecked, roadAt, weightAt, firstPlace, secondPlace, roadsFrom, sampleCount}
+use Rattle.sheet.specs.Apart.{SamplesApart}
+use Rattle.sheet.proofs.Checks.{accepted-inj}
 use Rattle.sheet.specs.Checking.{layoutOf}
 use Rattle.sheet.proofs.Whole.{AcceptedSheet}
 

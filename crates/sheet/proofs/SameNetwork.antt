@@ -1,9 +1,9 @@
 -- Two accepted sheets alike in every word but their samples, the samples at most d apart, have the same network, and recordings at most d apart.
-use mathlib.Core.Path.{_≡_, refl, ap, _∙_}
+use mathlib.Core.Path.{_≡_, refl}
 use mathlib.Core.Logic.{⊎-elim}
-use mathlib.Core.Bool.{Bool, true, false, _&&_, _||_}
+use mathlib.Core.Bool.{true, false, _&&_, _||_}
 use mathlib.Core.List.{List}
-use Prim.Native.Nat.{ℕ, zero, suc, _+_, _*_, _<_, _≤_, zero-le}
+use Prim.Native.Nat.{ℕ, zero, suc, _+_, _*_, _≤_, zero-le}
 use native.Mathlib.Nat.{le-of-lt}
 use native.Mathlib.Omega.{arith}
 use lib.Dec.{eqb}
@@ -11,12 +11,11 @@ use lib.ListN.{length}
 use lib.IntN.{ℤ, pos, negsuc, natAbs, _-ℤ_}
 use Rattle.words.specs.Word.{payloadOf, sampleOf}
 use Rattle.logic.specs.Distance.{Distance, dist}
-use Rattle.logic.specs.Network.{Network}
-use Rattle.logic.proofs.Order.{UpZ, nearZ}
+use Rattle.logic.proofs.Order.{nearZ}
 use Rattle.sheet.specs.Checked.{wordAt}
 use Rattle.sheet.specs.Layout.{Layout, roadAt, weightAt, firstPlace, secondPlace}
 use Rattle.sheet.specs.Roads.{GoodRoad, joins, weightAmong, network, recording}
-use Rattle.sheet.specs.Apart.{SamplesApart, SamplesNear}
+use Rattle.sheet.specs.Apart.{SamplesApart}
 use Rattle.sheet.proofs.Whole.{AcceptedSheet}
 use Rattle.sheet.proofs.AcceptedRoads.{road-good}
 use Rattle.sheet.proofs.SameLayout.{word-same}

@@ -1,5 +1,5 @@
 -- What a survey leaves, by the outcome of the check.
-use mathlib.Core.Path.{_≡_, refl, sym, ap, subst, _∙_}
+use mathlib.Core.Path.{_≡_, refl, ap, subst, _∙_}
 use mathlib.Core.List.{List, []}
 use Prim.Native.Nat.{ℕ, _+_, _-_, _*_, _/_, _<_, _≤_}
 use native.Mathlib.Omega.{arith}
@@ -8,7 +8,7 @@ use Rattle.words.specs.Bytes.{wordsOf, numbersOf}
 use Rattle.words.specs.Rows.{padded}
 use Rattle.words.proofs.Numbers.{padded-bytes, length-numbers}
 use Rattle.sheet.specs.declared.check.Layout as F
-use Rattle.sheet.specs.Checked.{Checked, accepted, refused}
+use Rattle.sheet.specs.Checked.{accepted, refused}
 use Rattle.sheet.specs.Layout.{Layout, checked}
 use Rattle.sheet.specs.Roads.{GoodRoad, networkOf, network, distanceTable}
 use Rattle.sheet.specs.Checking.{mapped, layoutOf}

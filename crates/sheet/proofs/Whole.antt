@@ -12,7 +12,7 @@ use Rattle.sheet.specs.declared.check.Layout as Code
 use Rattle.sheet.specs.Limits.{mostLines, leastDistances}
 use Rattle.sheet.specs.Checked.{Checked, accepted, refused, _>>=_}
 use Rattle.sheet.specs.Lines.{linesFrom}
-use Rattle.sheet.specs.Layout.{Sizes, Layout, roadAt, weightAt, sampleCount, headChecked, roadsFrom, samplesFrom, endChecked, checked}
+use Rattle.sheet.specs.Layout.{Sizes, Layout, roadAt, sampleCount, headChecked, roadsFrom, samplesFrom, endChecked, checked}
 use Rattle.sheet.specs.Checking.{mapped, lineCount, layoutOf}
 use Rattle.sheet.proofs.Checks.{require-accepted, bind-accepted, mapped-accepted, mapped-refused, mapped-twice}
 use Rattle.sheet.proofs.Accepted.{SizesWithin, head-accepted, samples-end, end-accepted, end-mapped}

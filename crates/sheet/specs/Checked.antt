@@ -1,5 +1,5 @@
 -- A check goes front to back and the first fault counts: it accepts with what it has read, or refuses with a number and a place.
-use Prim.Native.Nat.{ℕ, _≤_}
+use Prim.Native.Nat.{ℕ}
 use mathlib.Core.Bool.{Bool, true, false, _&&_}
 use mathlib.Core.List.{List}
 use lib.Dec.{ltb, leb, eqb}

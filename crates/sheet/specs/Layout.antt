@@ -1,13 +1,13 @@
 -- The check of a whole sheet, front to back: head, roads, samples, lines, end ("The sheet" and "Where a sheet is turned back").
 use Prim.Native.Nat.{ℕ, zero, suc, _+_, _*_}
-use mathlib.Core.Bool.{Bool, true, false, _&&_}
+use mathlib.Core.Bool.{true, false, _&&_}
 use mathlib.Core.List.{List, []}
 use lib.Dec.{ltb, leb, eqb}
 use lib.ListN.{length}
 use Rattle.words.specs.Word.{bits, payloadOf}
 use Rattle.logic.specs.Table.{Line}
 use Rattle.sheet.specs.Limits.{mostPlaces, mostSignals, mostSamples, mostLines, leastDistances}
-use Rattle.sheet.specs.Checked.{Checked, accepted, refused, _>>=_, require, between, wordAt, isKind}
+use Rattle.sheet.specs.Checked.{Checked, accepted, require, between, wordAt, isKind}
 use Rattle.sheet.specs.Lines.{linesFrom}
 
 -- places n, signals v, samples T

@@ -7,4 +7,3 @@ pub mod line;
 pub mod operator;
 mod stages;
 pub mod survey;
-mod word;

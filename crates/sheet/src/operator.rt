@@ -1,6 +1,5 @@
 // The operator of a line: its code, operands and parameters, read from the line word and the words after it.
 use crate::fault::Fault;
-use crate::word::word_or_zero;
 ghost use mathlib.Core.Path.{_≡_};
 ghost use mathlib.Core.Bool.{_&&_};
 ghost use Prim.Native.Nat.{_+_, _≤_, _<_, _^_};
@@ -102,7 +101,7 @@ fn fields_of(w: u32) -> Fields
 fn read_constant(s: &[u8], at: usize) -> ReadConstant
     ensures { λ r. ⌜ constantSaid r ≡ constantAt (wordsOf (now (s .entry))) at ⌝ }
 {
-    let w = word_or_zero(s, at);
+    let w = words::word_or_zero(s, at);
     if words::kind(w) != 8 {
         return ReadConstant::Refused(Fault::LineParameter, at);
     }
@@ -117,12 +116,12 @@ fn read_bounds(s: &[u8], at: usize) -> ReadBounds
     requires { ⌜ at ≤ length (wordsOf (now s)) ⌝ }
     ensures { λ r. ⌜ boundsSaid r ≡ boundsAt (wordsOf (now (s .entry))) at ⌝ }
 {
-    let first = word_or_zero(s, at);
+    let first = words::word_or_zero(s, at);
     if words::kind(first) != 6 {
         return ReadBounds::Refused(Fault::LineParameter, at);
     }
     let next = at + 1;
-    let second = word_or_zero(s, next);
+    let second = words::word_or_zero(s, next);
     if words::kind(second) != 7 {
         return ReadBounds::Refused(Fault::LineParameter, next);
     }
@@ -230,7 +229,7 @@ pub(crate) fn decode_operator(s: &[u8], at: usize, signals: usize, lines: usize)
     requires { ⌜ at < length (wordsOf (now s)) ⌝ }
     ensures { λ r. ⌜ readSaid r ≡ operatorAt (wordsOf (now (s .entry))) signals lines at ⌝ }
 {
-    let fields = fields_of(word_or_zero(s, at));
+    let fields = fields_of(words::word_or_zero(s, at));
     let code = fields.code;
     match code {
         0 => decode_plain(fields, 1, 1, at),

@@ -4,16 +4,15 @@ use crate::limits::MOST_LINES;
 use crate::limits::MOST_PLACES;
 use crate::limits::MOST_SAMPLES;
 use crate::limits::MOST_SIGNALS;
+use crate::limits::within;
 use crate::line::Decoded;
 use crate::line::decode_line;
-use crate::word::word_or_zero;
 ghost use mathlib.Core.Path.{_≡_};
 ghost use mathlib.Core.List.{[]};
 ghost use Prim.Native.Nat.{_≤_, _<_};
 ghost use lib.ListN.{length};
 ghost use Rattle.words.specs.Bytes.{wordsOf};
 ghost use Rattle.sheet.specs.Limits.{mostSamples, mostLines};
-ghost use Rattle.sheet.specs.Checked.{between};
 ghost use Rattle.sheet.specs.Lines.{linesFrom};
 ghost use Rattle.sheet.specs.Layout.{roadAt, headChecked, roadsFrom, samplesFrom, endChecked};
 ghost use Rattle.sheet.specs.Checking.{sizesOf, headSaid, stageSaid, tableSaid, mapped, lineCount, roadChecked};
@@ -51,16 +50,10 @@ fn sizes_of(w: u32) -> Sizes
     }
 }
 
-fn within(x: usize, most: usize) -> bool
-    ensures { λ r. ⌜ r ≡ between 1 most x ⌝ }
-{
-    1 <= x && x <= most
-}
-
 pub(crate) fn check_head(s: &[u8]) -> Head
     ensures { λ r. ⌜ headSaid r ≡ headChecked (wordsOf (now (s .entry))) ⌝ }
 {
-    let w = word_or_zero(s, 0);
+    let w = words::word_or_zero(s, 0);
     if words::kind(w) != 1 {
         return Head::Refused(Fault::NotHead, 0);
     }
@@ -82,7 +75,7 @@ fn check_road(s: &[u8], at: usize, places: usize, last: usize) -> Stage
     requires { ⌜ at < length (wordsOf (now s)) ⌝ }
     ensures { λ r. ⌜ stageSaid r ≡ roadChecked (wordsOf (now (s .entry))) places at last ⌝ }
 {
-    let w = word_or_zero(s, at);
+    let w = words::word_or_zero(s, at);
     if w / 65536 % 4096 != 0 {
         return Stage::Refused(Fault::RoadSpareBits, at);
     }
@@ -98,7 +91,7 @@ fn check_road(s: &[u8], at: usize, places: usize, last: usize) -> Stage
         return Stage::Refused(Fault::RoadOrder, at);
     }
     let next = at + 1;
-    let weight = word_or_zero(s, next);
+    let weight = words::word_or_zero(s, next);
     if words::kind(weight) != 3 {
         return Stage::Refused(Fault::RoadWeight, next);
     }
@@ -114,7 +107,7 @@ pub(crate) fn check_roads(s: &[u8], places: usize) -> Stage
 {
     let mut at: usize = 1;
     let mut last: usize = 0;
-    while words::kind(word_or_zero(s, at)) == 2 {
+    while words::kind(words::word_or_zero(s, at)) == 2 {
         match check_road(s, at, places, last) {
             Stage::Refused(fault, place) => return Stage::Refused(fault, place),
             Stage::Passed(payload) => {
@@ -133,7 +126,7 @@ pub(crate) fn check_samples(s: &[u8], start: usize, count: usize) -> Stage
     let mut at = start;
     let mut left = count;
     while 0 < left {
-        let w = word_or_zero(s, at);
+        let w = words::word_or_zero(s, at);
         let kind = words::kind(w);
         if kind != 4 {
             return Stage::Refused(Fault::NotSample, at);
@@ -155,7 +148,7 @@ pub(crate) fn check_lines(s: &[u8], start: usize, signals: usize, samples: usize
     let mut lengths = [0u32; MOST_LINES];
     let mut lines: usize = 0;
     let mut at = start;
-    while words::kind(word_or_zero(s, at)) == 5 {
+    while words::kind(words::word_or_zero(s, at)) == 5 {
         if lines == MOST_LINES {
             return Table::Refused(Fault::LineCount, at);
         }
@@ -178,7 +171,7 @@ pub(crate) fn check_lines(s: &[u8], start: usize, signals: usize, samples: usize
 pub(crate) fn check_end(s: &[u8], at: usize) -> Stage
     ensures { λ r. ⌜ stageSaid r ≡ endChecked (wordsOf (now (s .entry))) at at ⌝ }
 {
-    let w = word_or_zero(s, at);
+    let w = words::word_or_zero(s, at);
     if words::kind(w) != 15 {
         return Stage::Refused(Fault::NotEnd, at);
     }

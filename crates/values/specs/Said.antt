@@ -2,7 +2,6 @@
 use Prim.Native.Nat.{ℕ, _^_}
 use mathlib.Core.Bool.{Bool, true, false, cond, _&&_, _||_}
 use lib.Dec.{ltb, eqb}
-use lib.IntN.{ℤ}
 use Rattle.words.specs.Word.{kindOf, payloadOf, wordOf, signed, unsigned}
 use Rattle.logic.specs.Margin.{Margin, minusInfinity, finite, plusInfinity}
 

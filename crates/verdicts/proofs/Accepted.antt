@@ -6,10 +6,8 @@ use Prim.Native.Nat.{ℕ, _+_, _-_, _*_, _≤_}
 use native.Mathlib.Omega.{arith}
 use lib.Dec.{T, ltb, leb}
 use lib.ListN.{length}
-use Rattle.logic.specs.Table.{Line, lineIn, verdicts, margins, valueAt}
+use Rattle.logic.specs.Table.{lineIn, verdicts, margins, valueAt}
 use Rattle.logic.proofs.Counts.{rounds-at-most-places}
-use Rattle.logic.proofs.TableKeeps.{ConstantsIn}
-use Rattle.logic.proofs.Small.{InBits}
 use Rattle.sheet.specs.Limits.{mostLines}
 use Rattle.sheet.specs.Checked.{Checked, accepted, refused, between, wordAt}
 use Rattle.sheet.specs.Layout.{Layout, roadAt, checked}
@@ -18,11 +16,11 @@ use Rattle.sheet.specs.Checking.{layoutOf}
 use Rattle.sheet.proofs.Accepted.{SizesWithin}
 use Rattle.sheet.proofs.Whole.{AcceptedSheet}
 use Rattle.sheet.proofs.AcceptedLines.{sample-bits, GoodLines, good-length, table-good, good-constants}
-use Rattle.sheet.proofs.RefusalNumbers.{Numbered, accepts, refuses, check-numbered}
-use Rattle.values.specs.Said.{Said, says, nothing}
+use Rattle.sheet.proofs.RefusalNumbers.{Numbered, refuses, check-numbered}
+use Rattle.values.specs.Said.{says, nothing}
 use Rattle.verdicts.specs.Answer.{wordsNeeded}
-use Rattle.verdicts.specs.Judged.{Judged, refusal, answered, judgedBy, judged}
-use Rattle.verdicts.specs.Lookup.{verdictNumber, wholeAnswer, saidAt, lookedUp}
+use Rattle.verdicts.specs.Judged.{refusal, answered, judgedBy, judged}
+use Rattle.lookup.specs.Lookup.{verdictNumber, wholeAnswer, saidAt, lookedUp}
 use Rattle.verdicts.proofs.AnswerWords.{InFields}
 use Rattle.verdicts.proofs.AnswerSays.{answer-says}
 use Rattle.verdicts.proofs.WholeAnswer.{InAnswer, answer-whole}

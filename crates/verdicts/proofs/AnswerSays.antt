@@ -1,6 +1,6 @@
 -- What an answer says: at a line, sample and place that has a verdict, the verdict and margin of the definition; elsewhere nothing.
-use mathlib.Core.Path.{_≡_, refl, sym, ap, ap₂, _∙_}
-use mathlib.Core.Bool.{Bool, true, false, cond, _&&_, and-false}
+use mathlib.Core.Path.{_≡_, refl, ap, ap₂, _∙_}
+use mathlib.Core.Bool.{Bool, true, false, cond, _&&_}
 use mathlib.Core.List.{List}
 use Prim.Native.Nat.{ℕ, _+_, _*_, _<_}
 use native.Mathlib.Nat.{le-of-lt}
@@ -8,14 +8,13 @@ use lib.Dec.{T, ltb, ltb→lt}
 use lib.ListN.{length}
 use Rattle.logic.specs.Network.{Network}
 use Rattle.logic.specs.Table.{Line, lineIn, Recording, verdicts, margins, valueAt}
-use Rattle.logic.specs.Steadiness.{Agree}
 use Rattle.logic.proofs.Agreement.{agreement}
-use Rattle.logic.proofs.Small.{InBits, Small, margins-small}
+use Rattle.logic.proofs.Small.{InBits, margins-small}
 use Rattle.logic.proofs.TableKeeps.{ConstantsIn}
 use Rattle.sheet.specs.Checked.{wordAt}
 use Rattle.values.specs.Said.{Said, says, nothing, saidBy}
 use Rattle.verdicts.specs.Answer.{wordFor}
-use Rattle.verdicts.specs.Lookup.{headPlaces, headLines, lineLength, lineStart, saidAt}
+use Rattle.lookup.specs.Lookup.{headPlaces, headLines, lineLength, lineStart, saidAt}
 use Rattle.values.proofs.ReadBack.{read-back}
 use Rattle.verdicts.proofs.AnswerWords.{InFields, answer, places-read, lines-read, start-read, length-read, verdict-word}
 

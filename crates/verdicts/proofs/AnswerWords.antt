@@ -2,21 +2,20 @@
 -- them again (`lineStart`).
 use mathlib.Core.Path.{_≡_, refl, sym, ap, ap₂, _∙_}
 use mathlib.Core.List.{List, [], _∷_, _++_, append-assoc}
-use Prim.Native.Nat.{ℕ, zero, suc, _+_, _-_, _*_, _/_, _%_, _^_, _<_, _≤_}
-use native.Mathlib.Nat.{mul-le-mul-right}
+use Prim.Native.Nat.{ℕ, zero, suc, _+_, _-_, _*_, _^_, _<_, _≤_}
 use native.Mathlib.Omega.{arith}
 use lib.ListN.{length, getD, replicate, length-append, List·getD-append}
 use lib.Seq.{getD-append-add, getD-append-seam}
 use Rattle.words.specs.Word.{bits, wordOf}
-use Rattle.words.specs.Rows.{concat, rows, padded}
+use Rattle.words.specs.Rows.{concat, padded}
 use Rattle.words.proofs.Rows.{length-rows, getD-rows, in-table}
 use Rattle.words.proofs.Concat.{concat-length, start-below, concat-at}
 use Rattle.logic.specs.Network.{Network}
 use Rattle.logic.specs.Table.{Line, lineIn, Recording}
 use Rattle.logic.specs.Counts.{sumBelow}
 use Rattle.sheet.specs.Checked.{wordAt}
-use Rattle.verdicts.specs.Answer.{lineIndex, wordsNeeded, wordFor, lineWords, headWord, answerWords}
-use Rattle.verdicts.specs.Lookup.{headPlaces, headLines, headSamples, lineStart, lineLength}
+use Rattle.verdicts.specs.Answer.{lineIndex, wordFor, lineWords, headWord, answerWords}
+use Rattle.lookup.specs.Lookup.{headPlaces, headLines, headSamples, lineStart, lineLength}
 
 -- a word of the part between the head and the end
 behind-head : (m e z : List ℕ) (h k : ℕ) → k < length m → getD (h ∷ ((m ++ e) ++ z)) (1 + k) 0 ≡ getD m k 0

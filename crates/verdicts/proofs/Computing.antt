@@ -14,10 +14,10 @@ use Rattle.sheet.specs.Codes.{codes}
 use Rattle.sheet.specs.Lines.{constantAt, boundsAt, operatorAt, lineAt, linesFrom}
 use Rattle.sheet.specs.Layout.{headSizes, headChecked, roadsFrom, samplesFrom, endChecked, checked}
 use Rattle.sheet.specs.Roads.{joins, weightAmong, network, recording, distanceTable}
-use Rattle.values.specs.Said.{Said, said}
+use Rattle.values.specs.Said.{said}
 use Rattle.verdicts.specs.Answer.{lineIndex, wordsNeeded, wordFor, lineWords, headWord, answerWords}
 use Rattle.verdicts.specs.Judged.{Judged, answered, judged}
-use Rattle.verdicts.specs.Lookup.{lineStart, saidAt}
+use Rattle.lookup.specs.Lookup.{lineStart, saidAt}
 
 -- with 4,096 distances and 64 answer words lent
 unfoldable pub answerOf : List ℕ → Judged

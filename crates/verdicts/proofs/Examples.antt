@@ -5,16 +5,16 @@ use mathlib.Core.Bool.{Bool, true, false}
 use mathlib.Core.List.{List, [], _∷_, _++_}
 use Prim.Native.Nat.{ℕ, _+_}
 use lib.ListN.{replicate}
-use lib.IntN.{ℤ, pos, negsuc}
-use Rattle.logic.specs.Margin.{Margin, minusInfinity, finite, plusInfinity}
-use Rattle.logic.specs.Table.{AtLeast, Surrounded, Line, margins, valueAt}
+use lib.IntN.{pos, negsuc}
+use Rattle.logic.specs.Margin.{minusInfinity, finite, plusInfinity}
+use Rattle.logic.specs.Table.{AtLeast, Surrounded, margins, valueAt}
 use Rattle.logic.specs.Counts.{roundsAt}
 use Rattle.sheet.specs.Checked.{Checked, accepted, refused}
 use Rattle.sheet.specs.Layout.{Layout, checked}
 use Rattle.sheet.specs.Roads.{network, recording}
 use Rattle.values.specs.Said.{Said, says, nothing}
-use Rattle.verdicts.specs.Judged.{Judged, refusal, judged}
-use Rattle.verdicts.specs.Lookup.{saidAt}
+use Rattle.verdicts.specs.Judged.{refusal, judged}
+use Rattle.lookup.specs.Lookup.{saidAt}
 use Rattle.verdicts.proofs.Computing.{answerOf}
 
 -- ---- the sheets

@@ -3,7 +3,7 @@
 use mathlib.Core.Path.{_≡_, refl, sym, ap, subst, _∙_}
 use mathlib.Core.Bool.{Bool, true, false, cond}
 use mathlib.Core.List.{List, []}
-use Prim.Native.Nat.{ℕ, _+_, _<_, _≤_}
+use Prim.Native.Nat.{ℕ, _+_, _<_}
 use native.Mathlib.Nat.{zero-add}
 use native.Mathlib.Omega.{arith}
 use lib.Dec.{ltb, ltb→lt, T}
@@ -13,7 +13,7 @@ use Rattle.logic.specs.Network.{Network}
 use Rattle.logic.specs.Table.{Operator, Line, lineIn, lengthOf, Recording, Reading, Signal, everTrue, value, valuesAfter, valueAt}
 use Rattle.logic.proofs.TableSteps.{before}
 use Rattle.logic.proofs.ValueSame.{value-same}
-use Rattle.sheet.proofs.AcceptedLines.{Sound, lengthsOf, GoodLine, GoodTable, length-same}
+use Rattle.sheet.proofs.AcceptedLines.{lengthsOf, GoodLine, GoodTable, length-same}
 
 -- lengths cut to the lines before line k
 abbrev cut : ℕ → (ℕ → ℕ) → ℕ → ℕ

@@ -1,7 +1,7 @@
 -- Demand 3 whole, about the words of two answers: X and Y are sheets alike in every word but their samples, these at most d apart, each
 -- accepted, whatever was lent to either. At every line, sample and place both answers have a verdict or neither has; the margins are at most
 -- d apart or the same infinity; and the verdict is the same where the margin is beyond d.
-use mathlib.Core.Path.{_≡_, refl, sym, ap, subst, subst₂, _∙_}
+use mathlib.Core.Path.{_≡_, sym, ap, subst, subst₂, _∙_}
 use mathlib.Core.Bool.{Bool, true, false, cond, _&&_}
 use mathlib.Core.List.{List}
 use Prim.Native.Nat.{ℕ, _<_, _≤_}
@@ -20,9 +20,9 @@ use Rattle.sheet.specs.Apart.{SamplesApart}
 use Rattle.sheet.proofs.Whole.{AcceptedSheet, accepted-sheet}
 use Rattle.sheet.proofs.SameLayout.{same-layout}
 use Rattle.sheet.proofs.SameNetwork.{network-same, recordings-near}
-use Rattle.values.specs.Said.{Said, says, nothing}
+use Rattle.values.specs.Said.{says, nothing}
 use Rattle.verdicts.specs.Judged.{Judged, answered, judged}
-use Rattle.verdicts.specs.Lookup.{saidAt}
+use Rattle.lookup.specs.Lookup.{saidAt}
 use Rattle.verdicts.specs.Steady.{Steady, SteadyVerdicts}
 use Rattle.verdicts.proofs.Accepted.{Answered, accepted-answered, answered-says}
 

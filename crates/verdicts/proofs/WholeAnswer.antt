@@ -1,13 +1,13 @@
 -- The answer to an accepted sheet is a whole answer, so the lookup gives what the answer says.
-use mathlib.Core.Path.{_≡_, refl, sym, ap, subst, _∙_}
-use mathlib.Core.Bool.{Bool, true, false, cond, _&&_}
+use mathlib.Core.Path.{_≡_, refl, sym, ap, _∙_}
+use mathlib.Core.Bool.{true}
 use mathlib.Core.List.{List}
 use Prim.Native.Nat.{ℕ, zero, suc, _+_, _*_, _/_, _%_, _^_, _<_, _≤_}
 use mathlib.Core.Logic.{⊎-elim}
 use native.Mathlib.Nat.{not-suc-le-zero, eq-or-lt-of-le, le-of-suc-le-suc, le-of-lt, mod-lt, div-add-mod', div-lt-iff-lt-mul, mul-le-mul}
 use native.Mathlib.Omega.{arith}
 use lib.Dec.{T, leb, ltb, eqb, le→leb, lt→ltb, eqb-refl, ltb→lt}
-use lib.ListN.{length, getD}
+use lib.ListN.{length}
 use Rattle.words.specs.Word.{bits, kindOf, payloadOf, wordOf}
 use Rattle.logic.specs.Lattice.{verdictLattice, leastOver}
 use Rattle.logic.specs.Network.{Network}
@@ -16,11 +16,11 @@ use Rattle.logic.specs.Counts.{sumBelow}
 use Rattle.logic.proofs.Tests.{and-i, all-i}
 use Rattle.logic.proofs.Small.{InBits}
 use Rattle.logic.proofs.TableKeeps.{ConstantsIn}
-use Rattle.sheet.specs.Limits.{mostPlaces, mostSamples, mostLines}
+use Rattle.sheet.specs.Limits.{mostPlaces, mostLines}
 use Rattle.sheet.specs.Checked.{between, wordAt, isKind}
-use Rattle.values.specs.Said.{Said, says, nothing, saidBy}
+use Rattle.values.specs.Said.{saidBy}
 use Rattle.verdicts.specs.Answer.{lineIndex, wordFor, lineWords, headWord, answerWords}
-use Rattle.verdicts.specs.Lookup.{isSaid, verdictNumber, headPlaces, headLines, headSamples, lineStart, lineLength, wholeLine, wholeEnd, wholeAnswer, saidAt, lookedUp}
+use Rattle.lookup.specs.Lookup.{isSaid, headPlaces, headLines, headSamples, lineStart, lineLength, wholeHead, wholeLineAt, wholeLine, wholeEnd, wholeAnswer}
 use Rattle.verdicts.proofs.AnswerWords.{InFields, answer, places-read, lines-read, samples-read, line-word, start-read, length-read, verdict-word, end-word, zeros-after, end-inside}
 use Rattle.verdicts.proofs.AnswerSays.{word-says}
 
@@ -88,7 +88,7 @@ module _ (N : Network) (horizon : ℕ) (x : Recording) (lines : List Line) (room
       rw (word, word-says N horizon x lines room fits samples constants i (j / n) (j % n) l) tt
 
   line-whole : (i : ℕ) → i < length lines → T (wholeLine a i)
-  unfolding wholeLine
+  unfolding wholeLineAt
   line-whole i h =
       let at : lineStart a i ≡ lineIndex (N.places) lines i = start-read N horizon x lines room fits i (le-of-lt h) in
       let first : wordAt a (lineStart a i) ≡ wordOf 14 (lineIn lines i .length) = ap (wordAt a) at ∙ line-first i h in
@@ -116,19 +116,24 @@ module _ (N : Network) (horizon : ℕ) (x : Recording) (lines : List Line) (room
       (all-i (ltb (lineIndex (N.places) lines (length lines))) (λ j. eqb (wordAt a j) 0) (length a)
       (λ j _ b. equal (wordAt a j) 0 (zeros-after N horizon x lines room fits j (ltb→lt (lineIndex (N.places) lines (length lines)) j b))))))
 
-  head-whole : T (isKind 13 a 0)
+  kind-13 : T (isKind 13 a 0)
   unfolding answerWords headWord
-  head-whole =
+  kind-13 =
       let payload : ℕ = N.places * 2 ^ 20 + length lines * 2 ^ 12 + horizon in
       kind-there a 13 payload 0 (omega arith) refl (omega (arith, fits .places, fits .count, fits .samples))
+
+  head-whole : T (wholeHead a)
+  unfolding wholeHead
+  head-whole =
+      and-i (isKind 13 a 0) _ kind-13
+      (and-i (between 1 mostPlaces (headPlaces a)) _ (rw (places-read N horizon x lines room fits) (within 1 64 (N.places) (sizes .places .0) (sizes .places .1)))
+      (and-i (between 1 mostLines (headLines a)) _ (rw (lines-read N horizon x lines room fits) (within 1 64 (length lines) (sizes .count .0) (sizes .count .1)))
+      (rw (samples-read N horizon x lines room fits) (within 1 1024 horizon (sizes .samples .0) (sizes .samples .1)))))
 
   pub answer-whole : T (wholeAnswer a)
   unfolding wholeAnswer
   answer-whole =
-      and-i (isKind 13 a 0) _ head-whole
-      (and-i (between 1 mostPlaces (headPlaces a)) _ (rw (places-read N horizon x lines room fits) (within 1 64 (N.places) (sizes .places .0) (sizes .places .1)))
-      (and-i (between 1 mostLines (headLines a)) _ (rw (lines-read N horizon x lines room fits) (within 1 64 (length lines) (sizes .count .0) (sizes .count .1)))
-      (and-i (between 1 mostSamples (headSamples a)) _ (rw (samples-read N horizon x lines room fits) (within 1 1024 horizon (sizes .samples .0) (sizes .samples .1)))
+      and-i (wholeHead a) _ head-whole
       (and-i (leastOver verdictLattice (λ _. true) (wholeLine a) (headLines a)) _
       (rw (lines-read N horizon x lines room fits) (all-i (λ _. true) (wholeLine a) (length lines) (λ i h _. line-whole i h)))
-      end-whole))))
+      end-whole)

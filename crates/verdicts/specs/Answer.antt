@@ -1,10 +1,9 @@
 -- The words of the answer to an accepted sheet.
-use Prim.Native.Nat.{ℕ, suc, _+_, _*_, _^_}
-use mathlib.Core.Bool.{Bool}
+use Prim.Native.Nat.{ℕ, _+_, _*_, _^_}
 use mathlib.Core.List.{List, [], _∷_, _++_}
 use lib.ListN.{length}
 use Rattle.words.specs.Word.{wordOf}
-use Rattle.words.specs.Rows.{row, concat, rows}
+use Rattle.words.specs.Rows.{concat, rows}
 use Rattle.logic.specs.Network.{Network}
 use Rattle.logic.specs.Table.{Line, lineIn, Recording, verdicts, margins, valueAt}
 use Rattle.logic.specs.Counts.{sumBelow}

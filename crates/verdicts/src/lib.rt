@@ -1,1 +1,1 @@
-// The answer to a sheet: verdicts and margins as words, the result, and the lookup.
+// The answer to a sheet: verdicts and margins as words, and the result.

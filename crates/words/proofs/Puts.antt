@@ -1,12 +1,12 @@
 -- Laws of `put`, words in place of others: nothing put, one word more, words after words, what is kept.
-use Prim.Native.Nat.{ℕ, zero, suc, _+_, _-_, _<_, _≤_}
+use Prim.Native.Nat.{ℕ, suc, _+_, _<_, _≤_}
 use mathlib.Core.Path.{_≡_, refl, sym, _∙_, ap}
 use mathlib.Core.List.{List, [], _∷_, _++_, append-assoc, append-nil}
 use native.Mathlib.Nat.{add-zero}
 use native.Mathlib.Numerals.{add-one}
 use native.Mathlib.Omega.{arith}
-use lib.ListN.{length, getD, take, drop, set, length-append, length-drop, drop-of-length-le, take-append-drop}
-use lib.Seq.{length-take-le, drop-cons, set-at, append-snoc, take-at, getD-take, drop-drop, drop-append-add}
+use lib.ListN.{length, getD, take, drop, set, length-append, length-drop, take-append-drop}
+use lib.Seq.{length-take-le, drop-cons, set-at, append-snoc, take-at, drop-drop, drop-append-add}
 use Rattle.words.specs.Rows.{row, put}
 use Rattle.words.proofs.Rows.{length-row}
 

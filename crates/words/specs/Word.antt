@@ -1,6 +1,6 @@
 -- A word of 32 bits: bits 31..28 are its kind, 27..0 its payload; and the signed numbers in its fields.
 use Prim.Native.Nat.{ℕ, suc, _+_, _-_, _*_, _/_, _%_, _^_}
-use mathlib.Core.Bool.{Bool, cond}
+use mathlib.Core.Bool.{cond}
 use lib.Dec.{ltb}
 use lib.IntN.{ℤ, pos, negsuc}
 

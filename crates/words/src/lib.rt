@@ -53,6 +53,13 @@ pub fn word_at(s: &[u8], i: usize) -> u32
     word_of_bytes(s[at], s[at + 1], s[at + 2], s[at + 3])
 }
 
+// The word at an index, or 0 past the end: a word of kind 0 is asked for nowhere, so one test finds a word that is absent and one of another kind.
+pub fn word_or_zero(s: &[u8], i: usize) -> u32
+    ensures { λ r. ⌜ r ≡ getD (wordsOf (now (s .entry))) i 0 ⌝ }
+{
+    if i < word_count(s) { word_at(s, i) } else { 0 }
+}
+
 // Stores a word at an index.
 pub fn put_word(s: &mut [u8], i: usize, w: u32)
     requires { ⌜ i < length (wordsOf (now s)) ⌝ }

@@ -5,7 +5,6 @@ use mathlib.Core.List.{List}
 use lib.Dec.{ltb, eqb}
 use lib.ListN.{length}
 use Rattle.words.specs.Word.{bits, payloadOf}
-use Rattle.logic.specs.Margin.{Margin}
 use Rattle.logic.specs.Lattice.{verdictLattice, leastOver}
 use Rattle.sheet.specs.Limits.{mostPlaces, mostSamples, mostLines}
 use Rattle.sheet.specs.Checked.{between, wordAt, isKind}
@@ -22,7 +21,7 @@ verdictNumber (says false m) = 2
 verdictNumber nothing = 0
 
 -- every number below n passes
-abbrev all : (ℕ → Bool) → ℕ → Bool
+abbrev pub all : (ℕ → Bool) → ℕ → Bool
 all test n = leastOver verdictLattice (λ _. true) test n
 
 module _ (a : List ℕ) where
@@ -35,28 +34,36 @@ module _ (a : List ℕ) where
   abbrev pub headSamples : ℕ
   headSamples = bits 0 12 (wordAt a 0)
 
+  -- the length that a line's first word gives
+  abbrev pub lengthAt : ℕ → ℕ
+  lengthAt at = bits 0 12 (wordAt a at)
+
   -- the index of line i's first word, by the lengths that the earlier lines' words give; of the end, where i is the line count
   unfoldable pub lineStart : ℕ → ℕ
   lineStart zero = 1
-  lineStart (suc i) = lineStart i + 1 + bits 0 12 (wordAt a (lineStart i)) * headPlaces
+  lineStart (suc i) = lineStart i + 1 + lengthAt (lineStart i) * headPlaces
 
   abbrev pub lineLength : ℕ → ℕ
-  lineLength i = bits 0 12 (wordAt a (lineStart i))
+  lineLength i = lengthAt (lineStart i)
 
-  -- line i: kind 14, bits 27..12 zero, a length of 1 to T, and a verdict for each sample and place
-  unfoldable pub wholeLine : ℕ → Bool
-  wholeLine i =
-      isKind 14 a (lineStart i) && (eqb (bits 12 16 (wordAt a (lineStart i))) 0 && (between 1 headSamples (lineLength i)
-      && all (λ j. isSaid (saidBy (wordAt a (lineStart i + 1 + j)))) (lineLength i * headPlaces)))
+  unfoldable pub wholeHead : Bool
+  wholeHead = isKind 13 a 0 && (between 1 mostPlaces headPlaces && (between 1 mostLines headLines && between 1 mostSamples headSamples))
+
+  -- a line whose first word stands at this index: kind 14, bits 27..12 zero, a length of 1 to T, and a verdict for each sample and place
+  unfoldable pub wholeLineAt : ℕ → Bool
+  wholeLineAt at =
+      isKind 14 a at && (eqb (bits 12 16 (wordAt a at)) 0 && (between 1 headSamples (lengthAt at)
+      && all (λ j. isSaid (saidBy (wordAt a (at + 1 + j)))) (lengthAt at * headPlaces)))
+
+  abbrev pub wholeLine : ℕ → Bool
+  wholeLine i = wholeLineAt (lineStart i)
 
   -- kind 15 with the count of words before it, and only zeros after it
   unfoldable pub wholeEnd : ℕ → Bool
   wholeEnd at = isKind 15 a at && (eqb (payloadOf (wordAt a at)) at && leastOver verdictLattice (ltb at) (λ j. eqb (wordAt a j) 0) (length a))
 
   unfoldable pub wholeAnswer : Bool
-  wholeAnswer =
-      isKind 13 a 0 && (between 1 mostPlaces headPlaces && (between 1 mostLines headLines && (between 1 mostSamples headSamples
-      && (all wholeLine headLines && wholeEnd (lineStart headLines)))))
+  wholeAnswer = wholeHead && (all wholeLine headLines && wholeEnd (lineStart headLines))
 
   -- what the answer says at a line, sample and place, nothing where it has no such line, sample or place
   unfoldable pub saidAt : ℕ → ℕ → ℕ → Said

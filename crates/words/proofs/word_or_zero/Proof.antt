@@ -1,11 +1,11 @@
--- A word is read where the sheet has one; past its end both sides are 0.
+-- A word is read where there is one; past its end both sides are 0.
 use mathlib.Core.Path.{sym}
 use native.Mathlib.Omega.{arith}
 use lib.ListN.{List·getD-eq-default}
 use Rattle.words.specs.Bytes.{wordsOf}
 use borrow.Author.Needs.{needs}
-use Rattle.sheet.proofs.word.word_or_zero.Statement.{statement}
-use Rattle.sheet.proofs.word.word_or_zero.Tie as tie
+use Rattle.words.proofs.word_or_zero.Statement.{statement}
+use Rattle.words.proofs.word_or_zero.Tie as tie
 
 word-count-requires : tie.Need-word-count-requires
 word-count-requires c κs = search needs

@@ -1,7 +1,7 @@
 -- The second test is made where the first holds.
 use borrow.Author.Tests.{le-leb, lt-leb}
-use Rattle.sheet.proofs.stages.within.Statement.{statement}
-use Rattle.sheet.proofs.stages.within.Tie as tie
+use Rattle.sheet.proofs.limits.within.Statement.{statement}
+use Rattle.sheet.proofs.limits.within.Tie as tie
 
 returns : tie.Need-returns
 returns c = simp (le-leb _ _ (c .if1 .taken))

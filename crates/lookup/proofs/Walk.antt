@@ -1,0 +1,49 @@
+-- What the walk over an answer rests on: a test of all is decided by one that fails, or by each that passes; a word says something where its
+-- number is not 0; and no line of 255 begins at an index of more than 28 bits, whatever the words are.
+use mathlib.Core.Path.{_≡_, refl}
+use mathlib.Core.Bool.{Bool, true, false}
+use mathlib.Core.List.{List}
+use Prim.Native.Nat.{ℕ, zero, suc, _+_, _*_, _^_, _<_, _≤_}
+use native.Mathlib.Nat.{mul-le-mul}
+use native.Mathlib.Numerals.{add-one}
+use native.Mathlib.Omega.{arith}
+use lib.Dec.{T}
+use Rattle.logic.specs.Lattice.{verdictLattice, leastOver}
+use Rattle.logic.proofs.Tests.{bool-ext, all-e, all-i}
+use Rattle.values.specs.Said.{Said, says, nothing}
+use Rattle.lookup.specs.Lookup.{isSaid, verdictNumber, headPlaces, lengthAt, lineStart}
+
+-- ---- all numbers below n that pass the test t
+pub one-fails : (t f : ℕ → Bool) (n l : ℕ) → l < n → T (t l) → f l ≡ false → leastOver verdictLattice t f n ≡ false
+one-fails t f n l below passes fails = bool-ext (leastOver verdictLattice t f n) false (λ h. rw fails at (all-e t f n h l below passes)) (λ h. absurd h)
+
+pub none-fails : (t f : ℕ → Bool) (n : ℕ) → ((l : ℕ) → l < n → T (t l) → f l ≡ true) → leastOver verdictLattice t f n ≡ true
+none-fails t f n holds = bool-ext (leastOver verdictLattice t f n) true (λ _. tt) (λ _. all-i t f n (λ l below passes. rw (holds l below passes) tt))
+
+-- ---- what a word says
+pub says-something : (s : Said) → (verdictNumber s ≡ 0 → ⊥) → isSaid s ≡ true
+says-something (says v m) some = refl
+says-something nothing some = absurd (some refl)
+
+pub says-nothing : (s : Said) → verdictNumber s ≡ 0 → isSaid s ≡ false
+says-nothing (says true m) none = absurd (omega arith)
+says-nothing (says false m) none = absurd (omega arith)
+says-nothing nothing none = refl
+
+-- ---- where the lines begin
+module _ (a : List ℕ) where
+  pub next-start : {at : ℕ} (i : ℕ) → at ≡ lineStart a i → at + 1 + lengthAt a at * headPlaces a ≡ lineStart a (i + 1)
+  unfolding lineStart
+  next-start i here = rw (here, add-one i) refl
+
+  -- a length has 12 bits and a count of places 8
+  pub line-size : {m n : ℕ} (at : ℕ) → m ≤ lengthAt a at → n ≤ headPlaces a → m * n ≤ 4095 * 255
+  line-size at samples places = mul-le-mul {n₂ = 4095} {m₂ = 255} (omega arith) (omega arith)
+
+  start-bound : (i : ℕ) → lineStart a i ≤ 1 + i * (1 + 4095 * 255)
+  unfolding lineStart
+  start-bound zero = omega arith
+  start-bound (suc i) = omega (arith, start-bound i, line-size {m = lengthAt a (lineStart a i)} {n = headPlaces a} (lineStart a i) (omega arith) (omega arith))
+
+  pub start-small : {at : ℕ} (i : ℕ) → at ≡ lineStart a i → i < 2 ^ 8 → at < 2 ^ 28
+  start-small i here few = omega (arith, start-bound i)

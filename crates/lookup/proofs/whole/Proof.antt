@@ -1,0 +1,57 @@
+-- Head, lines, end: each part decides its own of the definition's.
+use mathlib.Core.Path.{sym, ap, _∙_}
+use native.Mathlib.Omega.{arith}
+use borrow.Author.Tests.{not-true, not-false}
+use Rattle.words.specs.Bytes.{wordsOf}
+use Rattle.lookup.specs.Lookup.{lineStart, wholeEnd, wholeAnswer}
+use borrow.Author.Needs.{needs}
+use Rattle.lookup.proofs.whole.Statement.{statement}
+use Rattle.lookup.proofs.whole.Tie as tie
+
+whole-head-requires : tie.Need-whole-head-requires
+whole-head-requires c κs = search needs
+
+returns : tie.Need-returns
+unfolding wholeAnswer
+returns c = simp (sym (c .before .whole-head .ensures) ∙ not-true _ (c .if1 .taken))
+
+whole-lines-requires : tie.Need-whole-lines-requires
+whole-lines-requires c κs = search needs
+
+returns-2 : tie.Need-returns-2
+unfolding wholeAnswer
+returns-2 c =
+    let headed = c .before .before in
+    simp (sym (headed .before .whole-head .ensures) ∙ not-false _ (headed .if1 .left), sym (c .before .whole-lines .ensures) ∙ not-true _ (c .if2 .taken))
+
+lines-requires : tie.Need-lines-requires
+lines-requires c κs = search needs
+
+line-start-requires : tie.Need-line-start-requires
+line-start-requires c κs = omega arith
+
+whole-end-requires : tie.Need-whole-end-requires
+whole-end-requires c κs = search needs
+
+returns-3 : tie.Need-returns-3
+unfolding wholeAnswer
+returns-3 c =
+    let lined = c .before .before .before in
+    let headed = lined .before .before in
+    let a = wordsOf (headed .before .before .before .args .answer .now) in
+    c .whole-end .ensures
+    ∙ ap (wholeEnd a) (c .before .line-start .ensures ∙ ap (lineStart a) (c .before .before .lines .ensures))
+    ∙ simp (sym (headed .before .whole-head .ensures) ∙ not-false _ (headed .if1 .left), sym (lined .before .whole-lines .ensures) ∙ not-false _ (lined .if2 .left))
+
+pub whole-spec : {M : Type 1} → statement M
+whole-spec =
+    tie.close
+    (tie.spec
+    whole-head-requires
+    returns
+    whole-lines-requires
+    returns-2
+    lines-requires
+    line-start-requires
+    whole-end-requires
+    returns-3)

@@ -1,0 +1,212 @@
+// The lookup: whether bytes hold a whole answer, and the verdict that it has at a line, sample and place. Every slice of bytes is taken: a word
+// that is missing is read as 0, which is no word of an answer up to its end. Lengths and counts are fields of 12 and 8 bits, so even by words
+// that are no answer the index of a line stays below 2^28, and none wraps.
+use sheet::limits::MOST_LINES;
+use sheet::limits::MOST_PLACES;
+use sheet::limits::MOST_SAMPLES;
+use sheet::limits::within;
+ghost use mathlib.Core.Path.{_≡_};
+ghost use Prim.Native.Nat.{_+_, _*_, _<_, _^_};
+ghost use lib.Dec.{ltb, eqb};
+ghost use lib.ListN.{length};
+ghost use Rattle.words.specs.Bytes.{wordsOf};
+ghost use Rattle.logic.specs.Lattice.{verdictLattice, leastOver};
+ghost use Rattle.sheet.specs.Checked.{wordAt};
+ghost use Rattle.values.specs.Said.{saidBy};
+ghost use Rattle.lookup.specs.Lookup.{isSaid, verdictNumber, all, headPlaces, headLines, headSamples, lengthAt, lineStart, wholeHead, wholeLineAt, wholeLine, wholeEnd, wholeAnswer, saidAt, lookedUp};
+
+// The payload -2^27, which no margin has: below it stand the margins from 0 up, above it those below 0.
+const NO_MARGIN: u32 = 134217728;
+
+// What a word says: 1 yes, 2 no, 0 nothing.
+fn verdict(w: u32) -> u64
+    ensures { λ r. ⌜ r ≡ verdictNumber (saidBy w) ⌝ }
+{
+    let payload = words::payload(w);
+    match words::kind(w) {
+        9 => if payload < NO_MARGIN { 1 } else { 0 },
+        10 => if payload == 0 {
+            2
+        } else if NO_MARGIN < payload {
+            2
+        } else {
+            0
+        },
+        11 => if payload == 0 { 1 } else { 0 },
+        12 => if payload == 0 { 2 } else { 0 },
+        _ => 0,
+    }
+}
+
+fn places(answer: &[u8]) -> usize
+    ensures { λ r. ⌜ r ≡ headPlaces (wordsOf (now (answer .entry))) ⌝ }
+{
+    (words::word_or_zero(answer, 0) / 1048576 % 256) as usize
+}
+
+fn lines(answer: &[u8]) -> usize
+    ensures { λ r. ⌜ r ≡ headLines (wordsOf (now (answer .entry))) ⌝ }
+{
+    (words::word_or_zero(answer, 0) / 4096 % 256) as usize
+}
+
+fn length_at(answer: &[u8], at: usize) -> usize
+    ensures { λ r. ⌜ r ≡ lengthAt (wordsOf (now (answer .entry))) at ⌝ }
+{
+    (words::word_or_zero(answer, at) % 4096) as usize
+}
+
+// The samples stand in the head where a length stands in a line's first word.
+fn samples(answer: &[u8]) -> usize
+    ensures { λ r. ⌜ r ≡ headSamples (wordsOf (now (answer .entry))) ⌝ }
+{
+    length_at(answer, 0)
+}
+
+fn whole_head(answer: &[u8]) -> bool
+    ensures { λ r. ⌜ r ≡ wholeHead (wordsOf (now (answer .entry))) ⌝ }
+{
+    if words::kind(words::word_or_zero(answer, 0)) != 13 {
+        return false;
+    }
+    if !within(places(answer), MOST_PLACES) {
+        return false;
+    }
+    if !within(lines(answer), MOST_LINES) {
+        return false;
+    }
+    within(samples(answer), MOST_SAMPLES)
+}
+
+// Whether each of so many words from an index on says a verdict.
+fn whole_verdicts(answer: &[u8], start: usize, count: usize) -> bool
+    requires { ⌜ start + count < 2 ^ 32 ⌝ }
+    ensures { λ r. ⌜ r ≡ all (λ j. isSaid (saidBy (wordAt (wordsOf (now (answer .entry))) (start + j)))) count ⌝ }
+{
+    for j in 0..count {
+        if verdict(words::word_or_zero(answer, start + j)) == 0 {
+            return false;
+        }
+    }
+    true
+}
+
+// Whether a line begins at an index, with a verdict for each sample and place.
+fn whole_line(answer: &[u8], at: usize) -> bool
+    requires { ⌜ at < 2 ^ 28 ⌝ }
+    ensures { λ r. ⌜ r ≡ wholeLineAt (wordsOf (now (answer .entry))) at ⌝ }
+{
+    let first = words::word_or_zero(answer, at);
+    if words::kind(first) != 14 {
+        return false;
+    }
+    if first / 4096 % 65536 != 0 {
+        return false;
+    }
+    let length = length_at(answer, at);
+    if !within(length, samples(answer)) {
+        return false;
+    }
+    whole_verdicts(answer, at + 1, length * places(answer))
+}
+
+// The index after a line, by its length.
+fn next_line(answer: &[u8], at: usize) -> usize
+    requires { ⌜ at < 2 ^ 28 ⌝ }
+    ensures { λ r. ⌜ r ≡ at + 1 + lengthAt (wordsOf (now (answer .entry))) at * headPlaces (wordsOf (now (answer .entry))) ⌝ }
+{
+    at + 1 + length_at(answer, at) * places(answer)
+}
+
+// The index of line i, or of the end, where i is the line count: each line before it gives its own length.
+fn line_start(answer: &[u8], i: usize) -> usize
+    requires { ⌜ i < 2 ^ 8 ⌝ }
+    ensures { λ r. ⌜ r ≡ lineStart (wordsOf (now (answer .entry))) i ⌝ }
+{
+    let mut at: usize = 1;
+    for k in 0..i {
+        at = next_line(answer, at);
+    }
+    at
+}
+
+// Whether each line is whole. A line that is not may give a length that leads astray, so nothing after it is read.
+fn whole_lines(answer: &[u8]) -> bool
+    ensures { λ r. ⌜ r ≡ all (wholeLine (wordsOf (now (answer .entry)))) (headLines (wordsOf (now (answer .entry)))) ⌝ }
+{
+    let mut at: usize = 1;
+    for i in 0..lines(answer) {
+        if !whole_line(answer, at) {
+            return false;
+        }
+        at = next_line(answer, at);
+    }
+    true
+}
+
+// Whether each word after an index is zero.
+fn zeros_after(answer: &[u8], at: usize) -> bool
+    requires { ⌜ at < length (wordsOf (now answer)) ⌝ }
+    ensures { λ r. ⌜ r ≡ leastOver verdictLattice (ltb at) (λ j. eqb (wordAt (wordsOf (now (answer .entry))) j) 0) (length (wordsOf (now (answer .entry)))) ⌝ }
+{
+    for j in at + 1..words::word_count(answer) {
+        if words::word_at(answer, j) != 0 {
+            return false;
+        }
+    }
+    true
+}
+
+fn whole_end(answer: &[u8], at: usize) -> bool
+    ensures { λ r. ⌜ r ≡ wholeEnd (wordsOf (now (answer .entry))) at ⌝ }
+{
+    let end = words::word_or_zero(answer, at);
+    if words::kind(end) != 15 {
+        return false;
+    }
+    if words::payload(end) as usize != at {
+        return false;
+    }
+    zeros_after(answer, at)
+}
+
+fn whole(answer: &[u8]) -> bool
+    ensures { λ r. ⌜ r ≡ wholeAnswer (wordsOf (now (answer .entry))) ⌝ }
+{
+    if !whole_head(answer) {
+        return false;
+    }
+    if !whole_lines(answer) {
+        return false;
+    }
+    whole_end(answer, line_start(answer, lines(answer)))
+}
+
+// The verdict at a line, sample and place, 0 where the answer has no such line, sample or place.
+fn verdict_at(answer: &[u8], line: u64, sample: u64, place: u64) -> u64
+    ensures { λ r. ⌜ r ≡ verdictNumber (saidAt (wordsOf (now (answer .entry))) line sample place) ⌝ }
+{
+    if lines(answer) as u64 <= line {
+        return 0;
+    }
+    let start = line_start(answer, line as usize);
+    if length_at(answer, start) as u64 <= sample {
+        return 0;
+    }
+    let n = places(answer);
+    if n as u64 <= place {
+        return 0;
+    }
+    let at = start + 1 + (sample as usize * n + place as usize);
+    verdict(words::word_or_zero(answer, at))
+}
+
+// 1 yes, 2 no, 0 no verdict: the bytes are no whole answer, or it has no such line, sample or place.
+pub fn lookup(answer: &[u8], line: u64, sample: u64, place: u64) -> u64
+    ensures { λ r. ⌜ r ≡ lookedUp (wordsOf (now (answer .entry))) line sample place ⌝ }
+{
+    if !whole(answer) {
+        return 0;
+    }
+    verdict_at(answer, line, sample, place)
+}
