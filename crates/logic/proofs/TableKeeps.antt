@@ -69,7 +69,7 @@ module _ (R M : Reading) (N : Network) (Rel : R.lattice.Value → M.lattice.Valu
       (Fit : ℤ → Type 0) (x y : Recording)
       (atLeast-kept : (s t l : ℕ) (c : ℤ) → Fit c → Rel (R.atLeast (x s t l) c) (M.atLeast (y s t l) c))
       (atMost-kept : (s t l : ℕ) (c : ℤ) → Fit c → Rel (R.atMost (x s t l) c) (M.atMost (y s t l) c)) where
-    value-kept : (line : ℕ → Signal R) (line′ : ℕ → Signal M) → ((i : ℕ) → Alike (line i) (line′ i)) → (o : Operator) → ConstantIn Fit o → Alike (value R N x line o) (value M N y line′ o)
+    pub value-kept : (line : ℕ → Signal R) (line′ : ℕ → Signal M) → ((i : ℕ) → Alike (line i) (line′ i)) → (o : Operator) → ConstantIn Fit o → Alike (value R N x line o) (value M N y line′ o)
     unfolding value
     value-kept line line′ h True fit t l b = K.keeps-top
     value-kept line line′ h (AtLeast s c) fit t l b = atLeast-kept s t l c fit

@@ -6,3 +6,5 @@ pub mod WholeAnswer
 pub mod Accepted
 pub mod Steadiness
 pub mod LineValues
+pub mod Points
+pub mod LineRows

@@ -1,3 +1,4 @@
 pub mod Answer
 pub mod Judged
 pub mod Steady
+pub mod Writing

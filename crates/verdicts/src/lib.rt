@@ -1,1 +1,3 @@
-// The answer to a sheet: verdicts and margins as words, and the result.
+// The answer to a sheet: verdicts and margins as words, the result, and the engine that writes them.
+pub mod point;
+pub mod row;

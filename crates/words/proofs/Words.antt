@@ -4,7 +4,7 @@ use mathlib.Core.Path.{_≡_, refl, _∙_, ap}
 use mathlib.Core.List.{List, [], _∷_, _++_}
 use native.Mathlib.Nat.{le-of-suc-le-suc}
 use native.Mathlib.Omega.{arith}
-use lib.ListN.{length, getD, set, replicate}
+use lib.ListN.{length, getD, set, take, drop, replicate}
 use Rattle.words.specs.Bytes.{wordOfBytes, wordsOf}
 
 -- four bytes to a word
@@ -60,6 +60,25 @@ words-append (x ∷ []) b k h = absurd (omega arith)
 words-append (x ∷ y ∷ []) b k h = absurd (omega arith)
 words-append (x ∷ y ∷ z ∷ []) b k h = absurd (omega arith)
 words-append (x ∷ y ∷ z ∷ w ∷ a) b k h = ap (λ (t : List ℕ). wordOfBytes x y z w ∷ t) (words-append a b (k - 1) (omega arith))
+
+-- parts of the bytes that hold whole words
+pub words-drop : (b : List ℕ) (k : ℕ) → wordsOf (drop (k * 4) b) ≡ drop k (wordsOf b)
+unfolding wordsOf
+words-drop b zero = refl
+words-drop [] (suc k) = rw (four k) refl
+words-drop (a ∷ []) (suc k) = rw (four k) refl
+words-drop (a ∷ b ∷ []) (suc k) = rw (four k) refl
+words-drop (a ∷ b ∷ c ∷ []) (suc k) = rw (four k) refl
+words-drop (a ∷ b ∷ c ∷ d ∷ r) (suc k) = rw (four k) (words-drop r k)
+
+pub words-take : (b : List ℕ) (k : ℕ) → wordsOf (take (k * 4) b) ≡ take k (wordsOf b)
+unfolding wordsOf
+words-take b zero = refl
+words-take [] (suc k) = rw (four k) refl
+words-take (a ∷ []) (suc k) = rw (four k) refl
+words-take (a ∷ b ∷ []) (suc k) = rw (four k) refl
+words-take (a ∷ b ∷ c ∷ []) (suc k) = rw (four k) refl
+words-take (a ∷ b ∷ c ∷ d ∷ r) (suc k) = rw (four k) (ap (λ (t : List ℕ). wordOfBytes a b c d ∷ t) (words-take r k))
 
 -- zeros past the last whole word count for nothing
 zeros-few : (m r : ℕ) → r < 4 → wordsOf (replicate (m * 4 + r) 0) ≡ replicate m 0

@@ -1,0 +1,36 @@
+-- A line written row after row into the answer: what stands before it is kept, the next row is put after those before it, and the count of its
+-- yes verdicts stays small.
+use mathlib.Core.Path.{_≡_, refl, sym, ap, _∙_}
+use mathlib.Core.List.{List}
+use Prim.Native.Nat.{ℕ, zero, suc, _+_, _*_, _≤_}
+use native.Mathlib.Nat.{suc-mul}
+use native.Mathlib.Numerals.{add-one}
+use native.Mathlib.Omega.{arith}
+use lib.ListN.{length, take}
+use lib.Seq.{take-take}
+use Rattle.words.specs.Bytes.{wordsOf}
+use Rattle.words.specs.Rows.{row, concat, rows, put}
+use Rattle.words.proofs.Puts.{take-put, put-append}
+use Rattle.words.proofs.Rows.{length-rows}
+use Rattle.words.proofs.Words.{words-take}
+use Rattle.logic.specs.Counts.{sumBelow}
+
+-- the words before the line, read from the bytes while the line is written from index `to` on
+pub words-before : (bytes s v : List ℕ) (begin to : ℕ) → begin ≤ to → to ≤ length s → wordsOf bytes ≡ put s to v → wordsOf (take (begin * 4) bytes) ≡ take begin s
+words-before bytes s v begin to h k e =
+    words-take bytes begin ∙ ap (take begin) e ∙ sym (take-take begin to (put s to v) h)
+    ∙ ap (take begin) (take-put s to v k) ∙ take-take begin to s h
+
+pub put-row : (s : List ℕ) (begin : ℕ) (f : ℕ → ℕ → ℕ) (t m : ℕ) → begin ≤ length s → put (put s begin (rows f t m)) (begin + t * m) (row (f t) m) ≡ put s begin (rows f (t + 1) m)
+unfolding concat
+put-row s begin f t m h = rw (add-one t, ← length-rows f t m) (put-append s begin (rows f t m) (row (f t) m) h)
+
+-- ---- sums
+pub sum-more : (f : ℕ → ℕ) (n : ℕ) → sumBelow f (n + 1) ≡ sumBelow f n + f n
+unfolding sumBelow
+sum-more f n = rw (add-one n) refl
+
+pub sum-bound : (f : ℕ → ℕ) (m : ℕ) → ((k : ℕ) → f k ≤ m) → (n : ℕ) → sumBelow f n ≤ n * m
+unfolding sumBelow
+sum-bound f m h zero = omega arith
+sum-bound f m h (suc n) = omega (arith, sum-bound f m h n, h n, suc-mul n m)

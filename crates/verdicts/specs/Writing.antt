@@ -1,0 +1,62 @@
+-- What the engine makes of a line, from the sheet and from the words that it has written before: the chain reading of the line's operator on
+-- the signals of the earlier lines, where `starts` tells at which index each begins.
+use mathlib.Core.List.{List}
+use Prim.Native.Nat.{ℕ, _+_, _*_, _≤_, _<_, _^_}
+use mathlib.Core.Path.{_≡_}
+use lib.ListN.{length, getD}
+use Rattle.words.specs.Word.{sampleOf}
+use Rattle.logic.specs.Network.{Network, distanceIn}
+use Rattle.logic.specs.Table.{Operator, True, AtLeast, AtMost, Not, And, Until, Somewhere, Surrounded, Or, Eventually, Always, Everywhere, Recording, Signal, value}
+use Rattle.logic.specs.Counts.{roundsAt}
+use Rattle.logic.proofs.Small.{InBits}
+use Rattle.sheet.specs.declared.check.Layout.{Layout}
+use Rattle.sheet.specs.Checked.{wordAt}
+use Rattle.sheet.specs.Roads.{networkOf, distanceNumber}
+use Rattle.values.specs.Chain.{chains, chainMargin}
+use Rattle.values.specs.Signals.{signalIn}
+
+module _ (s : List ℕ) (L : Layout) where
+  abbrev pub sheetNetwork : Network
+  sheetNetwork = networkOf s (L .places) (L .roads)
+
+  unfoldable pub sheetRecording : Recording
+  sheetRecording signal t l = sampleOf (wordAt s (L .recording + ((t * L .places + l) * L .signals + signal)))
+
+  module _ (words : List ℕ) (starts : List ℕ) where
+    abbrev pub earlier : ℕ → Signal chains
+    earlier j = signalIn words (getD starts j 0) (L .places)
+
+    unfoldable pub lineValue : Operator → Signal chains
+    lineValue o = value chains sheetNetwork sheetRecording earlier o
+
+    unfoldable pub lineRounds : Operator → ℕ → ℕ → ℕ
+    lineRounds o t l = roundsAt sheetNetwork (λ j u k. chainMargin (earlier j u k)) o t l
+
+-- what the engine has checked: the sheet's samples are there, and the distances are those of its network
+pub record Surveyed (s : List ℕ) (L : Layout) (distances : List ℕ) : Type 0 where
+  pub places : (1 ≤ L .places) × (L .places ≤ 64)
+  pub signals : L .signals ≤ 16
+  pub samples : L .samples ≤ 1024
+  pub recorded : L .recording + L .signals * L .places * L .samples ≤ length s
+  pub room : L .places * L .places ≤ length distances
+  pub measured : (a b : ℕ) → a < L .places → b < L .places → getD distances (a * L .places + b) 0 ≡ distanceNumber (distanceIn (sheetNetwork s L) a b)
+
+-- line j is an earlier one, and its words up to sample t are there
+pub record Written (L : Layout) (words starts : List ℕ) (j t : ℕ) : Type 0 where
+  pub line : j < length starts
+  pub inside : getD starts j 0 + (t + 1) * L .places ≤ length words
+
+-- what an operator reads at sample t is there; a surround is not evaluated point by point
+abbrev pub Readable : Layout → List ℕ → List ℕ → Operator → ℕ → Type 0
+Readable L words starts True t = Unit {0}
+Readable L words starts (AtLeast signal c) t = (signal < L .signals) × (t < L .samples) × InBits 26 c
+Readable L words starts (AtMost signal c) t = (signal < L .signals) × (t < L .samples) × InBits 26 c
+Readable L words starts (Not i) t = Written L words starts i t
+Readable L words starts (And i j) t = Written L words starts i t × Written L words starts j t
+Readable L words starts (Until i j lower upper) t = (lower ≤ upper) × Written L words starts i (t + upper) × Written L words starts j (t + upper)
+Readable L words starts (Somewhere i lower upper) t = (upper < 2 ^ 28) × Written L words starts i t
+Readable L words starts (Surrounded i j lower upper) t = ⊥
+Readable L words starts (Or i j) t = Written L words starts i t × Written L words starts j t
+Readable L words starts (Eventually i lower upper) t = (lower ≤ upper) × Written L words starts i (t + upper)
+Readable L words starts (Always i lower upper) t = (lower ≤ upper) × Written L words starts i (t + upper)
+Readable L words starts (Everywhere i lower upper) t = (upper < 2 ^ 28) × Written L words starts i t
