@@ -1,10 +1,13 @@
 -- Checks one after the other: what a check that accepts, or one that refuses, tells of its parts.
-use Prim.Native.Nat.{ℕ}
+use Prim.Native.Nat.{ℕ, _<_}
 use mathlib.Core.Bool.{Bool, true, false}
+use mathlib.Core.List.{List}
 use mathlib.Core.Path.{_≡_, refl}
 use native.Mathlib.Omega.{arith}
-use lib.Dec.{T}
-use Rattle.sheet.specs.Checked.{Checked, accepted, refused, _>>=_, require}
+use lib.Dec.{T, ltb, ltb→lt}
+use lib.ListN.{length}
+use Rattle.logic.proofs.Tests.{and-l}
+use Rattle.sheet.specs.Checked.{Checked, accepted, refused, _>>=_, require, isKind}
 use Rattle.sheet.specs.Checking.{mapped}
 
 pub never : {A : Type 0} {number place : ℕ} {a : A} → refused number place ≡ accepted a → ⊥
@@ -52,3 +55,8 @@ require-e false number place next a e = absurd (never e)
 
 pub bind-e : {A B : Type 0} (c : Checked A) (next : A → Checked B) (b : B) → (c >>= next) ≡ accepted b → (a : A) × (c ≡ accepted a) × (next a ≡ accepted b)
 bind-e c next b e = bind-accepted c next e
+
+-- a word of some kind is there
+pub kind-inside : (s : List ℕ) (kind at : ℕ) → T (isKind kind s at) → at < length s
+unfolding isKind
+kind-inside s kind at h = ltb→lt at (length s) (and-l (ltb at (length s)) _ h)

@@ -7,7 +7,7 @@ use lib.ListN.{length}
 use Rattle.words.specs.Word.{bits, payloadOf}
 use Rattle.logic.specs.Table.{Line}
 use Rattle.sheet.specs.Limits.{mostPlaces, mostSignals, mostSamples, mostLines, leastDistances}
-use Rattle.sheet.specs.Checked.{Checked, accepted, require, between, wordAt, isKind}
+use Rattle.sheet.specs.Checked.{Checked, accepted, _>>=_, require, between, wordAt, isKind}
 use Rattle.sheet.specs.Lines.{linesFrom}
 
 -- places n, signals v, samples T
