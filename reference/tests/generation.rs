@@ -57,6 +57,16 @@ fn aims_hit() {
 }
 
 #[test]
+fn aims_at_roads_hit_where_one_place_is_asked_for() {
+    for number in 4..=7 {
+        for seed in 0..50 {
+            let case = aim::aimed(&mut Random::new(seed), number, 1);
+            assert_eq!(judged_by::<Fast>(&case).number, number, "seed {seed}");
+        }
+    }
+}
+
+#[test]
 fn limits_are_reached() {
     let (mut places, mut signals, mut samples, mut lines) = (0, 0, 0, 0);
     for seed in 0..2000 {

@@ -50,7 +50,8 @@ impl Case {
 }
 
 /// The case of a seed: of a hundred about 50 valid ones, 36 aimed at a certain
-/// refusal and 14 damaged without an aim, none of more than so many places.
+/// refusal and 14 damaged without an aim, none of more than so many places (two,
+/// where a road is to be refused).
 pub fn case(seed: u64, most_places: usize) -> Case {
     let mut random = Random::new(seed);
     match random.below(100) {

@@ -124,7 +124,7 @@ pub fn end(random: &mut Random, mut words: Vec<u32>) -> Option<Vec<u32>> {
     match random.below(6) {
         0 => words.truncate(at),
         1 => words[at] = other_kind(random, words[at], &[kinds::LINE]),
-        2 => words[at] = words::word(kinds::END, at as u32 + random.pick(&[1, u32::MAX])),
+        2 => words[at] = words::word(kinds::END, random.pick(&[at + 1, at - 1]) as u32),
         3 => words[at] ^= 1 << random.field(0, 27),
         4 => words.push(0),
         _ => words.push(random.bits() as u32),

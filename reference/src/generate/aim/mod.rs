@@ -11,7 +11,8 @@ use crate::words;
 /// Damage that is aimed: nothing where the sheet has not what it strikes at.
 type Blow = fn(&mut Random, Vec<u32>) -> Option<Vec<u32>>;
 
-/// A case that is refused with the number, 1 to 16.
+/// A case that is refused with the number, 1 to 16. The refusals of a road need
+/// a road, so their sheets may have two places though fewer were asked for.
 pub fn aimed(random: &mut Random, number: u64, most_places: usize) -> Case {
     let Some(blow) = blow(number) else {
         let words = valid::small_sheet(random, most_places);
@@ -23,6 +24,7 @@ pub fn aimed(random: &mut Random, number: u64, most_places: usize) -> Case {
         }
         return case;
     };
+    let most_places = if (4..=7).contains(&number) { most_places.max(2) } else { most_places };
     loop {
         let words = valid::small_sheet(random, most_places);
         if let Some(words) = blow(random, words) {
