@@ -5,3 +5,4 @@ pub mod Settling
 pub mod RowLaws
 pub mod Centres
 pub mod BlockLaws
+pub mod SheetRoads
