@@ -8,3 +8,4 @@ pub mod Steadiness
 pub mod LineValues
 pub mod Points
 pub mod LineRows
+pub mod Blocks

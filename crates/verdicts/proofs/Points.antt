@@ -21,7 +21,7 @@ use Rattle.logic.specs.Distance.{Distance, dist, none, inRange}
 use Rattle.logic.specs.Lattice.{greatestOver}
 use Rattle.logic.specs.Network.{distanceIn, within}
 use Rattle.logic.specs.Table.{Operator, True, AtLeast, AtMost, Not, And, Until, Somewhere, Surrounded, Or, Eventually, Always, Everywhere, Signal, untilAt, everTrue, somewhereAt}
-use Rattle.logic.proofs.Keeps.{Keeps, greatest-kept}
+use Rattle.logic.proofs.Keeps.{Keeps, greatest-kept, surround-kept}
 use Rattle.logic.proofs.Margins.{meet-by, join-by}
 use Rattle.logic.proofs.Small.{InBits, difference-small}
 use Rattle.logic.proofs.TableKeeps.{ConstantIn, value-kept}
@@ -30,13 +30,14 @@ use Rattle.sheet.specs.Checked.{wordAt}
 use Rattle.sheet.specs.Roads.{distanceNumber}
 use Rattle.sheet.proofs.AcceptedLines.{sample-bits}
 use Rattle.values.specs.Chain.{chains, chainLattice, highest}
-use Rattle.values.specs.Signals.{inTable}
+use Rattle.values.specs.Signals.{signalIn, inTable}
 use Rattle.values.proofs.Machine.{small-fits}
 use Rattle.values.proofs.Naturals.{leb-trans, leb-total}
 use Rattle.values.proofs.Valid.{valid-difference}
 use Rattle.operators.specs.Reach.{Window, Range}
 use Rattle.operators.proofs.Bounds.{signal-bound}
 use Rattle.operators.proofs.Folds.{eventually-all}
+use Rattle.surround.specs.Lanes.{joinedBy, surroundValue}
 use Rattle.verdicts.specs.Writing.{sheetNetwork, sheetRecording, earlier, lineValue, Surveyed, Written, Readable}
 
 -- ---- no value is beyond `highest`
@@ -54,6 +55,13 @@ meet-bound a b h k = bounded-kept .keeps-meet a b a b h k
 
 pub greatest-bound : (test : ℕ → Bool) (f : ℕ → ℕ) (n : ℕ) → ((k : ℕ) → f k ≤ highest) → greatestOver chainLattice test f n ≤ highest
 greatest-bound test f n h = greatest-kept chainLattice chainLattice (λ c _. c ≤ highest) bounded-kept test f f n (λ k _. h k)
+
+pub surround-bound : (words : List ℕ) (left right n : ℕ) (sheet : List ℕ) (roads : ℕ) (distances : List ℕ) (lower upper t centre : ℕ)
+    → surroundValue words left right n sheet roads distances lower upper t centre ≤ highest
+unfolding surroundValue
+surround-bound words left right n sheet roads distances lower upper t centre = surround-kept chainLattice chainLattice (λ c _. c ≤ highest) bounded-kept (joinedBy sheet roads) n
+    (signalIn words left n t) (signalIn words right n t) (signalIn words left n t) (signalIn words right n t)
+    (λ k _. signal-bound words left n t k) (λ k _. signal-bound words right n t k) _ _ centre
 
 pub eventually-bound : (right : Signal chains) (lower upper t l : ℕ) → ((u : ℕ) → right u l ≤ highest) → untilAt chains (everTrue chains) right lower upper t l ≤ highest
 eventually-bound right lower upper t l h =

@@ -2,3 +2,4 @@ pub mod Answer
 pub mod Judged
 pub mod Steady
 pub mod Writing
+pub mod SurroundLine

@@ -1,0 +1,125 @@
+-- Each turn puts the word of one place more after those of the lane, and counts its verdict.
+use mathlib.Core.Path.{_≡_, sym, ap, ap₂, _∙_}
+use Prim.Native.Nat.{ℕ, _+_, _-_, _*_, _≤_, _<_}
+use native.Mathlib.Omega.{arith}
+use lib.ListN.{length, set}
+use borrow.Author.Needs.{needs}
+use Rattle.words.specs.Bytes.{wordsOf}
+use Rattle.words.specs.Rows.{row, put}
+use Rattle.words.proofs.Puts.{put-nil, put-more}
+use Rattle.words.proofs.Words.{words-count}
+use Rattle.logic.specs.Counts.{count, sumBelow}
+use Rattle.values.specs.Chain.{chainWord, chainVerdict}
+use Rattle.values.proofs.Machine.{byte-count}
+use Rattle.surround.specs.Lanes.{laneOf}
+use Rattle.verdicts.proofs.LineRows.{sum-more, sum-bound}
+use Rattle.verdicts.proofs.surround_line.write_lane.Statement.{statement}
+use Rattle.verdicts.proofs.surround_line.write_lane.Tie as tie
+
+abbrev Inv-loop : tie.InvT-loop
+Inv-loop out places lane answer₀ to yes₀ l₀ answer sum l = (l ≤ places) × (length answer ≡ length answer₀)
+    × (wordsOf answer ≡ put (wordsOf answer₀) to (row (λ k. chainWord (laneOf out lane k)) l))
+    × (sum ≡ sumBelow (λ k. count (chainVerdict (laneOf out lane k))) l)
+
+abbrev μ-loop : tie.MeasureT-loop
+μ-loop out places lane answer₀ to yes₀ l₀ answer sum l = places - l
+
+abbrev Value : tie.Start Inv-loop μ-loop → ℕ → ℕ
+Value c l = laneOf (c .args .out .now) (c .args .lane) l
+
+room : (c : tie.In-loop Inv-loop μ-loop) → (c .before .before .before .before .args .to + c .before .loop .l < length (wordsOf (c .before .before .before .before .args .answer .now)))
+    × (c .before .before .before .before .args .to + c .before .loop .l < length (wordsOf (c .before .loop .answer)))
+room c =
+    let first = words-count (c .before .before .before .before .args .answer .now) in
+    let now = words-count (c .before .loop .answer) in
+    (omega arith, omega arith)
+
+loop-holds : tie.Need-loop-holds Inv-loop μ-loop
+unfolding row sumBelow
+loop-holds c = (search needs, search needs, sym (put-nil _ _), search needs)
+
+mul-value : tie.Need-mul-value Inv-loop μ-loop
+mul-value c = search needs
+
+add-value : tie.Need-add-value Inv-loop μ-loop
+add-value c = search needs
+
+mul-value-2 : tie.Need-mul-value-2 Inv-loop μ-loop
+mul-value-2 c = search needs
+
+shared-slice-read-value : tie.Need-shared-slice-read-value Inv-loop μ-loop
+shared-slice-read-value c = search needs
+
+add-put-word : tie.Need-add-put-word Inv-loop μ-loop
+add-put-word c = omega (arith, words-count (c .before .before .before .before .before .before .args .answer .now), room (c .before .before))
+
+word-of-requires : tie.Need-word-of-requires Inv-loop μ-loop
+word-of-requires c κs =
+    let start = c .before .before .before .before .before .before in
+    start .pre .0 .bound (c .before .before .before .loop .l) (start .args .lane) (c .before .before .loop-test .taken) (omega arith)
+
+put-word-requires : tie.Need-put-word-requires Inv-loop μ-loop
+put-word-requires c κs = room (c .before .before .before) .1
+
+yes-requires : tie.Need-yes-requires Inv-loop μ-loop
+yes-requires c κs = search needs
+
+cast-yes : tie.Need-cast-yes Inv-loop μ-loop
+cast-yes c = search needs
+
+add-yes : tie.Need-add-yes Inv-loop μ-loop
+add-yes c =
+    let start = c .before .before .before .before .before .before .before .before .before .before .before in
+    let loop = c .before .before .before .before .before .before .before .before .loop in
+    let small : loop .yes ≤ loop .l * 1 = rw (loop .inv .3) (sum-bound _ 1 (λ k. byte-count (chainVerdict (Value start k)) .1) (loop .l)) in
+    omega (arith, byte-count (c .yes .result), start .pre .0 .few-places)
+
+add-l : tie.Need-add-l Inv-loop μ-loop
+add-l c = search needs
+
+loop-less : tie.Need-loop-less Inv-loop μ-loop
+loop-less c = search needs
+
+loop-again : tie.Need-loop-again Inv-loop μ-loop
+loop-again c =
+    let start = c .before .before .before .before .before .before .before .before .before .before .before in
+    let loop = c .before .before .before .before .before .before .before .before .loop in
+    let word = c .before .before .before .before .word-of in
+    let stored = c .before .before .before .put-word .ensures ∙ ap (λ w. set w (start .args .to + loop .l) (word .result)) (loop .inv .2) in
+    let more = put-more (wordsOf (start .args .answer .now)) (start .args .to) (λ k. chainWord (Value start k)) (loop .l) (word .result) (room (c .before .before .before .before .before .before .before) .0) (word .ensures) in
+    let one = byte-count (c .yes .result) .0 ∙ ap count (c .yes .ensures) in
+    (search needs, search needs, stored ∙ more, ap₂ _+_ (loop .inv .3) one ∙ sym (sum-more _ (loop .l)))
+
+same-length : tie.Need-same-length Inv-loop μ-loop
+same-length c = search needs
+
+returns : tie.Need-returns Inv-loop μ-loop
+returns c =
+    let start = c .before .before .before .before in
+    let ended : c .before .loop .l ≡ start .args .places = omega arith in (
+      c .before .loop .inv .2 ∙ ap (λ n. put (wordsOf (start .args .answer .now)) (start .args .to) (row (λ k. chainWord (Value start k)) n)) ended,
+      c .before .loop .inv .3 ∙ ap (sumBelow _) ended,
+    )
+
+pub write-lane-spec : {M : Type 1} → statement M
+write-lane-spec =
+    tie.close
+    (tie.spec
+    Inv-loop
+    μ-loop
+    loop-holds
+    mul-value
+    add-value
+    mul-value-2
+    shared-slice-read-value
+    add-put-word
+    word-of-requires
+    put-word-requires
+    yes-requires
+    cast-yes
+    add-yes
+    add-l
+    loop-less
+    loop-again
+    same-length
+    returns)

@@ -1,0 +1,123 @@
+-- Each turn puts the samples of one block more after those before it. The words before the line, which the block reads, stay as they are.
+use mathlib.Core.Path.{_≡_, sym, ap, subst, _∙_}
+use mathlib.Core.List.{List}
+use mathlib.Core.Logic.{⊎-elim}
+use Prim.Native.Nat.{ℕ, _+_, _-_, _*_, _≤_, max}
+use native.Mathlib.Nat.{mul-le-mul, mul-le-mul-right}
+use native.Mathlib.Omega.{arith}
+use lib.ListN.{length, take}
+use borrow.Author.Needs.{needs}
+use Rattle.words.specs.Bytes.{wordsOf, numbersOf}
+use Rattle.words.proofs.Puts.{take-put}
+use Rattle.words.proofs.Words.{words-count}
+use Rattle.verdicts.specs.SurroundLine.{SurroundReady, BlockWritten, SurroundWritten}
+use Rattle.verdicts.proofs.Blocks.{no-samples, more-samples, few-yes, fewer-ready}
+use Rattle.verdicts.proofs.surround_line.write_surround.Statement.{statement}
+use Rattle.verdicts.proofs.surround_line.write_surround.Tie as tie
+
+abbrev Inv-loop : tie.InvT-loop
+Inv-loop left right bounds sheet layout distances answer₀ begin samples rounds₀ yes₀ first₀ answer rounds sum first =
+    (first ≤ samples) × (length answer ≡ length answer₀)
+    × SurroundWritten (wordsOf answer₀) (take begin (wordsOf answer₀)) left right layout (wordsOf sheet) (numbersOf (wordsOf distances)) (bounds .lower) (bounds .upper) begin first (wordsOf answer) rounds sum
+
+abbrev μ-loop : tie.MeasureT-loop
+μ-loop left right bounds sheet layout distances answer₀ begin samples rounds₀ yes₀ first₀ answer rounds sum first = samples - first
+
+abbrev Words : tie.Start Inv-loop μ-loop → List ℕ
+Words c = wordsOf (c .args .answer .now)
+
+abbrev Ready : tie.Start Inv-loop μ-loop → List ℕ → ℕ → Type 0
+Ready c words = SurroundReady words (c .args .left) (c .args .right) (c .args .layout) (wordsOf (c .args .sheet .now)) (numbersOf (wordsOf (c .args .distances .now)))
+
+abbrev Block : tie.Start Inv-loop μ-loop → List ℕ → List ℕ → ℕ → ℕ → List ℕ → ℕ → ℕ → Type 0
+Block c answer words = BlockWritten answer words (c .args .left) (c .args .right) (c .args .layout) (wordsOf (c .args .sheet .now)) (numbersOf (wordsOf (c .args .distances .now)))
+    (c .args .bounds .lower) (c .args .bounds .upper) (c .args .begin)
+
+abbrev Line : tie.Start Inv-loop μ-loop → ℕ → List ℕ → ℕ → ℕ → Type 0
+Line c = SurroundWritten (Words c) (take (c .args .begin) (Words c)) (c .args .left) (c .args .right) (c .args .layout) (wordsOf (c .args .sheet .now)) (numbersOf (wordsOf (c .args .distances .now)))
+    (c .args .bounds .lower) (c .args .bounds .upper) (c .args .begin)
+
+before : (c : tie.In-loop Inv-loop μ-loop) → take (c .before .before .before .before .before .args .begin) (wordsOf (c .before .loop .answer)) ≡ take (c .before .before .before .before .before .args .begin) (Words (c .before .before .before .before .before))
+before c =
+    let start = c .before .before .before .before .before in
+    ap (take (start .args .begin)) (c .before .loop .inv .2 .written) ∙ take-put (Words start) (start .args .begin) _ (omega (arith, start .pre .1))
+
+room : (c : tie.After-block-size Inv-loop μ-loop) → (c .before .before .loop .first + c .block-size .result ≤ c .before .before .before .before .before .before .args .samples)
+    × (c .before .before .before .before .before .before .args .begin + (c .before .before .loop .first + c .block-size .result) * c .before .before .before .before .before .before .args .layout .places ≤ length (wordsOf (c .before .before .loop .answer)))
+room c =
+    let start = c .before .before .before .before .before .before in
+    let loop = c .before .before .loop in
+    let inside : loop .first + c .block-size .result ≤ start .args .samples = omega (arith, c .block-size .ensures) in
+    (inside, omega (arith, mul-le-mul-right (start .args .layout .places) inside, words-count (start .args .answer .now), words-count (loop .answer)))
+
+-- the line with one block more
+longer : (c : tie.After-write-block Inv-loop μ-loop) → Line (c .before .before .before .before .before .before .before .before) (c .before .before .before .before .loop .first + c .before .before .block-size .result)
+    (wordsOf (c .write-block .last .1 .1 .1 .1 .1 .1 .0)) (max (c .before .before .before .before .loop .rounds) (c .write-block .result .rounds)) (c .before .before .before .before .loop .yes + c .write-block .result .yes)
+longer c =
+    let start = c .before .before .before .before .before .before .before .before in
+    let loop = c .before .before .before .before .loop in
+    let block = subst (λ w. Block start (wordsOf (loop .answer)) w (loop .first) (c .before .before .block-size .result) (wordsOf (c .write-block .last .1 .1 .1 .1 .1 .1 .0)) (c .write-block .result .rounds) (c .write-block .result .yes))
+    (before (c .before .before .before)) (c .write-block .ensures) in
+    more-samples _ _ (start .args .layout .places) (Words start) (start .args .begin) (loop .first) (c .before .before .block-size .result) _ _ _ _ _ _ (omega (arith, start .pre .1)) (loop .inv .2) block
+
+greater : (c : tie.Joined1 Inv-loop μ-loop) → c .if1 .rounds ≡ max (c .before .before .before .before .before .before .before .before .before .loop .rounds) (c .before .before .before .before .before .write-block .result .rounds)
+greater c = ⊎-elim (λ w. omega (arith, w .0 .taken, w .1)) (λ w. omega (arith, w .0 .left, w .1)) (c .if1 .came)
+
+loop-holds : tie.Need-loop-holds Inv-loop μ-loop
+loop-holds c = (search needs, search needs, no-samples _ _ _ _ _)
+
+sub-block-size : tie.Need-sub-block-size Inv-loop μ-loop
+sub-block-size c = search needs
+
+block-size-requires : tie.Need-block-size-requires Inv-loop μ-loop
+block-size-requires c κs = omega arith
+
+write-block-requires : tie.Need-write-block-requires Inv-loop μ-loop
+write-block-requires c κs =
+    let start = c .before .before .before .before .before .before .before in
+    let size = c .before .block-size in
+    let inside = room (c .before) in
+    let ready = fewer-ready (start .pre .0) (inside .0) in
+    (subst (λ w. Ready start w (c .before .before .before .loop .first + size .result)) (sym (before (c .before .before))) ready, size .ensures .0, size .ensures .2, inside .1)
+
+add-yes : tie.Need-add-yes Inv-loop μ-loop
+add-yes c =
+    let block = c .before .before .before in
+    let ready = block .before .before .before .before .before .before .before .before .pre .0 in
+    omega (arith, few-yes (longer block), mul-le-mul (room (block .before .before) .0) (ready .few-places .1), ready .few)
+
+add-first : tie.Need-add-first Inv-loop μ-loop
+add-first c = search needs
+
+loop-less : tie.Need-loop-less Inv-loop μ-loop
+loop-less c = search needs
+
+loop-again : tie.Need-loop-again Inv-loop μ-loop
+loop-again c = (search needs, search needs, rw (greater c) (longer (c .before .before .before .before .before)))
+
+same-length : tie.Need-same-length Inv-loop μ-loop
+same-length c = search needs
+
+returns : tie.Need-returns Inv-loop μ-loop
+returns c =
+    let start = c .before .before .before .before .before in
+    let loop = c .before .loop in
+    let ended : loop .first ≡ start .args .samples = omega arith in
+    subst (λ (n : ℕ). Line start n (wordsOf (loop .answer)) (loop .rounds) (loop .yes)) ended (loop .inv .2)
+
+pub write-surround-spec : {M : Type 1} → statement M
+write-surround-spec =
+    tie.close
+    (tie.spec
+    Inv-loop
+    μ-loop
+    loop-holds
+    sub-block-size
+    block-size-requires
+    write-block-requires
+    add-yes
+    add-first
+    loop-less
+    loop-again
+    same-length
+    returns)
