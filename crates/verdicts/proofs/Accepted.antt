@@ -63,7 +63,7 @@ module _ (s : List ℕ) (distances : ℕ) (L : Layout) (sheet : AcceptedSheet s 
   limits : SizesWithin (L.sizes)
   limits = sheet .sizes
 
-  table : GoodLines (L.sizes.signals) (L.sizes.samples) mostLines (L.lines)
+  pub table : GoodLines (L.sizes.signals) (L.sizes.samples) mostLines (L.lines)
   table = table-good s (L.sizes.signals) (L.sizes.samples) (layoutOf L .table) (L.lines, length s - 1) (sheet .table)
 
   fields : InFields (L.sizes.places) (L.sizes.samples) (L.lines)
@@ -83,7 +83,7 @@ module _ (s : List ℕ) (distances : ℕ) (L : Layout) (sheet : AcceptedSheet s 
       (λ signal t l. sample-bits (wordAt s (roadAt (L.roads) + ((t * L.sizes.places + l) * L.sizes.signals + signal))))
       (good-constants (L.sizes.signals) (L.sizes.samples) (L.lines) (table .good))
 
-  sizes : InAnswer (L.sizes.places) (L.sizes.samples) (L.lines)
+  pub sizes : InAnswer (L.sizes.places) (L.sizes.samples) (L.lines)
   sizes = record {
     places = (limits .places-some, limits .places-most);
     samples = (limits .samples-some, limits .samples-most);

@@ -51,6 +51,39 @@ pub record InFields (n T : ℕ) (lines : List Line) : Type 0 where
   pub samples : T < 2 ^ 12
   pub lengths : (i : ℕ) → lineIn lines i .length < 2 ^ 12
 
+-- ---- the lines alone, one after the other: how long they are, and where the words of line i stand among those of the first k
+module _ (N : Network) (T : ℕ) (x : Recording) (lines : List Line) where
+  line-size : (i : ℕ) → length (lineWords N T x lines i) ≡ 1 + lineIn lines i .length * N.places
+  unfolding lineWords
+  line-size i = ap suc (length-rows (wordFor N T x lines i) (lineIn lines i .length) (N.places)) ∙ omega arith
+
+  abbrev pub sizes : ℕ → ℕ
+  sizes i = sumBelow (λ k. 1 + lineIn lines k .length * N.places) i
+
+  sizes-next : (i : ℕ) → sizes (suc i) ≡ sizes i + length (lineWords N T x lines i)
+  unfolding sumBelow
+  sizes-next i = ap (λ m. sizes i + m) (sym (line-size i))
+
+  sizes-first : sizes 0 ≡ 0
+  unfolding sumBelow
+  sizes-first = refl
+
+  pub lines-size : (k : ℕ) → length (concat (lineWords N T x lines) k) ≡ sizes k
+  lines-size = concat-length (lineWords N T x lines) sizes sizes-first sizes-next
+
+  pub sizes-below : (i k : ℕ) → i < k → sizes i + (1 + lineIn lines i .length * N.places) ≤ sizes k
+  sizes-below i k h = omega (arith, start-below (lineWords N T x lines) sizes sizes-first sizes-next i k h, line-size i)
+
+  line-among : (k i j : ℕ) → i < k → j < 1 + lineIn lines i .length * N.places → getD (concat (lineWords N T x lines) k) (sizes i + j) 0 ≡ getD (lineWords N T x lines i) j 0
+  line-among k i j h b = concat-at (lineWords N T x lines) sizes sizes-first sizes-next k i j 0 h (rw (line-size i) b)
+
+  pub verdict-among : (k i t l : ℕ) → i < k → t < lineIn lines i .length → l < N.places
+      → getD (concat (lineWords N T x lines) k) (sizes i + suc (t * N.places + l)) 0 ≡ wordFor N T x lines i t l
+  unfolding lineWords
+  verdict-among k i t l h u b =
+      line-among k i (suc (t * N.places + l)) h (omega (arith, in-table u b))
+      ∙ getD-rows (wordFor N T x lines i) (lineIn lines i .length) (N.places) t l 0 u b
+
 module _ (N : Network) (T : ℕ) (x : Recording) (lines : List Line) (room : ℕ) (fits : InFields (N.places) T lines) where
   abbrev pub answer : List ℕ
   answer = padded (answerWords N T x lines) room
@@ -69,30 +102,14 @@ module _ (N : Network) (T : ℕ) (x : Recording) (lines : List Line) (room : ℕ
   samples-read = omega (arith, fits .places, fits .count, fits .samples)
 
   -- ---- a line's words
-  line-size : (i : ℕ) → length (lineWords N T x lines i) ≡ 1 + lineIn lines i .length * N.places
-  unfolding lineWords
-  line-size i = ap suc (length-rows (wordFor N T x lines i) (lineIn lines i .length) (N.places)) ∙ omega arith
-
-  abbrev sizes : ℕ → ℕ
-  sizes i = sumBelow (λ k. 1 + lineIn lines k .length * N.places) i
-
-  sizes-next : (i : ℕ) → sizes (suc i) ≡ sizes i + length (lineWords N T x lines i)
-  unfolding sumBelow
-  sizes-next i = ap (λ m. sizes i + m) (sym (line-size i))
-
-  sizes-first : sizes 0 ≡ 0
-  unfolding sumBelow
-  sizes-first = refl
-
   pub line-word : (i j : ℕ) → i < length lines → j < 1 + lineIn lines i .length * N.places → wordAt answer (lineIndex (N.places) lines i + j) ≡ getD (lineWords N T x lines i) j 0
   unfolding answerWords lineIndex
   line-word i j h k =
-      let inLine : j < length (lineWords N T x lines i) = rw (line-size i) k in
-      let below = start-below (lineWords N T x lines) sizes sizes-first sizes-next i (length lines) h in
-      let all = concat-length (lineWords N T x lines) sizes sizes-first sizes-next (length lines) in
-      let index : lineIndex (N.places) lines i + j ≡ 1 + (sizes i + j) = omega arith in
-      rw index (behind-head (concat (lineWords N T x lines) (length lines)) _ _ _ (sizes i + j) (omega arith))
-      ∙ concat-at (lineWords N T x lines) sizes sizes-first sizes-next (length lines) i j 0 h inLine
+      let below = sizes-below N T x lines i (length lines) h in
+      let all = lines-size N T x lines (length lines) in
+      let index : lineIndex (N.places) lines i + j ≡ 1 + (sizes N T x lines i + j) = omega arith in
+      rw index (behind-head (concat (lineWords N T x lines) (length lines)) _ _ _ (sizes N T x lines i + j) (omega arith))
+      ∙ line-among N T x lines (length lines) i j h k
 
   -- ---- the walk
   length-field : (i : ℕ) → i < length lines → bits 0 12 (wordAt answer (lineIndex (N.places) lines i)) ≡ lineIn lines i .length
@@ -135,8 +152,8 @@ module _ (N : Network) (T : ℕ) (x : Recording) (lines : List Line) (room : ℕ
   abbrev spare : ℕ
   spare = room - length (headWord N T x lines ∷ (middle ++ (ending ∷ [])))
 
-  middle-length : length middle ≡ sizes (length lines)
-  middle-length = concat-length (lineWords N T x lines) sizes sizes-first sizes-next (length lines)
+  middle-length : length middle ≡ sizes N T x lines (length lines)
+  middle-length = lines-size N T x lines (length lines)
 
   pub end-word : wordAt answer (lineIndex (N.places) lines (length lines)) ≡ ending
   unfolding answerWords lineIndex

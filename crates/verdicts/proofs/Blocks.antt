@@ -16,7 +16,7 @@ use Rattle.surround.specs.Lanes.{lanes, laneOf, surroundValue, surroundRounds, 
 use Rattle.surround.specs.Blocks.{BlockReady, BlockDone}
 use Rattle.surround.proofs.Greatest.{most-le, le-most}
 use Rattle.verdicts.specs.SurroundLine.{LanesBounded, SurroundReady, SamplesWritten}
-use Rattle.verdicts.proofs.LineRows.{sum-bound}
+use Rattle.verdicts.proofs.LineRows.{sum-bound, sum-same}
 use Rattle.verdicts.proofs.Points.{surround-bound}
 
 -- ---- a + b samples
@@ -65,11 +65,6 @@ pub few-yes : {value roundsAt : ℕ → ℕ → ℕ} {n : ℕ} {answer : List �
 few-yes {value} w = rw (w .counted) (yes-bound value _ _)
 
 -- ---- a block
-
-sum-same : (f g : ℕ → ℕ) (n : ℕ) → ((i : ℕ) → i < n → f i ≡ g i) → sumBelow f n ≡ sumBelow g n
-unfolding sumBelow
-sum-same f g zero h = refl
-sum-same f g (suc n) h = ap₂ _+_ (sum-same f g n (λ i l. h i (omega arith))) (h n (omega arith))
 
 -- the greatest of a table, by rows or by columns
 most-swap-le : (f : ℕ → ℕ → ℕ) (n m : ℕ) → mostBelow (λ i. mostBelow (f i) m) n ≤ mostBelow (λ j. mostBelow (λ i. f i j) n) m

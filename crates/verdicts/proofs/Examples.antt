@@ -13,7 +13,7 @@ use Rattle.sheet.specs.Checked.{Checked, accepted, refused}
 use Rattle.sheet.specs.Layout.{Layout, checked}
 use Rattle.sheet.specs.Roads.{network, recording}
 use Rattle.values.specs.Said.{Said, says, nothing}
-use Rattle.verdicts.specs.Judged.{refusal, judged}
+use Rattle.verdicts.specs.Judged.{Judged, refusal, judged}
 use Rattle.lookup.specs.Lookup.{saidAt}
 use Rattle.verdicts.proofs.Computing.{answerOf}
 
@@ -70,33 +70,33 @@ layoutH = record {
 
 -- ---- what is said of them
 -- the answer's word at a line, sample 0 and place 0
-abbrev saidOf : List ℕ → ℕ → Said
-saidOf s line = saidAt (answerOf s .answer) line 0 0
+abbrev pub saidIn : Judged → ℕ → Said
+saidIn j line = saidAt (j .answer) line 0 0
 
-pub record StarredExamples : Type 0 where
-  pub A : judged sheetA 4096 20 ≡ record {
+-- What the starred examples say of whatever judges: `holds s distances answer P` is that P is true of what is left for the sheet s, with so many
+-- distances and answer words lent.
+pub record StarredExamples (holds : List ℕ → ℕ → ℕ → (Judged → Type 0) → Type 0) : Type 0 where
+  pub A : holds sheetA 4096 20 (λ j. j ≡ record {
     result = record { number = 0; place = 0; words = 20; rounds = 1; yes = 11 };
     answer =
         0xD0204002 ∷ 0xE0000002 ∷ 0x90000005 ∷ 0xAFFFFFFE ∷ 0x90000001 ∷ 0x90000004 ∷ 0xE0000001 ∷ 0x90000005 ∷ 0x90000004 ∷ 0xE0000002
         ∷ 0xAFFFFFFE ∷ 0x90000005 ∷ 0x90000004 ∷ 0x90000001 ∷ 0xE0000002 ∷ 0xAFFFFFFE ∷ 0x90000005 ∷ 0x90000004 ∷ 0x90000001 ∷ 0xF0000013 ∷ [];
     distances = 0 ∷ 3 ∷ 3 ∷ 0 ∷ replicate 4092 0;
-  }
-  pub B : saidOf sheetBC 2 ≡ says true (finite (pos 7))
-  pub C : saidOf sheetBC 3 ≡ says true plusInfinity
-  pub D : saidOf sheetDEF 1 ≡ says false (finite (negsuc 0))
-  pub E : saidOf sheetDEF 2 ≡ says false minusInfinity
-  pub F : saidOf sheetDEF 3 ≡ says true plusInfinity
-  pub G : saidOf sheetG 0 ≡ says true (finite (pos 0))
-  pub G-not : saidOf sheetG 1 ≡ says false (finite (pos 0))
-  pub H : saidOf sheetH 2 ≡ says false (finite (negsuc 2))
-  pub H-layout : checked sheetH 4096 ≡ accepted layoutH
-  pub H-rounds : roundsAt (network sheetH layoutH) (valueAt margins (network sheetH layoutH) (recording sheetH layoutH) (layoutH .lines)) (Surrounded 0 1 1 1) 0 0 ≡ 3
-  pub H-result : answerOf sheetH .result .rounds ≡ 3
-  pub I : saidOf sheetI 0 ≡ says false (finite (negsuc 134217726))
-  pub J : answerOf sheetJ .distances ≡ 0 ∷ 2 ∷ 1 ∷ 2 ∷ 0 ∷ 1 ∷ 1 ∷ 1 ∷ 0 ∷ replicate 4087 0
-  pub K : saidOf sheetK 2 ≡ says true (finite (pos 1))
+  })
+  pub B : holds sheetBC 4096 64 (λ j. saidIn j 2 ≡ says true (finite (pos 7)))
+  pub C : holds sheetBC 4096 64 (λ j. saidIn j 3 ≡ says true plusInfinity)
+  pub D : holds sheetDEF 4096 64 (λ j. saidIn j 1 ≡ says false (finite (negsuc 0)))
+  pub E : holds sheetDEF 4096 64 (λ j. saidIn j 2 ≡ says false minusInfinity)
+  pub F : holds sheetDEF 4096 64 (λ j. saidIn j 3 ≡ says true plusInfinity)
+  pub G : holds sheetG 4096 64 (λ j. saidIn j 0 ≡ says true (finite (pos 0)))
+  pub G-not : holds sheetG 4096 64 (λ j. saidIn j 1 ≡ says false (finite (pos 0)))
+  pub H : holds sheetH 4096 64 (λ j. saidIn j 2 ≡ says false (finite (negsuc 2)))
+  pub H-rounds : holds sheetH 4096 64 (λ j. j .result .rounds ≡ 3)
+  pub I : holds sheetI 4096 64 (λ j. saidIn j 0 ≡ says false (finite (negsuc 134217726)))
+  pub J : holds sheetJ 4096 64 (λ j. j .distances ≡ 0 ∷ 2 ∷ 1 ∷ 2 ∷ 0 ∷ 1 ∷ 1 ∷ 1 ∷ 0 ∷ replicate 4087 0)
+  pub K : holds sheetK 4096 64 (λ j. saidIn j 2 ≡ says true (finite (pos 1)))
 
-pub starred-examples : StarredExamples
+pub starred-examples : StarredExamples (λ s distances answer P. P (judged s distances answer))
 unfolding answerOf
 starred-examples = record {
   A = refl;
@@ -108,13 +108,36 @@ starred-examples = record {
   G = refl;
   G-not = refl;
   H = refl;
-  H-layout = refl;
   H-rounds = refl;
-  H-result = refl;
   I = refl;
   J = refl;
   K = refl;
 }
+
+-- and so of whatever leaves what is judged
+pub examples-of : (holds : List ℕ → ℕ → ℕ → (Judged → Type 0) → Type 0)
+    → ((s : List ℕ) (distances answer : ℕ) (P : Judged → Type 0) → P (judged s distances answer) → holds s distances answer P) → StarredExamples holds
+examples-of holds leaves = record {
+  A = leaves _ _ _ _ (starred-examples .A);
+  B = leaves _ _ _ _ (starred-examples .B);
+  C = leaves _ _ _ _ (starred-examples .C);
+  D = leaves _ _ _ _ (starred-examples .D);
+  E = leaves _ _ _ _ (starred-examples .E);
+  F = leaves _ _ _ _ (starred-examples .F);
+  G = leaves _ _ _ _ (starred-examples .G);
+  G-not = leaves _ _ _ _ (starred-examples .G-not);
+  H = leaves _ _ _ _ (starred-examples .H);
+  H-rounds = leaves _ _ _ _ (starred-examples .H-rounds);
+  I = leaves _ _ _ _ (starred-examples .I);
+  J = leaves _ _ _ _ (starred-examples .J);
+  K = leaves _ _ _ _ (starred-examples .K);
+}
+
+-- example H's rounds are those of its surround at place 0
+rounds-of-H : (checked sheetH 4096 ≡ accepted layoutH)
+    × (roundsAt (network sheetH layoutH) (valueAt margins (network sheetH layoutH) (recording sheetH layoutH) (layoutH .lines)) (Surrounded 0 1 1 1) 0 0 ≡ 3)
+unfolding answerOf
+rounds-of-H = (refl, refl)
 
 -- ---- the other settled examples
 -- a table of true and the until 0..2 of true by true, over T samples
@@ -122,7 +145,7 @@ abbrev untilSheet : ℕ → ℕ → List ℕ
 untilSheet head samples = head ∷ (replicate samples 0x40000000 ++ (0x50000000 ∷ 0x50500000 ∷ 0x60000000 ∷ 0x70000002 ∷ (0xF0000005 + samples) ∷ []))
 
 -- with T = 3 the length is 1: sample 0 has a verdict and sample 1 none
-until-of-three : (saidOf (untilSheet 0x10101003 3) 1 ≡ says true plusInfinity) × (saidAt (answerOf (untilSheet 0x10101003 3) .answer) 1 1 0 ≡ nothing)
+until-of-three : (saidIn (answerOf (untilSheet 0x10101003 3)) 1 ≡ says true plusInfinity) × (saidAt (answerOf (untilSheet 0x10101003 3) .answer) 1 1 0 ≡ nothing)
 unfolding answerOf
 until-of-three = (refl, refl)
 

@@ -1,8 +1,8 @@
 -- A line written row after row into the answer: what stands before it is kept, the next row is put after those before it, and the count of its
 -- yes verdicts stays small.
-use mathlib.Core.Path.{_≡_, refl, sym, ap, _∙_}
+use mathlib.Core.Path.{_≡_, refl, sym, ap, ap₂, _∙_}
 use mathlib.Core.List.{List}
-use Prim.Native.Nat.{ℕ, zero, suc, _+_, _*_, _≤_}
+use Prim.Native.Nat.{ℕ, zero, suc, _+_, _*_, _<_, _≤_, max}
 use native.Mathlib.Nat.{suc-mul}
 use native.Mathlib.Numerals.{add-one}
 use native.Mathlib.Omega.{arith}
@@ -13,7 +13,7 @@ use Rattle.words.specs.Rows.{row, concat, rows, put}
 use Rattle.words.proofs.Puts.{take-put, put-append}
 use Rattle.words.proofs.Rows.{length-rows}
 use Rattle.words.proofs.Words.{words-take}
-use Rattle.logic.specs.Counts.{sumBelow}
+use Rattle.logic.specs.Counts.{sumBelow, mostBelow}
 
 -- the words before the line, read from the bytes while the line is written from index `to` on
 pub words-before : (bytes s v : List ℕ) (begin to : ℕ) → begin ≤ to → to ≤ length s → wordsOf bytes ≡ put s to v → wordsOf (take (begin * 4) bytes) ≡ take begin s
@@ -25,7 +25,7 @@ pub put-row : (s : List ℕ) (begin : ℕ) (f : ℕ → ℕ → ℕ) (t m : ℕ)
 unfolding concat
 put-row s begin f t m h = rw (add-one t, ← length-rows f t m) (put-append s begin (rows f t m) (row (f t) m) h)
 
--- ---- sums
+-- ---- sums and greatest numbers
 pub sum-more : (f : ℕ → ℕ) (n : ℕ) → sumBelow f (n + 1) ≡ sumBelow f n + f n
 unfolding sumBelow
 sum-more f n = rw (add-one n) refl
@@ -34,3 +34,13 @@ pub sum-bound : (f : ℕ → ℕ) (m : ℕ) → ((k : ℕ) → f k ≤ m) → (n
 unfolding sumBelow
 sum-bound f m h zero = omega arith
 sum-bound f m h (suc n) = omega (arith, sum-bound f m h n, h n, suc-mul n m)
+
+-- the sum of the same numbers
+pub sum-same : (f g : ℕ → ℕ) (n : ℕ) → ((i : ℕ) → i < n → f i ≡ g i) → sumBelow f n ≡ sumBelow g n
+unfolding sumBelow
+sum-same f g zero h = refl
+sum-same f g (suc n) h = ap₂ _+_ (sum-same f g n (λ i l. h i (omega arith))) (h n (omega arith))
+
+pub most-more : (f : ℕ → ℕ) (n : ℕ) → mostBelow f (n + 1) ≡ max (mostBelow f n) (f n)
+unfolding mostBelow
+most-more f n = rw (add-one n) refl

@@ -138,8 +138,12 @@ greatest-same test range f (suc n) h =
     rw (before, h n (omega arith)) refl
 
 -- a place lies in range by the table where it does in the network
+pub range-at : (s : List ℕ) (L : Layout) (distances : List ℕ) → Surveyed s L distances → (lower upper l k : ℕ) → upper < 2 ^ 28 → l < L .places → k < L .places
+    → inTable distances (L .places) l lower upper k ≡ within (sheetNetwork s L) l lower upper k
+unfolding within inTable
+range-at s L distances survey lower upper l k h b c = in-range lower upper (distanceIn (sheetNetwork s L) l k) _ h (survey .measured l k b c)
+
 pub range-same : (s : List ℕ) (L : Layout) (distances : List ℕ) → Surveyed s L distances → (f : Signal chains) (lower upper t l : ℕ) → upper < 2 ^ 28 → l < L .places
     → greatestOver chainLattice (inTable distances (L .places) l lower upper) (f t) (L .places) ≡ somewhereAt chains (sheetNetwork s L) f lower upper t l
-unfolding somewhereAt within inTable
-range-same s L distances survey f lower upper t l h b =
-    greatest-same _ _ (f t) (L .places) (λ k c. in-range lower upper (distanceIn (sheetNetwork s L) l k) _ h (survey .measured l k b c))
+unfolding somewhereAt
+range-same s L distances survey f lower upper t l h b = greatest-same _ _ (f t) (L .places) (λ k c. range-at s L distances survey lower upper l k h b c)

@@ -50,21 +50,22 @@ pub record InAnswer (n horizon : ℕ) (lines : List Line) : Type 0 where
   pub count : (1 ≤ length lines) × (length lines ≤ 64)
   pub lengths : (i : ℕ) → i < length lines → (1 ≤ lineIn lines i .length) × (lineIn lines i .length ≤ horizon)
 
+-- a line has at most 1 + 1024 * 64 words
+pub index-bound : (n horizon : ℕ) (lines : List Line) → InAnswer n horizon lines → (i : ℕ) → i ≤ length lines → lineIndex n lines i ≤ 1 + i * 65537
+unfolding lineIndex sumBelow
+index-bound n horizon lines sizes zero h = omega arith
+index-bound n horizon lines sizes (suc i) h =
+    let size : lineIn lines i .length * n ≤ 1024 * 64 = mul-le-mul {n₂ = 1024} (omega (arith, sizes .lengths i h, sizes .samples)) (sizes .places .1) in
+    omega (arith, index-bound n horizon lines sizes i (le-of-lt h))
+
 module _ (N : Network) (horizon : ℕ) (x : Recording) (lines : List Line) (room : ℕ) (fits : InFields (N.places) horizon lines)
     (samples : (s t l : ℕ) → InBits 26 (x s t l)) (constants : ConstantsIn (InBits 26) lines) (sizes : InAnswer (N.places) horizon lines) where
   abbrev a : List ℕ
   a = answer N horizon x lines room fits
 
   -- every index of a line, and the end, stands in the answer and fits a payload
-  index-bound : (i : ℕ) → i ≤ length lines → lineIndex (N.places) lines i ≤ 1 + i * 65537
-  unfolding lineIndex sumBelow
-  index-bound zero h = omega arith
-  index-bound (suc i) h =
-      let size : lineIn lines i .length * N.places ≤ 1024 * 64 = mul-le-mul {n₂ = 1024} (omega (arith, sizes .lengths i h)) (sizes .places .1) in
-      omega (arith, index-bound i (le-of-lt h))
-
   end-bound : lineIndex (N.places) lines (length lines) < 2 ^ 28
-  end-bound = omega (arith, index-bound (length lines) (omega arith), sizes .count)
+  end-bound = omega (arith, index-bound (N.places) horizon lines sizes (length lines) (omega arith), sizes .count)
 
   index-below : (i : ℕ) → i < length lines → lineIndex (N.places) lines i < lineIndex (N.places) lines (length lines)
   unfolding lineIndex
