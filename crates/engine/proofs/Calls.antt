@@ -1,0 +1,101 @@
+-- Calls of the engine, by its contract alone, whatever was lent: what a call leaves is what is judged; so the starred examples hold of calls, the
+-- lookup in what a call left gives the verdicts that are meant, and demand 3 holds of any two calls.
+use mathlib.Core.Path.{_≡_, sym, ap, subst, subst₂, _∙_}
+use mathlib.Core.Bool.{cond, _&&_}
+use mathlib.Core.List.{List}
+use Prim.Native.Nat.{ℕ, _≤_}
+use lib.Dec.{ltb}
+use lib.ListN.{length}
+use contract.Lifetimes
+use borrow.Fn.Kinds.{Dens, endedOf}
+use denote.Triple.Clauses.{AtExit}
+use Rattle.words.specs.Bytes.{wordsOf, numbersOf}
+use Rattle.logic.specs.Table.{lineIn, verdicts, margins, valueAt}
+use Rattle.sheet.specs.Layout.{Layout}
+use Rattle.sheet.specs.Roads.{network, recording}
+use Rattle.sheet.specs.Apart.{SamplesApart}
+use Rattle.sheet.proofs.Whole.{accepted-sheet}
+use Rattle.values.specs.Said.{says, nothing}
+use Rattle.lookup.specs.Lookup.{verdictNumber, saidAt, lookedUp}
+use Rattle.verdicts.specs.Judged.{Judged, answered, judged}
+use Rattle.verdicts.specs.Steady.{Steady}
+use Rattle.verdicts.proofs.Accepted.{Answered, accepted-answered, answered-lookup}
+use Rattle.verdicts.proofs.Examples.{StarredExamples, examples-of}
+use Rattle.verdicts.proofs.Steadiness.{steadiness}
+use Rattle.engine.specs.declared.Result.{Result}
+use Rattle.engine.specs.Result.{resultSaid}
+use Rattle.engine.proofs.judge.Reads as judge
+use Rattle.engine.proofs.judge.Kinds as kinds
+use Rattle.lookup.proofs.lookup.Reads as lookup
+use Rattle.lookup.proofs.lookup.Kinds as asks
+
+-- a call: what it was given, what it returned, and what it left, so far as its contract tells
+pub record Call : Type 0 where
+  pub lifetimes : Lifetimes.Lfts 3
+  pub given : Dens lifetimes kinds.ps
+  pub result : Result
+  pub left : AtExit (endedOf 3 kinds.ps kinds.r) lifetimes
+  pub learnt : judge.Learnt lifetimes given result left
+
+abbrev pub sheetOf : Call → List ℕ
+sheetOf c = wordsOf (c .given .0 .now)
+
+-- how many distances and answer words were lent
+abbrev pub distancesLent : Call → ℕ
+distancesLent c = length (numbersOf (wordsOf (c .given .1 .0 .now)))
+
+abbrev pub answerLent : Call → ℕ
+answerLent c = length (wordsOf (c .given .1 .1 .0 .now))
+
+abbrev pub leftBy : Call → Judged
+leftBy c = record { result = resultSaid (c .result); answer = wordsOf (c .left .1 .1 .0 .now); distances = numbersOf (wordsOf (c .left .1 .0 .now)) }
+
+pub left-judged : (c : Call) → leftBy c ≡ judged (sheetOf c) (distancesLent c) (answerLent c)
+left-judged c = same-parts (c .learnt .0) (c .learnt .1 .0) (c .learnt .1 .1)
+  where
+    same-parts : {j : Judged} → resultSaid (c .result) ≡ j .result → wordsOf (c .left .1 .1 .0 .now) ≡ j .answer → numbersOf (wordsOf (c .left .1 .0 .now)) ≡ j .distances → leftBy c ≡ j
+    same-parts result answer distances i = record { result = result i; answer = answer i; distances = distances i }
+
+-- ---- the examples
+-- the call is given this sheet, so many distances and so many answer words
+pub record Given (c : Call) (s : List ℕ) (distances answer : ℕ) : Type 0 where
+  pub sheet : sheetOf c ≡ s
+  pub distances-lent : distancesLent c ≡ distances
+  pub answer-lent : answerLent c ≡ answer
+
+pub starred-calls : StarredExamples (λ s distances answer P. (c : Call) → Given c s distances answer → P (leftBy c))
+starred-calls = examples-of _ (λ s distances answer P p c given.
+    subst P (sym (left-judged c ∙ (λ i. judged (given .sheet i) (given .distances-lent i) (given .answer-lent i)))) p)
+
+-- ---- calls that accept
+accepts : (c : Call) → c .result .number ≡ 0 → judged (sheetOf c) (distancesLent c) (answerLent c) .result .number ≡ 0
+accepts c z = sym (ap (λ (j : Judged). j .result .number) (left-judged c)) ∙ z
+
+-- what the check has found
+pub layoutOf : (c : Call) → c .result .number ≡ 0 → Layout
+layoutOf c z = accepted-answered (sheetOf c) (distancesLent c) (answerLent c) (accepts c z) .layout
+
+-- a lookup in the bytes that an accepting call left: the verdict that is meant where there is one, 0 elsewhere
+pub call-lookup : (c : Call) (z : c .result .number ≡ 0) (κ : Lifetimes.Lfts 1) (asked : Dens κ asks.ps) (r : ℕ) (left : AtExit (endedOf 1 asks.ps asks.r) κ)
+    → lookup.Learnt κ asked r left → asked .0 .now ≡ c .left .1 .1 .0 .now →
+    let L : Layout = layoutOf c z in
+    let i : ℕ = asked .1 .0 in
+    let t : ℕ = asked .1 .1 .0 in
+    let l : ℕ = asked .1 .1 .1 .0 in
+    r ≡ verdictNumber (cond (ltb i (length (L .lines)) && (ltb t (lineIn (L .lines) i .length) && ltb l (L .sizes .places)))
+    (says (valueAt verdicts (network (sheetOf c) L) (recording (sheetOf c) L) (L .lines) i t l) (valueAt margins (network (sheetOf c) L) (recording (sheetOf c) L) (L .lines) i t l)) nothing)
+unfolding layoutOf
+call-lookup c z κ asked r left learnt same =
+    let found = accepted-answered (sheetOf c) (distancesLent c) (answerLent c) (accepts c z) in
+    let sheet = accepted-sheet (sheetOf c) (distancesLent c) (found .layout) (found .found) in
+    learnt
+    ∙ ap (λ bytes. lookedUp (wordsOf bytes) (asked .1 .0) (asked .1 .1 .0) (asked .1 .1 .1 .0)) same
+    ∙ ap (λ (j : Judged). lookedUp (j .answer) (asked .1 .0) (asked .1 .1 .0) (asked .1 .1 .1 .0)) (left-judged c ∙ found .left)
+    ∙ answered-lookup (sheetOf c) (distancesLent c) (found .layout) sheet (answerLent c) (asked .1 .0) (asked .1 .1 .0) (asked .1 .1 .1 .0)
+
+-- ---- demand 3, about two calls: sheets alike in every word but their samples, these at most d apart
+pub calls-steady : (d : ℕ) (x y : Call) → SamplesApart d (sheetOf x) (sheetOf y) → x .result .number ≡ 0 → y .result .number ≡ 0
+    → (i t l : ℕ) → Steady d (saidAt (leftBy x .answer) i t l) (saidAt (leftBy y .answer) i t l)
+calls-steady d x y apart zx zy i t l =
+    subst₂ (λ (j k : Judged). Steady d (saidAt (j .answer) i t l) (saidAt (k .answer) i t l)) (sym (left-judged x)) (sym (left-judged y))
+    (steadiness d (sheetOf x) (sheetOf y) apart (distancesLent x) (answerLent x) (distancesLent y) (answerLent y) (accepts x zx) (accepts y zy) i t l)

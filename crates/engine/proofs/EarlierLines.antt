@@ -1,0 +1,56 @@
+-- The words before a line hold the earlier lines' signals: what is read there are the chain numbers that the logic gives them.
+use mathlib.Core.Path.{_≡_, sym, _∙_, ap, ap₂}
+use mathlib.Core.List.{List, [], _∷_, _++_}
+use Prim.Native.Nat.{ℕ, suc, _+_, _*_, _<_, _≤_}
+use native.Mathlib.Omega.{arith}
+use lib.ListN.{length, getD, take, drop, length-append, List·getD-append}
+use lib.Seq.{length-take-le, getD-append-add, take-at}
+use Rattle.words.specs.Rows.{concat, put}
+use Rattle.words.proofs.Rows.{in-table}
+use Rattle.words.proofs.Puts.{length-front}
+use Rattle.logic.specs.Network.{Network}
+use Rattle.logic.specs.Table.{Line, lineIn, Recording, valueAt}
+use Rattle.logic.proofs.TableKeeps.{ConstantsIn}
+use Rattle.logic.proofs.Small.{InBits}
+use Rattle.values.specs.Said.{verdictWord}
+use Rattle.values.specs.Chain.{chains, chainWord, wordChain}
+use Rattle.values.specs.Signals.{signalIn}
+use Rattle.values.proofs.ChainWords.{word-said, word-back}
+use Rattle.values.proofs.ChainTable.{chains-valid, chains-margin, chains-verdict}
+use Rattle.verdicts.specs.Answer.{lineIndex, wordFor, lineWords}
+use Rattle.verdicts.proofs.AnswerWords.{sizes, lines-size, sizes-below, verdict-among}
+
+module _ (N : Network) (T : ℕ) (x : Recording) (samples : (s t l : ℕ) → InBits 26 (x s t l)) (lines : List Line) (constants : ConstantsIn (InBits 26) lines) where
+  -- the word of the chain number is that of verdict and margin
+  pub word-meant : (i t l : ℕ) → l < N.places → chainWord (valueAt chains N x lines i t l) ≡ wordFor N T x lines i t l
+  unfolding wordFor
+  word-meant i t l b =
+      word-said (valueAt chains N x lines i t l) (chains-valid N x samples lines constants i t l b)
+      ∙ ap₂ verdictWord (chains-verdict N x samples lines constants i t l b) (chains-margin N x samples lines constants i t l b)
+
+  module _ (answer : List ℕ) (head : 1 ≤ length answer) (k : ℕ) where
+    abbrev done : List ℕ
+    done = concat (lineWords N T x lines) k
+
+    before-line : take (lineIndex (N.places) lines k) (put answer 1 done) ≡ take 1 answer ++ done
+    unfolding put lineIndex
+    before-line =
+        take-at (take 1 answer ++ done) (drop (1 + length done) answer) (1 + sizes N T x lines k)
+        (length-front answer 1 done head ∙ ap (λ (m : ℕ). 1 + m) (lines-size N T x lines k))
+
+    pub signal-before : (first i t l : ℕ) → i < k → t < lineIn lines i .length → l < N.places
+        → signalIn (take (lineIndex (N.places) lines k) (put answer 1 done) ++ (first ∷ [])) (lineIndex (N.places) lines i + 1) (N.places) t l ≡ valueAt chains N x lines i t l
+    unfolding signalIn lineIndex
+    signal-before first i t l h u b =
+        let front : List ℕ = take 1 answer in
+        let one : length front ≡ 1 = length-take-le 1 answer head in
+        let j : ℕ = sizes N T x lines i + suc (t * N.places + l) in
+        let index : lineIndex (N.places) lines i + 1 + (t * N.places + l) ≡ length front + j = omega arith in
+        let inside : length front + j < length (front ++ done) =
+        omega (arith, length-append front done, lines-size N T x lines k, sizes-below N T x lines i k h, in-table u b) in
+        let word : getD (front ++ done ++ (first ∷ [])) (lineIndex (N.places) lines i + 1 + (t * N.places + l)) 0 ≡ wordFor N T x lines i t l =
+        ap (λ (m : ℕ). getD (front ++ done ++ (first ∷ [])) m 0) index ∙ List·getD-append (front ++ done) (first ∷ []) 0 (length front + j) inside
+        ∙ getD-append-add front done j 0 ∙ verdict-among N T x lines k i t l h u b in
+        ap (λ (w : List ℕ). wordChain (getD (w ++ (first ∷ [])) (lineIndex (N.places) lines i + 1 + (t * N.places + l)) 0)) before-line
+        ∙ ap wordChain (word ∙ sym (word-meant i t l b))
+        ∙ word-back (valueAt chains N x lines i t l) (chains-valid N x samples lines constants i t l b)

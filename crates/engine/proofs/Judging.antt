@@ -1,0 +1,58 @@
+-- How the outcome of the survey decides what is judged: a refusal as it is, an accepted sheet by the room for its answer.
+use mathlib.Core.Path.{_≡_, refl, sym, ap, subst, _∙_}
+use mathlib.Core.Bool.{Bool, true, false, cond}
+use mathlib.Core.List.{List}
+use Prim.Native.Nat.{ℕ, _<_, _≤_}
+use lib.Dec.{leb}
+use lib.ListN.{length, replicate}
+use borrow.Author.Tests.{le-leb, lt-leb}
+use Rattle.words.specs.Bytes.{wordsOf}
+use Rattle.words.proofs.Words.{length-words, words-zeros}
+use Rattle.sheet.specs.declared.check.Layout as Code
+use Rattle.sheet.specs.Checked.{accepted, refused}
+use Rattle.sheet.specs.Layout.{Layout, checked}
+use Rattle.sheet.specs.Checking.{mapped, layoutOf}
+use Rattle.sheet.specs.Survey.{surveyedBy, surveyed}
+use Rattle.sheet.proofs.Checks.{mapped-accepted, mapped-refused}
+use Rattle.verdicts.specs.Answer.{wordsNeeded}
+use Rattle.verdicts.specs.Judged.{Judged, refusal, answered, judgedBy, judged}
+use Rattle.engine.specs.Lines.{foundBy, found, Accepting}
+
+-- bytes that are all zero hold zero words
+pub zero-words : (b : List ℕ) → wordsOf (replicate (length b) 0) ≡ replicate (length (wordsOf b)) 0
+zero-words b = words-zeros (length b) ∙ ap (λ k. replicate k 0) (sym (length-words b))
+
+accepting-here : (s distances : List ℕ) (layout : Code.Layout) → mapped layoutOf (checked s (length distances)) ≡ accepted layout
+    → distances ≡ surveyed s (length distances) → Accepting s layout distances
+unfolding found surveyed
+accepting-here s distances layout e measured =
+    let (L, accepts, laid) = mapped-accepted layoutOf (checked s (length distances)) e in
+    let same : L ≡ found s (length distances) = sym (ap foundBy accepts) in
+    record {
+      accepts = accepts ∙ ap accepted same;
+      laid = sym laid ∙ ap layoutOf same;
+      measured = measured ∙ ap (surveyedBy s (length distances)) (accepts ∙ ap accepted same);
+    }
+
+-- after a survey that accepts
+pub accepting : (s distances : List ℕ) (room : ℕ) (layout : Code.Layout) → room ≡ length distances → mapped layoutOf (checked s room) ≡ accepted layout
+    → distances ≡ surveyed s room → Accepting s layout distances
+accepting s distances room layout lent e measured =
+    accepting-here s distances layout (subst (λ k. mapped layoutOf (checked s k) ≡ accepted layout) lent e) (subst (λ k. distances ≡ surveyed s k) lent measured)
+
+module _ (s : List ℕ) (room answer : ℕ) where
+  pub judged-refused : {number place : ℕ} → mapped layoutOf (checked s room) ≡ refused number place → judged s room answer ≡ refusal room answer number place
+  unfolding judged
+  judged-refused e = ap (judgedBy s room answer) (mapped-refused layoutOf (checked s room) e)
+
+  module _ (accepts : checked s room ≡ accepted (found s room)) where
+    by-room : {enough : Bool} → leb (wordsNeeded (found s room .sizes .places) (found s room .lines)) answer ≡ enough
+        → judged s room answer ≡ cond enough (answered s room answer (found s room)) (refusal room answer 15 (length s))
+    unfolding judged
+    by-room e = ap (judgedBy s room answer) accepts ∙ ap (λ (b : Bool). cond b (answered s room answer (found s room)) (refusal room answer 15 (length s))) e
+
+    pub judged-answered : wordsNeeded (found s room .sizes .places) (found s room .lines) ≤ answer → judged s room answer ≡ answered s room answer (found s room)
+    judged-answered h = by-room (le-leb _ _ h)
+
+    pub judged-short : answer < wordsNeeded (found s room .sizes .places) (found s room .lines) → judged s room answer ≡ refusal room answer 15 (length s)
+    judged-short h = by-room (lt-leb _ _ h)

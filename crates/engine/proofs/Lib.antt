@@ -1,0 +1,11 @@
+pub mod AcceptedTable
+pub mod SurroundTable
+pub mod LineReads
+pub mod LineWords
+pub mod EarlierLines
+pub mod LineMeant
+pub mod LinesDone
+pub mod Sizes
+pub mod WholeWriting
+pub mod Judging
+pub mod Calls

@@ -1,0 +1,89 @@
+-- A line behind its first word: what its verdicts are made from stands before them, and verdicts and rounds that are the line's at each point
+-- make it, whether they are found point by point or in blocks.
+use mathlib.Core.Path.{_≡_, refl, sym, ap, ap₂, _∙_}
+use mathlib.Core.List.{List, [], _∷_}
+use Prim.Native.Nat.{ℕ, zero, suc, _+_, _<_, _^_}
+use native.Mathlib.Omega.{arith}
+use lib.ListN.{length, getD, take, drop, set, length-set}
+use lib.Seq.{take-at}
+use Rattle.words.specs.Rows.{rows, put}
+use Rattle.words.proofs.Puts.{length-front, put-append, put-one}
+use Rattle.words.proofs.Rows.{rows-ext}
+use Rattle.logic.specs.Counts.{count, sumBelow, mostBelow}
+use Rattle.sheet.specs.declared.check.Layout.{Layout}
+use Rattle.sheet.specs.declared.operator.Bounds.{Bounds}
+use Rattle.sheet.specs.declared.operator.Operator.the-variants.{Surrounded}
+use Rattle.sheet.specs.declared.line.Line.{Line}
+use Rattle.sheet.specs.Decoding.{operatorSaid, lineSaid}
+use Rattle.values.specs.Chain.{chainWord, chainVerdict}
+use Rattle.surround.specs.Lanes.{surroundValue, surroundRounds}
+use Rattle.surround.proofs.Greatest.{most-le, most-same}
+use Rattle.verdicts.proofs.LineRows.{sum-same}
+use Rattle.verdicts.specs.Writing.{lineValue, lineRounds, Surveyed}
+use Rattle.verdicts.specs.SurroundLine.{SurroundWritten}
+use Rattle.engine.specs.Line.{firstWord, wordsUpTo, valueHere, roundsHere, LineWritten}
+use Rattle.engine.proofs.SurroundTable.{value-by-table, rounds-by-table}
+
+-- the greatest of no rounds
+most-none : (n m : ℕ) → 0 ≡ mostBelow (λ _. mostBelow (λ _. 0) m) n
+most-none n m = omega (arith, most-le (λ _. mostBelow (λ _. 0) m) n 0 (λ _ _. most-le (λ _. 0) m 0 (λ _ _. omega arith)))
+
+module _ (answer : List ℕ) (to : ℕ) (line : Line) {first : List ℕ} (room : to < length answer) (put-first : first ≡ set answer to (firstWord (lineSaid line))) where
+  -- ---- the first word
+
+  first-put : first ≡ put answer to (firstWord (lineSaid line) ∷ [])
+  first-put = put-first ∙ put-one answer to (firstWord (lineSaid line)) room
+
+  pub length-kept : length first ≡ length answer
+  length-kept = ap length put-first ∙ length-set answer to (firstWord (lineSaid line))
+
+  pub before-verdicts : take (to + 1) first ≡ wordsUpTo answer to (lineSaid line)
+  unfolding put
+  before-verdicts =
+      ap (take (to + 1)) first-put
+      ∙ take-at (wordsUpTo answer to (lineSaid line)) (drop (to + 1) answer) (to + 1) (length-front answer to (firstWord (lineSaid line) ∷ []) (omega arith))
+
+  behind-first : (v : List ℕ) → put first (to + 1) v ≡ put answer to (firstWord (lineSaid line) ∷ v)
+  behind-first v = ap (λ w. put w (to + 1) v) first-put ∙ put-append answer to (firstWord (lineSaid line) ∷ []) v (omega arith)
+
+  module _ {s : List ℕ} {L : Layout} {starts : List ℕ} where
+    -- ---- values and rounds that are the line's at each point
+
+    line-written : (value roundsOf : ℕ → ℕ → ℕ)
+        → ((t l : ℕ) → l < L .places → value t l ≡ valueHere s L answer starts to (lineSaid line) t l)
+        → ((t l : ℕ) → l < L .places → roundsOf t l ≡ roundsHere s L answer starts to (lineSaid line) t l)
+        → {after : List ℕ} {rounds yes : ℕ}
+        → after ≡ put first (to + 1) (rows (λ t l. chainWord (value t l)) (line .length) (L .places))
+        → yes ≡ sumBelow (λ t. sumBelow (λ l. count (chainVerdict (value t l))) (L .places)) (line .length)
+        → rounds ≡ mostBelow (λ t. mostBelow (roundsOf t) (L .places)) (line .length)
+        → LineWritten s L answer starts to (lineSaid line) after rounds yes
+    line-written value roundsOf same same-rounds written counted greatest = record {
+      written = written ∙ behind-first (rows (λ t l. chainWord (value t l)) (line .length) (L .places))
+          ∙ ap (λ v. put answer to (firstWord (lineSaid line) ∷ v)) (rows-ext _ _ (line .length) (L .places) (λ t l _ b. ap chainWord (same t l b)));
+      counted = counted ∙ sum-same _ _ (line .length) (λ t _. sum-same _ _ (L .places) (λ l b. ap (λ c. count (chainVerdict c)) (same t l b)));
+      greatest = greatest ∙ most-same _ _ (line .length) (λ t _. most-same _ _ (L .places) (λ l b. same-rounds t l b));
+    }
+
+    pub points-written : ((t l : ℕ) → lineRounds s L (wordsUpTo answer to (lineSaid line)) starts (operatorSaid (line .operator)) t l ≡ 0)
+        → {after : List ℕ} {yes : ℕ}
+        → after ≡ put first (to + 1) (rows (λ t l. chainWord (lineValue s L (take (to + 1) first) starts (operatorSaid (line .operator)) t l)) (line .length) (L .places))
+        → yes ≡ sumBelow (λ t. sumBelow (λ l. count (chainVerdict (lineValue s L (take (to + 1) first) starts (operatorSaid (line .operator)) t l))) (L .places)) (line .length)
+        → LineWritten s L answer starts to (lineSaid line) after 0 yes
+    unfolding valueHere roundsHere
+    points-written none written counted = line-written _ (λ _ _. 0)
+        (λ t l _. ap (λ w. lineValue s L w starts (operatorSaid (line .operator)) t l) before-verdicts)
+        (λ t l _. sym (none t l)) written counted (most-none (line .length) (L .places))
+
+    module _ {distances : List ℕ} (survey : Surveyed s L distances) {i j : ℕ} {b : Bounds} (said : line .operator ≡ Surrounded i j b) (small : b .upper < 2 ^ 28) where
+      pub surround-written : {after : List ℕ} {rounds yes : ℕ}
+          → SurroundWritten first (take (to + 1) first) (getD starts i 0) (getD starts j 0) L s distances (b .lower) (b .upper) (to + 1) (line .length) after rounds yes
+          → LineWritten s L answer starts to (lineSaid line) after rounds yes
+      unfolding valueHere roundsHere
+      surround-written done = line-written _ _
+          (λ t l h. ap (λ w. surroundValue w (getD starts i 0) (getD starts j 0) (L .places) s (L .roads) distances (b .lower) (b .upper) t l) before-verdicts
+          ∙ value-by-table s L distances survey _ starts i j (b .lower) (b .upper) t l small h
+          ∙ ap (λ o. lineValue s L (wordsUpTo answer to (lineSaid line)) starts (operatorSaid o) t l) (sym said))
+          (λ t l h. ap (λ w. surroundRounds w (getD starts i 0) (getD starts j 0) (L .places) s (L .roads) distances (b .lower) (b .upper) t l) before-verdicts
+          ∙ rounds-by-table s L distances survey _ starts i j (b .lower) (b .upper) t l small h
+          ∙ ap (λ o. lineRounds s L (wordsUpTo answer to (lineSaid line)) starts (operatorSaid o) t l) (sym said))
+          (done .written) (done .counted) (done .greatest)

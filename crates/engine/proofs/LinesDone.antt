@@ -1,0 +1,192 @@
+-- What stands after the first k lines are written; that line k can be written on it, and what it then becomes.
+use mathlib.Core.Path.{_≡_, refl, sym, _∙_, ap, ap₂, subst}
+use mathlib.Core.Logic.{⊎-elim}
+use mathlib.Core.List.{List, [], _∷_}
+use Prim.Native.Nat.{ℕ, _+_, _*_, _<_, _≤_, _^_, max}
+use native.Mathlib.Nat.{not-suc-le-zero, mul-le-mul}
+use native.Mathlib.Numerals.{add-one}
+use native.Mathlib.Omega.{arith}
+use lib.ListN.{length, getD, set, take, replicate, length-append, length-set, length-replicate}
+use lib.Seq.{length-take-le, getD-set-same, getD-set-other}
+use Rattle.words.specs.Rows.{concat, put}
+use Rattle.words.proofs.Puts.{put-nil, length-put, put-append}
+use Rattle.logic.specs.Table.{Line, lineIn, verdicts, margins, valueAt}
+use Rattle.logic.specs.Counts.{count, sumBelow, mostBelow, roundsAt, greatestRounds, yesCount}
+use Rattle.logic.proofs.Tests.{below}
+use Rattle.logic.proofs.TableKeeps.{ConstantsIn}
+use Rattle.logic.proofs.Small.{InBits}
+use Rattle.sheet.specs.declared.check.Layout as Code
+use Rattle.sheet.specs.Limits.{mostLines}
+use Rattle.sheet.specs.Checked.{wordAt}
+use Rattle.sheet.specs.Layout.{Layout}
+use Rattle.sheet.specs.Roads.{network, recording}
+use Rattle.sheet.proofs.AcceptedLines.{sample-bits, lengthsOf, good-length, good-constants}
+use Rattle.values.specs.Chain.{chains, Valid}
+use Rattle.values.proofs.Machine.{byte-count}
+use Rattle.values.proofs.ChainTable.{chains-valid}
+use Rattle.verdicts.specs.Answer.{lineIndex, lineWords}
+use Rattle.verdicts.specs.Writing.{sheetNetwork, sheetRecording, earlier, lineValue, lineRounds}
+use Rattle.verdicts.proofs.AnswerWords.{lines-size, sizes-below}
+use Rattle.verdicts.proofs.LineRows.{sum-more, sum-bound, most-more}
+use Rattle.engine.specs.Line.{LineReady, LineWritten, firstWord, wordsUpTo, valueHere, roundsHere}
+use Rattle.engine.specs.Lines.{found, Accepting, LinesWritten}
+use Rattle.engine.proofs.AcceptedTable.{Table, line-ends}
+use Rattle.engine.proofs.EarlierLines.{signal-before}
+use Rattle.engine.proofs.LineMeant.{words-meant, yes-meant, rounds-meant}
+
+module _ (s : List ℕ) (layout : Code.Layout) (lines : List Line) where
+  -- the words, the greatest rounds and the yes verdicts of one line
+  abbrev pub wordsOfLine : ℕ → List ℕ
+  wordsOfLine = lineWords (sheetNetwork s layout) (layout .samples) (sheetRecording s layout) lines
+
+  abbrev pub roundsOfLine : ℕ → ℕ
+  roundsOfLine i = mostBelow (λ t. mostBelow (λ l.
+      roundsAt (sheetNetwork s layout) (valueAt margins (sheetNetwork s layout) (sheetRecording s layout) lines) (lineIn lines i .operator) t l) (layout .places)) (lineIn lines i .length)
+
+  abbrev pub yesOfLine : ℕ → ℕ
+  yesOfLine i = sumBelow (λ t. sumBelow (λ l. count (valueAt verdicts (sheetNetwork s layout) (sheetRecording s layout) lines i t l)) (layout .places)) (lineIn lines i .length)
+
+  pub record LinesDone (answer : List ℕ) (k : ℕ) (words starts : List ℕ) (to rounds yes : ℕ) : Type 0 where
+    -- where the signal of each line begins, and where the next line will
+    pub room : length starts ≡ mostLines
+    pub begins : (i : ℕ) → i < k → getD starts i 0 ≡ lineIndex (layout .places) lines i + 1
+    pub ends : to ≡ lineIndex (layout .places) lines k
+    pub written : words ≡ put answer 1 (concat wordsOfLine k)
+    pub greatest : rounds ≡ mostBelow roundsOfLine k
+    pub counted : yes ≡ sumBelow yesOfLine k
+
+  pub none-done : (answer : List ℕ) → LinesDone answer 0 answer (replicate mostLines 0) 1 0 0
+  unfolding lineIndex concat sumBelow mostBelow
+  none-done answer = record {
+    room = length-replicate {A = ℕ} mostLines 0;
+    begins = λ i h. absurd (not-suc-le-zero h);
+    ends = refl;
+    written = sym (put-nil answer 1);
+    greatest = refl;
+    counted = refl;
+  }
+
+-- all lines done is what the contract says
+pub all-done : (s : List ℕ) (layout : Code.Layout) (distances answer words starts : List ℕ) (k to rounds yes : ℕ) → Accepting s layout distances
+    → k ≡ length (found s (length distances) .lines) → LinesDone s layout (found s (length distances) .lines) answer k words starts to rounds yes
+    → LinesWritten s (found s (length distances)) answer words to rounds yes
+unfolding network recording sheetRecording greatestRounds yesCount
+all-done s layout distances answer words starts k to rounds total accepting last done =
+    let L : Layout = found s (length distances) in
+    let all = subst (λ (y : Code.Layout). LinesDone s y (L .lines) answer (length (L .lines)) words starts to rounds total) (accepting .laid) (rw last at done) in
+    record { written = all .written; ends = all .ends; greatest = all .greatest; counted = all .counted }
+
+module _ (s : List ℕ) (layout : Code.Layout) (distances : List ℕ) (lines : List Line) (table : Table s layout distances lines) where
+  samples : (signal t l : ℕ) → InBits 26 (sheetRecording s layout signal t l)
+  unfolding sheetRecording
+  samples signal t l = sample-bits (wordAt s (layout .recording + ((t * layout .places + l) * layout .signals + signal)))
+
+  constants : ConstantsIn (InBits 26) lines
+  constants = good-constants (layout .signals) (layout .samples) lines (table .good)
+
+  -- no line has more than 64 * 1024 verdicts
+  pub yes-few : (k : ℕ) → k < mostLines → sumBelow (yesOfLine s layout lines) (k + 1) ≤ 2 ^ 22
+  yes-few k h = omega (arith, sum-bound (yesOfLine s layout lines) 65536 one (k + 1))
+    where
+      one : (i : ℕ) → yesOfLine s layout lines i ≤ 65536
+      one i =
+          let n : ℕ = layout .places in
+          let row : (t : ℕ) → sumBelow (λ l. count (valueAt verdicts (sheetNetwork s layout) (sheetRecording s layout) lines i t l)) n ≤ n * 1
+          = λ t. sum-bound _ 1 (λ l. byte-count (valueAt verdicts (sheetNetwork s layout) (sheetRecording s layout) lines i t l) .1) n in
+          let long : lineIn lines i .length ≤ 1024 = omega (arith, good-length (layout .signals) (layout .samples) lines (table .good) i, table .sizes .samples) in
+          let wide : n * 1 ≤ 64 = omega (arith, table .sizes .places) in
+          omega (arith, sum-bound _ (n * 1) row (lineIn lines i .length), mul-le-mul long wide)
+
+  module _ (answer : List ℕ) (enough : lineIndex (layout .places) lines (layout .lines) ≤ length answer)
+      (k : ℕ) (inside : k < length lines) (words starts : List ℕ) (to rounds yes : ℕ) (done : LinesDone s layout lines answer k words starts to rounds yes) where
+    abbrev n : ℕ
+    n = layout .places
+
+    before : List ℕ
+    before = wordsUpTo words to (lineIn lines k)
+
+    -- the words of the lines up to k fit
+    fits : lineIndex n lines k + (1 + lineIn lines k .length * n) ≤ length answer
+    unfolding lineIndex
+    fits = omega (arith, enough, ap (lineIndex n lines) (table .counted), sizes-below (sheetNetwork s layout) (layout .samples) (sheetRecording s layout) lines k (length lines) inside)
+
+    length-done : length (concat (wordsOfLine s layout lines) k) + 1 ≡ lineIndex n lines k
+    unfolding lineIndex
+    length-done = omega (arith, lines-size (sheetNetwork s layout) (layout .samples) (sheetRecording s layout) lines k)
+
+    length-kept : length words ≡ length answer
+    length-kept = ap length (done .written) ∙ length-put answer 1 (concat (wordsOfLine s layout lines) k) (omega (arith, fits, length-done))
+
+    room-left : to + (1 + lineIn lines k .length * n) ≤ length words
+    room-left = omega (arith, fits, length-kept, done .ends)
+
+    signal-here : (i t l : ℕ) → i < k → t < lengthsOf lines i → l < n → earlier s layout before starts i t l ≡ valueAt chains (sheetNetwork s layout) (sheetRecording s layout) lines i t l
+    unfolding before
+    signal-here i t l h u b =
+        rw (done .begins i h, done .ends, done .written)
+        (signal-before (sheetNetwork s layout) (layout .samples) (sheetRecording s layout) samples lines constants answer (omega (arith, fits, length-done)) k (firstWord (lineIn lines k)) i t l h u b)
+
+    ready : LineReady s layout distances (wordsUpTo words to (lineIn lines k)) starts (lineIn lines k)
+    unfolding before lineIndex
+    ready = record {
+      surveyed = table .surveyed;
+      roads = table .roads;
+      earlier = k;
+      lengths = lengthsOf lines;
+      good = table .good k inside;
+      known = omega (arith, done .room, table .sizes .count);
+      written = λ i h. omega (
+        arith,
+        done .begins i h,
+        done .ends,
+        length-append (take to words) (firstWord (lineIn lines k) ∷ []),
+        length-take-le to words (omega (arith, room-left)),
+        sizes-below (sheetNetwork s layout) (layout .samples) (sheetRecording s layout) lines i k h,
+      );
+      valid = λ i t l h u b. subst Valid (sym (signal-here i t l h u b)) (chains-valid (sheetNetwork s layout) (sheetRecording s layout) samples lines constants i t l b);
+    }
+
+    -- the line's words go behind those before it
+    joined : put words to (wordsOfLine s layout lines k) ≡ put answer 1 (concat (wordsOfLine s layout lines) (k + 1))
+    unfolding concat
+    joined =
+        let at : to ≡ 1 + length (concat (wordsOfLine s layout lines) k) = omega (arith, done .ends, length-done) in
+        ap₂ (λ (w : List ℕ) (a : ℕ). put w a (wordsOfLine s layout lines k)) (done .written) at
+        ∙ rw (add-one k) (put-append answer 1 (concat (wordsOfLine s layout lines) k) (wordsOfLine s layout lines k) (omega (arith, fits, length-done)))
+
+    begun : (i : ℕ) → i < k + 1 → getD (set starts k (to + 1)) i 0 ≡ lineIndex n lines i + 1
+    begun i h = ⊎-elim
+        (λ e. rw e (getD-set-same starts k (to + 1) 0 (omega (arith, done .room, table .sizes .count)) ∙ ap (λ a. a + 1) (done .ends)))
+        (λ l. getD-set-other starts k i (to + 1) 0 (λ e. omega arith) ∙ done .begins i l)
+        (below (omega arith))
+
+    more-done : (after : List ℕ) (r y greater : ℕ) → LineWritten s layout words starts to (lineIn lines k) after r y → greater ≡ max rounds r
+        → LinesDone s layout lines answer (k + 1) after (set starts k (to + 1)) (to + (1 + lineIn lines k .length * n)) greater (yes + y)
+    unfolding before valueHere roundsHere lineValue lineRounds lineWords
+    more-done after r y greater here is-greater =
+        let N = sheetNetwork s layout in
+        let x = sheetRecording s layout in
+        let T : ℕ = layout .samples in
+        let meant = words-meant N T x samples lines constants (layout .signals) (table .good) k inside (earlier s layout before starts) signal-here in
+        let many = yes-meant N T x samples lines constants (layout .signals) (table .good) k inside (earlier s layout before starts) signal-here in
+        let most = rounds-meant N T x samples lines constants (layout .signals) (table .good) k inside (earlier s layout before starts) signal-here in
+        record {
+          room = length-set starts k (to + 1) ∙ done .room;
+          begins = begun;
+          ends = omega (arith, done .ends, line-ends n T lines k inside (table .sizes) refl);
+          written = here .written ∙ ap (λ (w : List ℕ). put words to (firstWord (lineIn lines k) ∷ w)) meant ∙ joined;
+          greatest = is-greater ∙ ap₂ max (done .greatest) (here .greatest ∙ most) ∙ sym (most-more (roundsOfLine s layout lines) k);
+          counted = ap₂ _+_ (done .counted) (here .counted ∙ many) ∙ sym (sum-more (yesOfLine s layout lines) k);
+        }
+
+    -- the same of the line as it was decoded
+    module _ (line : Line) (said : line ≡ lineIn lines k) where
+      pub line-fits : to + (1 + line .length * n) ≤ length words
+      line-fits = rw said room-left
+
+      pub line-ready : LineReady s layout distances (wordsUpTo words to line) starts line
+      line-ready = rw said ready
+
+      pub line-done : (after : List ℕ) (r y greater : ℕ) → LineWritten s layout words starts to line after r y → greater ≡ max rounds r
+          → LinesDone s layout lines answer (k + 1) after (set starts k (to + 1)) (to + (1 + line .length * n)) greater (yes + y)
+      line-done after r y greater here is-greater = rw said (more-done after r y greater (rw said at here) is-greater)

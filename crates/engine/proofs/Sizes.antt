@@ -1,0 +1,36 @@
+-- The sizes of the answer to an accepted sheet: the limits of its head, and where its lines end.
+use mathlib.Core.Path.{_≡_}
+use mathlib.Core.List.{List}
+use Prim.Native.Nat.{ℕ, _+_, _^_, _<_, _≤_}
+use native.Mathlib.Omega.{arith}
+use lib.ListN.{length}
+use Rattle.words.specs.Rows.{concat}
+use Rattle.logic.specs.Network.{Network}
+use Rattle.logic.specs.Table.{Line, Recording}
+use Rattle.sheet.specs.declared.check.Layout as Code
+use Rattle.sheet.specs.Limits.{mostPlaces, mostLines, mostSamples}
+use Rattle.sheet.specs.Layout.{Layout}
+use Rattle.sheet.proofs.Whole.{accepted-sheet}
+use Rattle.verdicts.specs.Answer.{lineIndex, lineWords}
+use Rattle.verdicts.proofs.AnswerWords.{lines-size}
+use Rattle.verdicts.proofs.WholeAnswer.{InAnswer, index-bound}
+use Rattle.verdicts.proofs.Accepted.{sizes}
+use Rattle.engine.specs.Lines.{found, Accepting}
+
+-- behind the head, the words of the first k lines end where line k begins
+pub lines-end : (N : Network) (T : ℕ) (x : Recording) (lines : List Line) (k : ℕ) → 1 + length (concat (lineWords N T x lines) k) ≡ lineIndex (N.places) lines k
+unfolding lineIndex
+lines-end N T x lines k = omega (arith, lines-size N T x lines k)
+
+module _ {s : List ℕ} {layout : Code.Layout} {distances : List ℕ} (accepting : Accepting s layout distances) where
+  abbrev L : Layout
+  L = found s (length distances)
+
+  within : InAnswer (L .sizes .places) (L .sizes .samples) (L .lines)
+  within = sizes s (length distances) L (accepted-sheet s (length distances) L (accepting .accepts))
+
+  pub limits : (layout .places ≤ mostPlaces) × (layout .lines ≤ mostLines) × (layout .samples ≤ mostSamples)
+  limits = rw (accepting .laid) (within .places .1, within .count .1, within .samples .1)
+
+  pub end-bound : lineIndex (L .sizes .places) (L .lines) (length (L .lines)) < 2 ^ 28
+  end-bound = omega (arith, index-bound (L .sizes .places) (L .sizes .samples) (L .lines) within (length (L .lines)) (omega arith), within .count)

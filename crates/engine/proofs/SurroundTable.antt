@@ -1,0 +1,56 @@
+-- The surround that the table of distances and the sheet's roads give is that of the sheet's network, and so are its rounds: both look at the
+-- places below n alone, and there a test of range by the table is that of the network.
+use mathlib.Core.Path.{_≡_, ap, ap₂}
+use mathlib.Core.Bool.{Bool, cond, _&&_}
+use mathlib.Core.List.{List}
+use Prim.Native.Nat.{ℕ, _<_, _^_}
+use lib.ListN.{getD}
+use Rattle.logic.specs.Lattice.{Lattice, verdictLattice}
+use Rattle.logic.specs.Margin.{marginLattice}
+use Rattle.logic.specs.Network.{joined, within}
+use Rattle.logic.specs.Surround.{holds, boundary, allowed, regionValue, surround}
+use Rattle.logic.specs.Iteration.{masked}
+use Rattle.logic.specs.Table.{Surrounded, surroundAt, value}
+use Rattle.logic.specs.Counts.{roundsAt}
+use Rattle.logic.proofs.Keeps.{same-kept, least-kept, region-kept}
+use Rattle.logic.proofs.Rounds.{rounds-same}
+use Rattle.sheet.specs.declared.check.Layout.{Layout}
+use Rattle.values.specs.Chain.{chainLattice, chainMargin}
+use Rattle.values.specs.Signals.{inTable}
+use Rattle.surround.specs.Lanes.{joinedBy, surroundValue, surroundRounds}
+use Rattle.verdicts.specs.Writing.{sheetNetwork, earlier, lineValue, lineRounds, Surveyed}
+use Rattle.verdicts.proofs.Points.{range-at}
+
+-- ---- any tests that are the same below n
+
+module _ (L : Lattice) {n : ℕ} where
+  masked-tests : {test test′ : ℕ → Bool} → ((k : ℕ) → k < n → test k ≡ test′ k) → (f : ℕ → L.Value) (k : ℕ) → k < n → masked L test f k ≡ masked L test′ f k
+  unfolding masked
+  masked-tests h f k b = ap (λ t. cond t (f k) (L .bottom)) (h k b)
+
+  surround-tests : (joined : ℕ → ℕ → Bool) (inside edge inside′ edge′ : ℕ → Bool) → ((k : ℕ) → k < n → inside k ≡ inside′ k) → ((k : ℕ) → k < n → edge k ≡ edge′ k)
+      → (p q : ℕ → L.Value) (l : ℕ) → surround L joined n inside edge p q l ≡ surround L joined n inside′ edge′ p q l
+  unfolding surround allowed
+  surround-tests joined inside edge inside′ edge′ hi he p q l = region-kept L L (λ a b. a ≡ b) (same-kept L) n _ _
+      (λ A. ap₂ (λ x y. cond (holds A l && (x && y)) (regionValue L joined n p q (holds A)) (L .bottom))
+      (least-kept verdictLattice verdictLattice (λ a b. a ≡ b) (same-kept verdictLattice) (holds A) inside inside′ n hi)
+      (least-kept verdictLattice verdictLattice (λ a b. a ≡ b) (same-kept verdictLattice) (boundary joined n (holds A)) edge edge′ n he))
+
+-- ---- those of a surveyed sheet
+
+module _ (s : List ℕ) (L : Layout) (distances : List ℕ) (survey : Surveyed s L distances) (words starts : List ℕ) (i j lower upper t l : ℕ) (small : upper < 2 ^ 28)
+    (place : l < L .places) where
+  range : (from k : ℕ) → k < L .places → inTable distances (L .places) l from upper k ≡ within (sheetNetwork s L) l from upper k
+  range from k b = range-at s L distances survey from upper l k small place b
+
+  pub value-by-table : surroundValue words (getD starts i 0) (getD starts j 0) (L .places) s (L .roads) distances lower upper t l
+      ≡ lineValue s L words starts (Surrounded i j lower upper) t l
+  unfolding surroundValue lineValue value surroundAt joinedBy joined
+  value-by-table = surround-tests chainLattice (joined (sheetNetwork s L)) _ _ _ _ (range 0) (range lower) (earlier s L words starts i t) (earlier s L words starts j t) l
+
+  pub rounds-by-table : surroundRounds words (getD starts i 0) (getD starts j 0) (L .places) s (L .roads) distances lower upper t l
+      ≡ lineRounds s L words starts (Surrounded i j lower upper) t l
+  unfolding surroundRounds lineRounds roundsAt joinedBy joined
+  rounds-by-table = rounds-same (joined (sheetNetwork s L)) (L .places) _ _ _ _
+      (masked-tests marginLattice (range 0) (λ k. chainMargin (earlier s L words starts i t k)))
+      (masked-tests marginLattice (range lower) (λ k. chainMargin (earlier s L words starts j t k)))

@@ -1,0 +1,153 @@
+-- The head, the lines and the end are put one after the other, and the part behind the end is lent to be cleared.
+use mathlib.Core.Path.{_≡_, sym, ap, ap₂, subst, _∙_}
+use mathlib.Core.List.{List, [], _∷_, _++_}
+use Prim.Native.Nat.{ℕ, _+_, _-_, _*_, _^_, _<_, _≤_}
+use native.Mathlib.Omega.{arith}
+use lib.ListN.{length, set, take, replicate, length-append, length-drop}
+use borrow.Author.Needs.{needs}
+use Rattle.words.specs.Bytes.{wordsOf, numbersOf}
+use Rattle.words.specs.Word.{wordOf}
+use Rattle.words.specs.Rows.{concat, padded, put}
+use Rattle.words.proofs.Parts.{tail-list, tail-back}
+use Rattle.words.proofs.Words.{words-count}
+use Rattle.sheet.specs.Layout.{Layout}
+use Rattle.sheet.specs.Checking.{layoutOf}
+use Rattle.sheet.specs.Roads.{network, recording}
+use Rattle.verdicts.specs.Answer.{lineIndex, wordsNeeded, lineWords, headWord, answerWords}
+use Rattle.engine.specs.Lines.{found}
+use Rattle.engine.proofs.Sizes.{lines-end, limits, end-bound}
+use Rattle.engine.proofs.WholeWriting.{three-parts, zeros-behind}
+use Rattle.engine.proofs.answer.write_answer.Statement.{statement}
+use Rattle.engine.proofs.answer.write_answer.Tie as tie
+
+abbrev Found : tie.Start → Layout
+Found c = found (wordsOf (c .args .sheet .now)) (length (numbersOf (wordsOf (c .args .distances .now))))
+
+abbrev End : tie.Start → ℕ
+End c = lineIndex (Found c .sizes .places) (Found c .lines) (length (Found c .lines))
+
+-- the lines and the word of the end have room
+room : (c : tie.Start) → End c < length (wordsOf (c .args .answer .now))
+unfolding wordsNeeded
+room c = omega (arith, c .pre .1)
+
+-- the index that the lines have come to, and the lengths that stay
+ends : (c : tie.After-struct-known) → (c .before .before .before .before .write-lines .result .end ≡ End (c .before .before .before .before .before .before .before .before .before .before .before .before .before .before)) × (length (c .before .before .before .before .write-lines .last .1 .1 .1 .0) ≡ length (c .before .before .before .before .before .before .before .before .before .before .before .before .before .before .args .answer .now))
+ends c = (c .before .before .before .before .write-lines .ensures .ends, c .before .before .before .before .write-lines .kept .1 .1 .1 .0 ∙ c .before .before .before .before .before .before .before .before .put-word .kept .0)
+
+head-word-requires : tie.Need-head-word-requires
+head-word-requires c κs = limits (c .before .before .before .before .pre .0)
+
+put-word-requires : tie.Need-put-word-requires
+put-word-requires c κs = omega (arith, room (c .before .before .before .before .before))
+
+write-lines-requires : tie.Need-write-lines-requires
+write-lines-requires c κs =
+    let start = c .before .before .before .before .before .before .before .before .before in
+    let bytes = c .before .before .before .put-word .last .0 in
+    let fits : End start ≤ length (wordsOf bytes) = omega (arith, room start, c .before .before .before .put-word .kept .0, words-count bytes, words-count (start .args .answer .now)) in
+    (start .pre .0, rw (start .pre .0 .laid) fits)
+
+cast-put-word : tie.Need-cast-put-word
+cast-put-word c = omega (arith, ends c, end-bound (c .before .before .before .before .before .before .before .before .before .before .before .before .before .before .pre .0))
+
+add-put-word : tie.Need-add-put-word
+add-put-word c = omega (arith, ends c, end-bound (c .before .before .before .before .before .before .before .before .before .before .before .before .before .before .pre .0))
+
+put-word-requires-2 : tie.Need-put-word-requires-2
+put-word-requires-2 c κs = omega (arith, ends c, room (c .before .before .before .before .before .before .before .before .before .before .before .before .before .before), words-count (c .before .before .before .before .write-lines .last .1 .1 .1 .0), words-count (c .before .before .before .before .before .before .before .before .before .before .before .before .before .before .args .answer .now))
+
+-- the answer ends inside what is lent
+inside : (c : tie.After-struct-known2) → (c .before .before .before .before .before .before .before .before .write-lines .result .end + 1) * 4 ≤ length (c .before .before .before .put-word2 .last .0)
+inside c = omega (arith, ends (c .before .before .before .before), room (c .before .before .before .before .before .before .before .before .before .before .before .before .before .before .before .before .before .before), c .before .before .before .put-word2 .kept .0, words-count (c .before .before .before .before .before .before .before .before .before .before .before .before .before .before .before .before .before .before .args .answer .now))
+
+add-after : tie.Need-add-after
+add-after c = omega (arith, ends (c .before .before .before .before), end-bound (c .before .before .before .before .before .before .before .before .before .before .before .before .before .before .before .before .before .before .pre .0))
+
+mul-after : tie.Need-mul-after
+mul-after c = omega (arith, ends (c .before .before .before .before), end-bound (c .before .before .before .before .before .before .before .before .before .before .before .before .before .before .before .before .before .before .pre .0))
+
+sub-fill-zero : tie.Need-sub-fill-zero
+sub-fill-zero c = inside c
+
+part-fill-zero-start : tie.Need-part-fill-zero-start
+part-fill-zero-start c = inside c
+
+part-fill-zero-end : tie.Need-part-fill-zero-end
+part-fill-zero-end c = search needs
+
+fill-zero-requires : tie.Need-fill-zero-requires
+fill-zero-requires c κs = search needs
+
+same-length : tie.Need-same-length
+same-length c = search needs
+
+abbrev Whole : tie.Start → List ℕ
+Whole c =
+    let s = wordsOf (c .args .sheet .now) in
+    answerWords (network s (Found c)) (Found c .sizes .samples) (recording s (Found c)) (Found c .lines)
+
+whole-length : (c : tie.Start) → length (Whole c) ≡ End c + 1
+unfolding answerWords network
+whole-length c =
+    let s = wordsOf (c .args .sheet .now) in
+    let L = Found c in
+    let middle = concat (lineWords (network s L) (L .sizes .samples) (recording s L) (L .lines)) (length (L .lines)) in
+    omega (arith, length-append middle (wordOf 15 (End c) ∷ []), lines-end (network s L) (L .sizes .samples) (recording s L) (L .lines) (length (L .lines)))
+
+-- the words up to the end
+parts : (c : tie.After-struct-known2) → wordsOf (c .before .before .before .put-word2 .last .0) ≡ put (wordsOf (c .before .before .before .before .before .before .before .before .before .before .before .before .before .before .before .before .before .before .args .answer .now)) 0 (Whole (c .before .before .before .before .before .before .before .before .before .before .before .before .before .before .before .before .before .before))
+unfolding answerWords headWord network
+parts c =
+    let start = c .before .before .before .before .before .before .before .before .before .before .before .before .before .before .before .before .before .before in
+    let s = wordsOf (start .args .sheet .now) in
+    let w = wordsOf (start .args .answer .now) in
+    let L = Found start in
+    let middle = concat (lineWords (network s L) (L .sizes .samples) (recording s L) (L .lines)) (length (L .lines)) in
+    let index : c .before .before .before .before .before .before .before .before .write-lines .result .end ≡ 1 + length middle =
+    ends (c .before .before .before .before) .0 ∙ sym (lines-end (network s L) (L .sizes .samples) (recording s L) (L .lines) (length (L .lines))) in
+    let head = c .before .before .before .before .before .before .before .before .before .before .before .before .before .head-word .ensures ∙ ap (λ l. wordOf 13 (l .places * 2 ^ 20 + l .lines * 2 ^ 12 + l .samples)) (start .pre .0 .laid) in
+    let lines = c .before .before .before .before .before .before .before .before .write-lines .ensures .written ∙ ap (λ v. put v 1 middle) (c .before .before .before .before .before .before .before .before .before .before .before .before .put-word .ensures ∙ ap (set w 0) head) in
+    c .before .before .before .put-word2 .ensures
+    ∙ ap₂ (λ v i. set v i (15 * 2 ^ 28 + i)) lines index
+    ∙ three-parts w middle (headWord (network s L) (L .sizes .samples) (recording s L) (L .lines)) _ (omega (arith, room start, ends (c .before .before .before .before)))
+    ∙ ap (λ i. put w 0 (headWord (network s L) (L .sizes .samples) (recording s L) (L .lines) ∷ (middle ++ ((15 * 2 ^ 28 + i) ∷ []))))
+    (lines-end (network s L) (L .sizes .samples) (recording s L) (L .lines) (length (L .lines)))
+
+returns : tie.Need-returns
+returns c =
+    let start = c .before .before .before .before .before .before .before .before .before .before .before .before .before .before .before .before .before .before .before .before .before .before in
+    let lines = c .before .before .before .before .before .before .before .before .before .before .before .before .write-lines in
+    let bytes = c .before .before .before .before .before .before .before .put-word2 .last .0 in
+    let k = lines .result .end + 1 in
+    let fits = inside (c .before .before .before .before) in
+    let count : length (Whole start) ≡ k = whole-length start ∙ ap (λ n. n + 1) (sym (lines .ensures .ends)) in
+    let same : length (wordsOf bytes) ≡ length (wordsOf (start .args .answer .now)) =
+    omega (arith, ends (c .before .before .before .before .before .before .before .before), c .before .before .before .before .before .before .before .put-word2 .kept .0, words-count bytes, words-count (start .args .answer .now)) in
+    let zeros = c .before .before .fill-zero .ensures ∙ ap (λ n. replicate n 0) (ap length (tail-list bytes (k * 4) fits) ∙ length-drop (k * 4) bytes) in
+    record {
+      written = ap wordsOf (tail-back bytes (c .before .before .fill-zero .last .0) (k * 4) fits ∙ ap (λ z. take (k * 4) bytes ++ z) zeros)
+          ∙ zeros-behind bytes (wordsOf (start .args .answer .now)) (Whole start) k (parts (c .before .before .before .before)) same count (omega (arith, room start, ends (c .before .before .before .before .before .before .before .before)));
+      ends = lines .ensures .ends;
+      greatest = lines .ensures .greatest;
+      counted = lines .ensures .counted;
+    }
+
+pub write-answer-spec : {M : Type 1} → statement M
+write-answer-spec =
+    tie.close
+    (tie.spec
+    head-word-requires
+    put-word-requires
+    write-lines-requires
+    cast-put-word
+    add-put-word
+    put-word-requires-2
+    add-after
+    mul-after
+    sub-fill-zero
+    part-fill-zero-start
+    part-fill-zero-end
+    fill-zero-requires
+    same-length
+    returns)

@@ -1,0 +1,179 @@
+-- The survey's outcome decides: a refusal leaves zeros, and so does an answer that has no room; all else is written.
+use mathlib.Core.Path.{_≡_, sym, ap, subst, _∙_}
+use mathlib.Core.List.{List}
+use Prim.Native.Nat.{ℕ, _<_, _≤_}
+use native.Mathlib.Omega.{arith}
+use lib.ListN.{length, replicate}
+use borrow.Author.Needs.{needs}
+use Rattle.words.specs.Bytes.{wordsOf, numbersOf}
+use Rattle.words.proofs.Numbers.{same-count}
+use Rattle.words.proofs.Words.{length-words}
+use Rattle.sheet.specs.Faults.{faultNumber}
+use Rattle.sheet.specs.Checking.{checkSaid}
+use Rattle.sheet.proofs.Surveys.{refusing, zero-numbers}
+use Rattle.verdicts.specs.Answer.{wordsNeeded}
+use Rattle.verdicts.specs.Judged.{Result, Judged, answered, judged}
+use Rattle.engine.specs.Lines.{found, Accepting}
+use Rattle.engine.specs.Result.{resultSaid}
+use Rattle.engine.proofs.Judging.{zero-words, accepting, judged-refused, judged-answered, judged-short}
+use Rattle.engine.proofs.judge.Statement.{statement}
+use Rattle.engine.proofs.judge.Tie as tie
+
+abbrev told : ℕ → ℕ → Result
+told number place = record { number = number; place = place; words = 0; rounds = 0; yes = 0 }
+
+-- after an accepting survey
+accepts : (c : tie.After-words-needed-arg) → Accepting (wordsOf (c .before .before .before .before .before .before .before .before .before .before .before .before .before .args .sheet .now)) (c .before .before .before .before .layout .given .0 .0) (numbersOf (wordsOf (c .before .before .before .before .before .before .before .before .survey .last .1 .0)))
+accepts c =
+    let g = c .before .before .before .before .before .before .before .before .before .before .before .before .before .args in
+    let survey = c .before .before .before .before .before .before .before .before .survey in
+    accepting (wordsOf (g .sheet .now)) (numbersOf (wordsOf (survey .last .1 .0))) (length (numbersOf (wordsOf (g .distances .now)))) (c .before .before .before .before .layout .given .0 .0)
+    (same-count (g .distances .now) (survey .last .1 .0) (sym (survey .kept .1 .0)))
+    (sym (survey .ensures .0) ∙ ap checkSaid (c .before .before .before .before .layout .given .1)) (survey .ensures .1)
+
+abbrev Needed : tie.After-words-needed-arg → ℕ
+Needed c =
+    let L = found (wordsOf (c .before .before .before .before .before .before .before .before .before .before .before .before .before .args .sheet .now)) (length (numbersOf (wordsOf (c .before .before .before .before .before .before .before .before .survey .last .1 .0)))) in
+    wordsNeeded (L .sizes .places) (L .lines)
+
+-- the words that its answer needs
+needed : (c : tie.After-words-needed) → c .words-needed .result ≡ Needed (c .before)
+needed c =
+    let L = found (wordsOf (c .before .before .before .before .before .before .before .before .before .before .before .before .before .before .args .sheet .now)) (length (numbersOf (wordsOf (c .before .before .before .before .before .before .before .before .before .survey .last .1 .0)))) in
+    c .words-needed .ensures ∙ ap (λ l. wordsNeeded (l .places) (L .lines)) (accepts (c .before) .laid)
+
+-- the survey leaves as many distances as were lent
+lent : (c : tie.After-words-needed-arg) → length (numbersOf (wordsOf (c .before .before .before .before .before .before .before .before .survey .last .1 .0))) ≡ length (numbersOf (wordsOf (c .before .before .before .before .before .before .before .before .before .before .before .before .before .args .distances .now)))
+lent c = same-count (c .before .before .before .before .before .before .before .before .survey .last .1 .0) (c .before .before .before .before .before .before .before .before .before .before .before .before .before .args .distances .now) (c .before .before .before .before .before .before .before .before .survey .kept .1 .0)
+
+survey-requires : tie.Need-survey-requires
+survey-requires c κs = search needs
+
+enum-known-fault : tie.Need-enum-known-fault
+enum-known-fault c = search needs
+
+fill-zero-requires : tie.Need-fill-zero-requires
+fill-zero-requires c κs = search needs
+
+number-requires : tie.Need-number-requires
+number-requires c κs = search needs
+
+refusal-requires : tie.Need-refusal-requires
+refusal-requires c κs = search needs
+
+enum-known-layout : tie.Need-enum-known-layout
+enum-known-layout c = search needs
+
+word-count-requires : tie.Need-word-count-requires
+word-count-requires c κs = search needs
+
+words-needed-requires : tie.Need-words-needed-requires
+words-needed-requires c κs = accepts c
+
+fill-zero-requires-2 : tie.Need-fill-zero-requires-2
+fill-zero-requires-2 c κs = search needs
+
+fill-zero-requires-3 : tie.Need-fill-zero-requires-3
+fill-zero-requires-3 c κs = search needs
+
+word-count-requires-2 : tie.Need-word-count-requires-2
+word-count-requires-2 c κs = search needs
+
+refusal-requires-2 : tie.Need-refusal-requires-2
+refusal-requires-2 c κs = search needs
+
+same-length : tie.Need-same-length
+same-length c = search needs
+
+same-length-2 : tie.Need-same-length-2
+same-length-2 c = search needs
+
+returns : tie.Need-returns
+returns c =
+    let g = c .before .before .before .before .before .before .before .before .before .before .before .before .before .before .before .before .before .before .before .before .before .before .before .before .before .args in
+    let s = wordsOf (g .sheet .now) in
+    let answer = length (wordsOf (g .answer .now)) in
+    let here = accepts (c .before .before .before .before .before .before .before .before .before .before .before .before) in
+    let short : answer < Needed (c .before .before .before .before .before .before .before .before .before .before .before .before) = omega (arith, needed (c .before .before .before .before .before .before .before .before .before .before .before), c .before .before .before .before .before .before .before .before .before .before .if1 .taken, c .before .before .before .before .before .before .before .before .before .before .before .before .before .word-count .ensures) in
+    let left = sym (judged-short s _ answer (here .accepts) short) ∙ ap (λ k. judged s k answer) (lent (c .before .before .before .before .before .before .before .before .before .before .before .before)) in (
+      ap resultSaid (c .refusal2 .ensures) ∙ ap (told 15) (c .before .word-count2 .ensures) ∙ ap (λ (j : Judged). j .result) left,
+      (
+        ap wordsOf (c .before .before .before .before .fill-zero3 .ensures) ∙ zero-words (g .answer .now) ∙ ap (λ (j : Judged). j .answer) left,
+        ap (λ b. numbersOf (wordsOf b)) (c .before .before .before .before .before .before .before .before .fill-zero2 .ensures) ∙ zero-numbers (c .before .before .before .before .before .before .before .before .before .before .before .before .before .before .before .before .before .before .before .before .survey .last .1 .0) ∙ ap (λ (j : Judged). j .distances) left,
+      ),
+    )
+
+-- there is room for the answer
+enough : (c : tie.Else1) → Needed (c .before .before) ≤ length (wordsOf (c .before .before .before .before .before .before .before .before .before .before .before .before .before .before .before .args .answer .now))
+enough c = omega (arith, needed (c .before), c .if1 .left, c .before .before .before .word-count .ensures)
+
+answer-sheet-requires : tie.Need-answer-sheet-requires
+answer-sheet-requires c κs = (accepts (c .before .before .before .before), enough (c .before .before))
+
+same-length-3 : tie.Need-same-length-3
+same-length-3 c = search needs
+
+same-length-4 : tie.Need-same-length-4
+same-length-4 c = search needs
+
+returns-2 : tie.Need-returns-2
+returns-2 c =
+    let g = c .before .before .before .before .before .before .before .before .before .before .before .before .before .before .before .before .args in
+    let s = wordsOf (g .sheet .now) in
+    let fault = c .before .before .before .before .before .before .before .fault .given in
+    let room = length (numbersOf (wordsOf (g .distances .now))) in
+    let left = sym (judged-refused s room (length (wordsOf (g .answer .now))) (sym (c .before .before .before .before .before .before .before .before .before .before .before .survey .ensures .0) ∙ ap checkSaid (fault .1))) in (
+      ap resultSaid (c .refusal .ensures) ∙ ap (λ n. told n (fault .0 .1 .0)) (c .before .number .ensures) ∙ ap (λ (j : Judged). j .result) left,
+      (
+        ap wordsOf (c .before .before .before .before .fill-zero .ensures) ∙ zero-words (g .answer .now) ∙ ap (λ (j : Judged). j .answer) left,
+        c .before .before .before .before .before .before .before .before .before .before .before .survey .ensures .1 ∙ refusing s room (faultNumber (fault .0 .0)) (fault .0 .1 .0) (sym (c .before .before .before .before .before .before .before .before .before .before .before .survey .ensures .0) ∙ ap checkSaid (fault .1)) ∙ ap (λ (j : Judged). j .distances) left,
+      ),
+    )
+
+same-length-5 : tie.Need-same-length-5
+same-length-5 c = search needs
+
+same-length-6 : tie.Need-same-length-6
+same-length-6 c = search needs
+
+returns-3 : tie.Need-returns-3
+unfolding answered
+returns-3 c =
+    let g = c .before .before .before .before .before .before .before .before .before .before .before .before .before .before .before .before .before .before .before .before .args in
+    let s = wordsOf (g .sheet .now) in
+    let answer = length (wordsOf (g .answer .now)) in
+    let here = accepts (c .before .before .before .before .before .before .before) in
+    let left = sym (judged-answered s _ answer (here .accepts) (enough (c .before .before .before .before .before))) ∙ ap (λ k. judged s k answer) (lent (c .before .before .before .before .before .before .before)) in (
+      c .before .before .answer-sheet .ensures .0 ∙ ap (λ (j : Judged). j .result) left,
+      (
+        c .before .before .answer-sheet .ensures .1 ∙ ap (λ (j : Judged). j .answer) left,
+        here .measured ∙ ap (λ (j : Judged). j .distances) left,
+      ),
+    )
+
+pub judge-spec : {M : Type 1} → statement M
+judge-spec =
+    tie.close
+    (tie.spec
+    survey-requires
+    enum-known-fault
+    fill-zero-requires
+    number-requires
+    refusal-requires
+    enum-known-layout
+    word-count-requires
+    words-needed-requires
+    fill-zero-requires-2
+    fill-zero-requires-3
+    word-count-requires-2
+    refusal-requires-2
+    same-length
+    same-length-2
+    returns
+    answer-sheet-requires
+    same-length-3
+    same-length-4
+    returns-2
+    same-length-5
+    same-length-6
+    returns-3)

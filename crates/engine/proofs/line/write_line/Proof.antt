@@ -1,0 +1,153 @@
+-- The first word is put, and the way of the line says which writer goes on behind it; what that writer asks for is what the line reads.
+use mathlib.Core.Path.{_≡_, sym, _∙_}
+use mathlib.Core.List.{List}
+use Prim.Native.Nat.{ℕ, _+_, _*_, _≤_, _<_}
+use native.Mathlib.Omega.{arith}
+use lib.ListN.{length, getD, take, set}
+use borrow.Author.Needs.{needs}
+use Rattle.words.specs.Bytes.{wordsOf, numbersOf}
+use Rattle.words.proofs.Words.{words-count}
+use Rattle.sheet.specs.declared.operator.Operator.the-variants.{Surrounded}
+use Rattle.sheet.specs.Decoding.{operatorSaid, lineSaid}
+use Rattle.verdicts.specs.Writing.{Readable}
+use Rattle.engine.specs.declared.line.Way.{Way}
+use Rattle.verdicts.specs.SurroundLine.{SurroundReady}
+use Rattle.engine.specs.Line.{firstWord, wordsUpTo}
+use Rattle.engine.proofs.LineReads.{Reads, line-reads, operands-known, upper-small, surround-ready}
+use Rattle.engine.proofs.LineWords.{length-kept, before-verdicts, points-written, surround-written}
+use Rattle.engine.proofs.line.write_line.Statement.{statement}
+use Rattle.engine.proofs.line.write_line.Tie as tie
+
+-- where both arms have come from
+module _ (c : tie.After-way-of) where
+  abbrev start : tie.Start
+  start = c .before .before .before .before .before .before .before .before .before .before .before
+
+  abbrev answer : List ℕ
+  answer = wordsOf (start .args .answer .now)
+
+  -- the answer with the line's first word
+  abbrev first : List ℕ
+  first = wordsOf (c .before .before .before .before .put-word .last .0)
+
+  room : start .args .to < length answer
+  room = omega (arith, start .pre .1)
+
+  put-first : first ≡ set answer (start .args .to) (firstWord (lineSaid (start .args .line)))
+  put-first = c .before .before .before .before .put-word .ensures
+
+  verdicts-room : start .args .to + 1 + start .args .line .length * start .args .layout .places ≤ length first
+  verdicts-room = omega (arith, start .pre .1, length-kept answer (start .args .to) (start .args .line) room put-first)
+
+  before-line : take (start .args .to + 1) first ≡ wordsUpTo answer (start .args .to) (lineSaid (start .args .line))
+  before-line = before-verdicts answer (start .args .to) (start .args .line) room put-first
+
+  -- what the line reads, by its way
+  reads : {way : Way} → c .way-of .result ≡ way → Reads (wordsOf (start .args .sheet .now)) (start .args .layout)
+      (wordsUpTo answer (start .args .to) (lineSaid (start .args .line))) (start .args .starts .now) (start .args .line .length) (start .args .line .operator) way
+  reads e = line-reads (start .args .line) (start .pre .0) (sym (c .way-of .ensures) ∙ e)
+
+-- the arm of a surround
+module _ (c : tie.After-left) where
+  abbrev way : tie.After-way-of
+  way = c .before .before
+
+  surrounded : start way .args .line .operator ≡ Surrounded (c .left .given .0 .0) (c .left .given .0 .1 .0) (c .left .given .0 .1 .1 .0)
+  surrounded = reads way (c .left .given .1)
+
+  known : (c .left .given .0 .0 < length (start way .args .starts .now)) × (c .left .given .0 .1 .0 < length (start way .args .starts .now))
+  known = operands-known (start way .args .line) (start way .pre .0) surrounded
+
+add-put-word : tie.Need-add-put-word
+add-put-word c = search needs
+
+put-word-requires : tie.Need-put-word-requires
+put-word-requires c κs = search needs
+
+add-begin : tie.Need-add-begin
+add-begin c = let begin = c .before .before .before .before .before .before .before .before .before in omega (arith, words-count (begin .args .answer .now), begin .pre .1)
+
+cast-samples : tie.Need-cast-samples
+cast-samples c = search needs
+
+way-of-requires : tie.Need-way-of-requires
+way-of-requires c κs = search needs
+
+enum-known-left : tie.Need-enum-known-left
+enum-known-left c = search needs
+
+mul-write-surround : tie.Need-mul-write-surround
+mul-write-surround c = omega (arith, known (c .before))
+
+shared-slice-read-write-surround : tie.Need-shared-slice-read-write-surround
+shared-slice-read-write-surround c = omega (arith, known (c .before .before))
+
+mul-write-surround-2 : tie.Need-mul-write-surround-2
+mul-write-surround-2 c = omega (arith, known (c .before .before))
+
+shared-slice-read-write-surround-2 : tie.Need-shared-slice-read-write-surround-2
+shared-slice-read-write-surround-2 c = omega (arith, known (c .before .before .before))
+
+write-surround-requires : tie.Need-write-surround-requires
+write-surround-requires c κs =
+    let arm = c .before .before .before .before in
+    let begin = start (way arm) in
+    let a = begin .args in
+    let ready : SurroundReady (take (a .to + 1) (first (way arm))) (getD (a .starts .now) (arm .left .given .0 .0) 0) (getD (a .starts .now) (arm .left .given .0 .1 .0) 0) (a .layout)
+    (wordsOf (a .sheet .now)) (numbersOf (wordsOf (a .distances .now))) (a .line .length) =
+    rw (before-line (way arm)) (surround-ready (a .line) (begin .pre .0) (surrounded arm)) in
+    (ready, verdicts-room (way arm))
+
+enum-told : tie.Need-enum-told
+enum-told c = search needs
+
+write-rows-requires : tie.Need-write-rows-requires
+write-rows-requires c κs =
+    let way = c .before .before .before in
+    let begin = start way in
+    let a = begin .args in
+    let readable : (t : ℕ) → t < a .line .length → Readable (a .layout) (take (a .to + 1) (first way)) (a .starts .now) (operatorSaid (a .line .operator)) t =
+    rw (before-line way) (reads way (c .before .enum-told .given .1) .0) in
+    (begin .pre .0 .surveyed, readable, verdicts-room way, omega (arith, begin .pre .0 .good .most, begin .pre .0 .surveyed .samples))
+
+same-length : tie.Need-same-length
+same-length c = search needs
+
+returns : tie.Need-returns
+returns c =
+    let arm = c .before .before .before .before .before .before .before in
+    let begin = start (way arm) in
+    surround-written (answer (way arm)) (begin .args .to) (begin .args .line) (room (way arm)) (put-first (way arm)) (begin .pre .0 .surveyed) (surrounded arm)
+    (upper-small (begin .args .line) (begin .pre .0) (surrounded arm)) (c .before .before .write-surround .ensures)
+
+same-length-2 : tie.Need-same-length-2
+same-length-2 c = search needs
+
+returns-2 : tie.Need-returns-2
+returns-2 c =
+    let arm = c .before .before .before .before in
+    let way = arm .before .before in
+    let (written, counted) = c .before .before .write-rows .ensures in
+    points-written (answer way) (start way .args .to) (start way .args .line) (room way) (put-first way) (reads way (arm .enum-told .given .1) .1) written counted
+
+pub write-line-spec : {M : Type 1} → statement M
+write-line-spec =
+    tie.close
+    (tie.spec
+    add-put-word
+    put-word-requires
+    add-begin
+    cast-samples
+    way-of-requires
+    enum-known-left
+    mul-write-surround
+    shared-slice-read-write-surround
+    mul-write-surround-2
+    shared-slice-read-write-surround-2
+    write-surround-requires
+    enum-told
+    write-rows-requires
+    same-length
+    returns
+    same-length-2
+    returns-2)

@@ -1,0 +1,4 @@
+pub mod Way
+pub mod Line
+pub mod Lines
+pub mod Result

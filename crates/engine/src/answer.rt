@@ -1,0 +1,42 @@
+// The whole answer to an accepted sheet: head, lines, end, and zeros behind it.
+use crate::lines::Written;
+use crate::lines::write_lines;
+use sheet::check::Layout;
+ghost use mathlib.Core.Path.{_≡_};
+ghost use Prim.Native.Nat.{_+_, _*_, _^_, _≤_};
+ghost use lib.ListN.{length};
+ghost use Rattle.words.specs.Bytes.{wordsOf, numbersOf};
+ghost use Rattle.words.specs.Word.{wordOf};
+ghost use Rattle.sheet.specs.Limits.{mostPlaces, mostLines, mostSamples};
+ghost use Rattle.verdicts.specs.Answer.{wordsNeeded};
+ghost use Rattle.engine.specs.Lines.{found, Accepting, AnswerWritten};
+
+// The kinds 13 and 15, in bits 31..28.
+const HEAD: u32 = 3489660928;
+
+const END: u32 = 4026531840;
+
+// The places, the lines and the samples of a sheet.
+fn head_word(layout: Layout) -> u32
+    requires { ⌜ (layout .places ≤ mostPlaces) × (layout .lines ≤ mostLines) × (layout .samples ≤ mostSamples) ⌝ }
+    ensures { λ r. ⌜ r ≡ wordOf 13 (layout .places * 2 ^ 20 + layout .lines * 2 ^ 12 + layout .samples) ⌝ }
+{
+    HEAD + layout.places as u32 * 1048576 + layout.lines as u32 * 4096 + layout.samples as u32
+}
+
+pub(crate) fn write_answer(
+    sheet: &[u8],
+    layout: Layout,
+    distances: &[u8],
+    answer: &mut [u8],
+) -> Written
+    requires { ⌜ Accepting (wordsOf (now sheet)) layout (numbersOf (wordsOf (now distances))) × (wordsNeeded (found (wordsOf (now sheet)) (length (numbersOf (wordsOf (now distances)))) .sizes .places) (found (wordsOf (now sheet)) (length (numbersOf (wordsOf (now distances)))) .lines) ≤ length (wordsOf (now answer))) ⌝ }
+    ensures { λ r. ⌜ AnswerWritten (wordsOf (now (sheet .entry))) (found (wordsOf (now (sheet .entry))) (length (numbersOf (wordsOf (now (distances .entry)))))) (wordsOf (now (answer .entry))) (wordsOf (now (answer .exit))) (r .end) (r .rounds) (r .yes) ⌝ }
+{
+    words::put_word(answer, 0, head_word(layout));
+    let written = write_lines(sheet, layout, distances, answer);
+    words::put_word(answer, written.end, END + written.end as u32);
+    let after = (written.end + 1) * 4;
+    words::fill_zero(&mut answer[after..]);
+    written
+}

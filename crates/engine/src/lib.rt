@@ -1,0 +1,78 @@
+// The engine: from a sheet to its whole answer, or to a refusal that leaves zeros.
+use answer::write_answer;
+use lines::words_needed;
+use sheet::check::Check;
+use sheet::check::Layout;
+use sheet::survey::survey;
+ghost use mathlib.Core.Path.{_≡_};
+ghost use Prim.Native.Nat.{_≤_};
+ghost use lib.ListN.{length};
+ghost use Rattle.words.specs.Bytes.{wordsOf, numbersOf};
+ghost use Rattle.verdicts.specs.Answer.{wordsNeeded};
+ghost use Rattle.verdicts.specs.Judged.{answered, judged};
+ghost use Rattle.engine.specs.Lines.{found, Accepting};
+ghost use Rattle.engine.specs.Result.{resultSaid};
+
+mod answer;
+mod line;
+mod lines;
+
+// What a host is told: the refusal's number, 0 for none, and its place; the words of the answer; the greatest rounds of a surround; how many
+// verdicts are yes.
+pub struct Result {
+    pub number: u64,
+    pub place: u64,
+    pub words: u64,
+    pub rounds: u64,
+    pub yes: u64,
+}
+
+fn refusal(number: u64, place: usize) -> Result
+    ensures { λ r. ⌜ r ≡ record { number = number; place = place; words = 0; rounds = 0; yes = 0 } ⌝ }
+{
+    Result {
+        number,
+        place: place as u64,
+        words: 0,
+        rounds: 0,
+        yes: 0,
+    }
+}
+
+// Answers an accepted sheet, where the answer has room.
+fn answer_sheet(sheet: &[u8], layout: Layout, distances: &[u8], answer: &mut [u8]) -> Result
+    requires { ⌜ Accepting (wordsOf (now sheet)) layout (numbersOf (wordsOf (now distances))) × (wordsNeeded (found (wordsOf (now sheet)) (length (numbersOf (wordsOf (now distances)))) .sizes .places) (found (wordsOf (now sheet)) (length (numbersOf (wordsOf (now distances)))) .lines) ≤ length (wordsOf (now answer))) ⌝ }
+    ensures told { λ r. ⌜ resultSaid r ≡ answered (wordsOf (now (sheet .entry))) (length (numbersOf (wordsOf (now (distances .entry))))) (length (wordsOf (now (answer .entry)))) (found (wordsOf (now (sheet .entry))) (length (numbersOf (wordsOf (now (distances .entry)))))) .result ⌝ }
+    ensures said { λ _. ⌜ wordsOf (now (answer .exit)) ≡ answered (wordsOf (now (sheet .entry))) (length (numbersOf (wordsOf (now (distances .entry))))) (length (wordsOf (now (answer .entry)))) (found (wordsOf (now (sheet .entry))) (length (numbersOf (wordsOf (now (distances .entry)))))) .answer ⌝ }
+{
+    let written = write_answer(sheet, layout, distances, answer);
+    Result {
+        number: 0,
+        place: 0,
+        words: written.end as u64 + 1,
+        rounds: written.rounds,
+        yes: written.yes,
+    }
+}
+
+// Judges a sheet: leaves its distances and its whole answer in what is lent, zeros beyond; zeros alone where it refuses.
+pub fn judge(sheet: &[u8], distances: &mut [u8], answer: &mut [u8]) -> Result
+    ensures told { λ r. ⌜ resultSaid r ≡ judged (wordsOf (now (sheet .entry))) (length (numbersOf (wordsOf (now (distances .entry))))) (length (wordsOf (now (answer .entry)))) .result ⌝ }
+    ensures said { λ _. ⌜ wordsOf (now (answer .exit)) ≡ judged (wordsOf (now (sheet .entry))) (length (numbersOf (wordsOf (now (distances .entry))))) (length (wordsOf (now (answer .entry)))) .answer ⌝ }
+    ensures measured { λ _. ⌜ numbersOf (wordsOf (now (distances .exit))) ≡ judged (wordsOf (now (sheet .entry))) (length (numbersOf (wordsOf (now (distances .entry))))) (length (wordsOf (now (answer .entry)))) .distances ⌝ }
+{
+    match survey(sheet, distances) {
+        Check::Refused(fault, place) => {
+            words::fill_zero(answer);
+            refusal(sheet::fault::number(fault), place)
+        }
+        Check::Accepted(layout) => {
+            if words::word_count(answer) < words_needed(sheet, layout, distances) {
+                words::fill_zero(distances);
+                words::fill_zero(answer);
+                return refusal(15, words::word_count(sheet));
+            }
+            answer_sheet(sheet, layout, distances, answer)
+        }
+    }
+}

@@ -1,0 +1,104 @@
+// One line of the answer: its first word, and its verdicts, point by point or, for a surround, in blocks of samples.
+use sheet::check::Layout;
+use sheet::line::Line;
+use sheet::operator::Bounds;
+use sheet::operator::Operator;
+use verdicts::row::write_rows;
+use verdicts::surround_line::Tally;
+use verdicts::surround_line::write_surround;
+ghost use mathlib.Core.Path.{_≡_};
+ghost use Prim.Native.Nat.{_+_, _*_, _≤_};
+ghost use lib.ListN.{length};
+ghost use Rattle.words.specs.Bytes.{wordsOf, numbersOf};
+ghost use Rattle.sheet.specs.Decoding.{lineSaid};
+ghost use Rattle.engine.specs.Way.{wayOf};
+ghost use Rattle.engine.specs.Line.{LineReady, LineWritten, wordsUpTo};
+
+// Kind 14, in bits 31..28.
+const LINE: u32 = 3758096384;
+
+// How the verdicts of a line are found.
+enum Way {
+    Points,
+    Surround {
+        left: usize,
+        right: usize,
+        bounds: Bounds,
+    },
+}
+
+fn way_of(operator: Operator) -> Way
+    ensures { λ r. ⌜ r ≡ wayOf operator ⌝ }
+{
+    match operator {
+        Operator::True => Way::Points,
+        Operator::AtLeast { .. } => Way::Points,
+        Operator::AtMost { .. } => Way::Points,
+        Operator::Not { .. } => Way::Points,
+        Operator::And { .. } => Way::Points,
+        Operator::Until { .. } => Way::Points,
+        Operator::Somewhere { .. } => Way::Points,
+        Operator::Surrounded {
+            left,
+            right,
+            bounds,
+        } => Way::Surround {
+            left,
+            right,
+            bounds,
+        },
+        Operator::Or { .. } => Way::Points,
+        Operator::Eventually { .. } => Way::Points,
+        Operator::Always { .. } => Way::Points,
+        Operator::Everywhere { .. } => Way::Points,
+    }
+}
+
+// Writes a line from index `to` on. `starts` tells at which index the signal of each earlier line begins.
+pub(crate) fn write_line(
+    line: Line,
+    sheet: &[u8],
+    layout: Layout,
+    distances: &[u8],
+    starts: &[usize],
+    answer: &mut [u8],
+    to: usize,
+) -> Tally
+    requires { ⌜ LineReady (wordsOf (now sheet)) layout (numbersOf (wordsOf (now distances))) (wordsUpTo (wordsOf (now answer)) to (lineSaid line)) (now starts) (lineSaid line) × (to + (1 + line .length * layout .places) ≤ length (wordsOf (now answer))) ⌝ }
+    ensures { λ r. ⌜ LineWritten (wordsOf (now (sheet .entry))) layout (wordsOf (now (answer .entry))) (now (starts .entry)) to (lineSaid line) (wordsOf (now (answer .exit))) (r .rounds) (r .yes) ⌝ }
+{
+    let operator = line.operator;
+    words::put_word(answer, to, LINE + line.length);
+    let begin = to + 1;
+    let samples = line.length as usize;
+    match way_of(operator) {
+        Way::Surround {
+            left,
+            right,
+            bounds,
+        } => write_surround(
+            starts[left],
+            starts[right],
+            bounds,
+            sheet,
+            layout,
+            distances,
+            answer,
+            begin,
+            samples,
+        ),
+        Way::Points => {
+            let yes = write_rows(
+                operator,
+                sheet,
+                layout,
+                distances,
+                starts,
+                answer,
+                begin,
+                samples,
+            );
+            Tally { rounds: 0, yes }
+        }
+    }
+}
