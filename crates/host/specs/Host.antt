@@ -11,6 +11,10 @@ use Rattle.lookup.specs.Lookup.{lookedUp}
 abbrev multiple : ℕ → ℕ → Bool
 multiple size bytes = eqb (bytes % size) 0
 
+-- whole words in the sheet and in the answer, whole distances, and the result's 40 bytes
+unfoldable pub lentWhole : ℕ → ℕ → ℕ → ℕ → Bool
+lentWhole sheet distances answer result = multiple 4 sheet && (multiple 4 answer && (multiple 8 distances && eqb result 40))
+
 -- what `judge` returns and every byte that it leaves
 pub record HostJudged : Type 0 where
   pub number : ℕ
@@ -18,36 +22,40 @@ pub record HostJudged : Type 0 where
   pub distances : List ℕ
   pub result : List ℕ
 
+-- the result's five numbers
 abbrev pub resultBytes : Result → List ℕ
 resultBytes r = bytesOf (halvesOf (r .number ∷ r .place ∷ r .words ∷ r .rounds ∷ r .yes ∷ []))
 
--- the five numbers in 40 bytes, zeros where another length is lent
-abbrev pub lentResult : ℕ → Result → List ℕ
-lentResult room r = cond (eqb room 40) (resultBytes r) (replicate room 0)
+-- the refusal 16: zeros, but for the number in a result of 40 bytes
+abbrev pub notWhole : ℕ → ℕ → ℕ → HostJudged
+notWhole distances answer result = record {
+  number = 16;
+  answer = replicate answer 0;
+  distances = replicate distances 0;
+  result = cond (eqb result 40) (resultBytes (record { number = 16; place = 0; words = 0; rounds = 0; yes = 0 })) (replicate result 0);
+}
+
+-- what the engine leaves
+abbrev pub inBytes : Judged → HostJudged
+inBytes j = record {
+  number = j .result .number;
+  answer = bytesOf (j .answer);
+  distances = bytesOf (halvesOf (j .distances));
+  result = resultBytes (j .result);
+}
 
 -- the sheet's bytes, and how many bytes of distances, answer and result are lent
-module _ (sheet : List ℕ) (distances answer result : ℕ) where
-  unfoldable pub inBytes : Judged → HostJudged
-  inBytes j = record {
-    number = j .result .number;
-    answer = bytesOf (j .answer);
-    distances = bytesOf (halvesOf (j .distances));
-    result = lentResult result (j .result);
-  }
-
-  unfoldable pub hostJudged : HostJudged
-  hostJudged = cond (multiple 4 (length sheet) && (multiple 4 answer && (multiple 8 distances && eqb result 40)))
-      (inBytes (judged (wordsOf sheet) (distances / 8) (answer / 4)))
-      (record {
-        number = 16;
-        answer = replicate answer 0;
-        distances = replicate distances 0;
-        result = lentResult result (record { number = 16; place = 0; words = 0; rounds = 0; yes = 0 });
-      })
+unfoldable pub hostJudged : List ℕ → ℕ → ℕ → ℕ → HostJudged
+hostJudged sheet distances answer result =
+    cond (lentWhole (length sheet) distances answer result) (inBytes (judged (wordsOf sheet) (distances / 8) (answer / 4))) (notWhole distances answer result)
 
 unfoldable pub hostLookedUp : List ℕ → ℕ → ℕ → ℕ → ℕ
 hostLookedUp answer line sample place = cond (multiple 4 (length answer)) (lookedUp (wordsOf answer) line sample place) 0
 
--- the printing program takes up to 32,768 bytes and lends 4,096 distances and 16,384 answer words
+-- the printing program takes whole words, up to 32,768 bytes of them
+unfoldable pub inputTaken : ℕ → Bool
+inputTaken bytes = multiple 4 bytes && leb bytes 32768
+
+-- it lends 4,096 distances and 16,384 answer words
 unfoldable pub programJudged : List ℕ → Judged
-programJudged input = cond (multiple 4 (length input) && leb (length input) 32768) (judged (wordsOf input) 4096 16384) (refusal 4096 16384 16 0)
+programJudged input = cond (inputTaken (length input)) (judged (wordsOf input) 4096 16384) (refusal 4096 16384 16 0)

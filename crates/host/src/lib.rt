@@ -1,1 +1,110 @@
-// The engine and the lookup over bytes and numbers, for a host written in C.
+// The engine and the lookup over bytes and numbers, for a host written in C: each slice is a pointer and a length there. Nothing is asked of
+// what is lent but that no two parts of it overlap.
+//
+//     uint64_t judge(const uint8_t *sheet, size_t sheet_length, uint8_t *distances, size_t distances_length, uint8_t *answer,
+//         size_t answer_length, uint8_t *result, size_t result_length);
+//     uint64_t lookup(const uint8_t *answer, size_t answer_length, uint64_t line, uint64_t sample, uint64_t place);
+use engine::Result;
+ghost use mathlib.Core.Path.{_≡_};
+ghost use Prim.Native.Nat.{_*_};
+ghost use lib.ListN.{length};
+ghost use Rattle.words.specs.Bytes.{bytesOf, halvesOf};
+ghost use Rattle.engine.specs.Result.{resultSaid};
+ghost use Rattle.host.specs.Host.{lentWhole, resultBytes, notWhole, hostJudged, hostLookedUp};
+
+// Five numbers of eight bytes.
+const RESULT_BYTES: usize = 40;
+
+const NOT_WHOLE: u64 = 16;
+
+// Whether these lengths have whole words, whole distances and a result.
+fn lent_whole(sheet: usize, distances: usize, answer: usize, result: usize) -> bool
+    ensures { λ r. ⌜ r ≡ lentWhole sheet distances answer result ⌝ }
+{
+    if sheet % 4 != 0 {
+        return false;
+    }
+    if answer % 4 != 0 {
+        return false;
+    }
+    if distances % 8 != 0 {
+        return false;
+    }
+    result == RESULT_BYTES
+}
+
+// Stores numbers one after the other in bytes that have room for just them.
+fn put_numbers(s: &mut [u8], numbers: &[u64])
+    requires { ⌜ length (now s) ≡ length (now numbers) * 8 ⌝ }
+    ensures { λ _. ⌜ now (s .exit) ≡ bytesOf (halvesOf (now (numbers .entry))) ⌝ }
+{
+    for i in 0..numbers.len() {
+        words::put_number(s, i, numbers[i]);
+    }
+}
+
+fn put_result(result: &mut [u8], told: Result)
+    requires { ⌜ length (now result) ≡ 40 ⌝ }
+    ensures { λ _. ⌜ now (result .exit) ≡ resultBytes (resultSaid told) ⌝ }
+{
+    let numbers = [told.number, told.place, told.words, told.rounds, told.yes];
+    put_numbers(result, &numbers);
+}
+
+// Refuses lengths that are not whole: zeros in all that is lent, but for the number in a result of 40 bytes.
+fn refuse(distances: &mut [u8], answer: &mut [u8], result: &mut [u8]) -> u64
+    ensures told { λ r. ⌜ r ≡ notWhole (length (now (distances .entry))) (length (now (answer .entry))) (length (now (result .entry))) .number ⌝ }
+    ensures said { λ _. ⌜ now (answer .exit) ≡ notWhole (length (now (distances .entry))) (length (now (answer .entry))) (length (now (result .entry))) .answer ⌝ }
+    ensures measured { λ _. ⌜ now (distances .exit) ≡ notWhole (length (now (distances .entry))) (length (now (answer .entry))) (length (now (result .entry))) .distances ⌝ }
+    ensures held { λ _. ⌜ now (result .exit) ≡ notWhole (length (now (distances .entry))) (length (now (answer .entry))) (length (now (result .entry))) .result ⌝ }
+{
+    words::fill_zero(distances);
+    words::fill_zero(answer);
+    words::fill_zero(result);
+    if result.len() != RESULT_BYTES {
+        return NOT_WHOLE;
+    }
+    put_result(
+        result,
+        Result {
+            number: NOT_WHOLE,
+            place: 0,
+            words: 0,
+            rounds: 0,
+            yes: 0,
+        },
+    );
+    NOT_WHOLE
+}
+
+// Judges a sheet and returns the number of its refusal, 0 for none. Lengths that are not whole are 16, before all else.
+#[no_mangle]
+pub extern "C" fn judge(
+    sheet: &[u8],
+    distances: &mut [u8],
+    answer: &mut [u8],
+    result: &mut [u8],
+) -> u64
+    ensures told { λ r. ⌜ r ≡ hostJudged (now (sheet .entry)) (length (now (distances .entry))) (length (now (answer .entry))) (length (now (result .entry))) .number ⌝ }
+    ensures said { λ _. ⌜ now (answer .exit) ≡ hostJudged (now (sheet .entry)) (length (now (distances .entry))) (length (now (answer .entry))) (length (now (result .entry))) .answer ⌝ }
+    ensures measured { λ _. ⌜ now (distances .exit) ≡ hostJudged (now (sheet .entry)) (length (now (distances .entry))) (length (now (answer .entry))) (length (now (result .entry))) .distances ⌝ }
+    ensures held { λ _. ⌜ now (result .exit) ≡ hostJudged (now (sheet .entry)) (length (now (distances .entry))) (length (now (answer .entry))) (length (now (result .entry))) .result ⌝ }
+{
+    if !lent_whole(sheet.len(), distances.len(), answer.len(), result.len()) {
+        return refuse(distances, answer, result);
+    }
+    let told = engine::judge(sheet, distances, answer);
+    put_result(result, told);
+    told.number
+}
+
+// 1 yes, 2 no, 0 no verdict: bytes past the last whole word are no part of an answer.
+#[no_mangle]
+pub extern "C" fn lookup(answer: &[u8], line: u64, sample: u64, place: u64) -> u64
+    ensures { λ r. ⌜ r ≡ hostLookedUp (now (answer .entry)) line sample place ⌝ }
+{
+    if answer.len() % 4 != 0 {
+        return 0;
+    }
+    lookup::lookup(answer, line, sample, place)
+}

@@ -1,0 +1,79 @@
+-- An input that is not taken leaves zeros; one that is taken is the engine's, which is lent as many distances and words as the definition says.
+use Prim.Native.Nat.{ℕ}
+use mathlib.Core.Path.{_≡_, refl, sym, _∙_, ap}
+use mathlib.Core.List.{List}
+use native.Mathlib.Omega.{arith}
+use lib.ListN.{length, replicate}
+use borrow.Author.Tests.{not-true, not-false}
+use Rattle.words.specs.Bytes.{wordsOf, numbersOf}
+use Rattle.words.proofs.Words.{length-words, words-zeros}
+use Rattle.words.proofs.Numbers.{length-numbers}
+use Rattle.sheet.proofs.Surveys.{zero-numbers}
+use Rattle.host.specs.Host.{programJudged}
+use borrow.Author.Needs.{needs}
+use Rattle.print_verdicts.proofs.judge_input.Statement.{statement}
+use Rattle.print_verdicts.proofs.judge_input.Tie as tie
+
+counts : (c : tie.Start) → (length (numbersOf (wordsOf (c .args .distances .now))) ≡ 4096) × (length (wordsOf (c .args .answer .now)) ≡ 16384)
+counts c = omega (arith, length-numbers (c .args .distances .now), length-words (c .args .answer .now))
+
+abbrev zeros : ℕ → List ℕ
+zeros n = replicate n 0
+
+input-taken-requires : tie.Need-input-taken-requires
+input-taken-requires c κs = search needs
+
+fill-zero-requires : tie.Need-fill-zero-requires
+fill-zero-requires c κs = search needs
+
+fill-zero-requires-2 : tie.Need-fill-zero-requires-2
+fill-zero-requires-2 c κs = search needs
+
+same-length : tie.Need-same-length
+same-length c = search needs
+
+same-length-2 : tie.Need-same-length-2
+same-length-2 c = search needs
+
+returns : tie.Need-returns
+unfolding programJudged
+returns c =
+    let start = c .before .before .before .before .before .before .before .before .before .before .before .before .before in
+    let D = start .args .distances .now in
+    let A = start .args .answer .now in
+    let count = counts start in
+    let not-taken = sym (c .before .before .before .before .before .before .before .before .before .input-taken .ensures) ∙ not-true _ (c .before .before .before .before .before .before .before .before .if1 .taken) in
+    let distances = ap (λ (b : List ℕ). numbersOf (wordsOf b)) (c .before .before .before .before .before .before .fill-zero .ensures) ∙ zero-numbers D in
+    let answer = ap wordsOf (c .before .before .fill-zero2 .ensures) ∙ words-zeros (length A) ∙ ap zeros (sym (length-words A)) in
+    rw not-taken (refl, (answer ∙ ap zeros (count .1), distances ∙ ap zeros (count .0)))
+
+judge-requires : tie.Need-judge-requires
+judge-requires c κs = search needs
+
+same-length-3 : tie.Need-same-length-3
+same-length-3 c = search needs
+
+same-length-4 : tie.Need-same-length-4
+same-length-4 c = search needs
+
+returns-2 : tie.Need-returns-2
+unfolding programJudged
+returns-2 c =
+    let count = counts (c .before .before .before .before .before .before .before .before .before .before .before .before) in
+    let taken = sym (c .before .before .before .before .before .before .before .before .input-taken .ensures) ∙ not-false _ (c .before .before .before .before .before .before .before .if1 .left) in
+    rw (taken, ← count .0, ← count .1) (c .before .before .before .before .judge .ensures)
+
+pub judge-input-spec : {M : Type 1} → statement M
+judge-input-spec =
+    tie.close
+    (tie.spec
+    input-taken-requires
+    fill-zero-requires
+    fill-zero-requires-2
+    same-length
+    same-length-2
+    returns
+    judge-requires
+    same-length-3
+    same-length-4
+    returns-2)

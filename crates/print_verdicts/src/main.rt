@@ -1,0 +1,165 @@
+// Judges the sheet on standard input and prints its verdicts.
+//
+// Input: the sheet's words, four bytes each, lowest byte first.
+//
+// Output, where the sheet is accepted:
+//     accepted WORDS ROUNDS YES          the words of the answer, the greatest rounds of a surround, how many verdicts are yes
+//     LINE SAMPLE VERDICT MARGIN ..      a row for each line and sample, with a verdict and its margin for each place
+//     end ROWS                           how many such rows there are
+// where it is refused:
+//     refused NUMBER PLACE
+use engine::Result;
+use libc::STDIN_FILENO;
+use libc::STDOUT_FILENO;
+ghost use mathlib.Core.Path.{_≡_};
+ghost use Prim.Native.Nat.{_+_, _*_, _^_, _≤_};
+ghost use lib.ListN.{length};
+ghost use Rattle.words.specs.Bytes.{wordsOf, numbersOf};
+ghost use Rattle.engine.specs.Result.{resultSaid};
+ghost use Rattle.host.specs.Host.{inputTaken, programJudged};
+
+const MOST_BYTES: usize = 32768;
+
+fn print_number(x: u64) {
+    io::write_all(STDOUT_FILENO, b" ");
+    io::print_decimal(STDOUT_FILENO, x);
+}
+
+// The margin of a word of kind 9 or 10: its payload in two's complement.
+fn print_margin(w: u32) {
+    let payload = words::payload(w);
+    if payload < 134217728 {
+        io::print_decimal(STDOUT_FILENO, payload as u64);
+    } else {
+        io::write_all(STDOUT_FILENO, b"-");
+        io::print_decimal(STDOUT_FILENO, 268435456 - payload as u64);
+    }
+}
+
+// A word of an answer, of kind 9 to 12.
+fn print_verdict(w: u32) {
+    match words::kind(w) {
+        9 => {
+            io::write_all(STDOUT_FILENO, b" yes ");
+            print_margin(w);
+        }
+        10 => {
+            io::write_all(STDOUT_FILENO, b" no ");
+            print_margin(w);
+        }
+        11 => {
+            io::write_all(STDOUT_FILENO, b" yes +inf");
+        }
+        // 12: an answer has no other
+        _ => {
+            io::write_all(STDOUT_FILENO, b" no -inf");
+        }
+    }
+}
+
+// The verdicts of all places at one sample, the first at index `at`.
+fn print_places(answer: &[u8], at: usize, places: usize)
+    requires { ⌜ at + places ≤ 2 ^ 32 ⌝ }
+{
+    for place in 0..places {
+        print_verdict(words::word_or_zero(answer, at + place));
+    }
+    io::write_all(STDOUT_FILENO, b"\n");
+}
+
+// The rows of a line whose first verdict stands at index `at`. Tells the index after them.
+fn print_line(answer: &[u8], line: usize, at: usize, samples: usize, places: usize) -> usize
+    requires { ⌜ (at ≤ 2 ^ 28) × (samples ≤ 2 ^ 12) × (places ≤ 2 ^ 8) ⌝ }
+    ensures { λ r. ⌜ r ≤ at + samples * 2 ^ 8 ⌝ }
+{
+    let mut next = at;
+    for sample in 0..samples {
+        io::print_decimal(STDOUT_FILENO, line as u64);
+        print_number(sample as u64);
+        print_places(answer, next, places);
+        next += places;
+    }
+    next
+}
+
+// The rows of all lines, and last how many they are. The fields of 8 and 12 bits keep every index small, whatever the words are.
+fn print_lines(answer: &[u8]) {
+    let head = words::word_or_zero(answer, 0);
+    let places = (head / 1048576 % 256) as usize;
+    let lines = (head / 4096 % 256) as usize;
+    let mut at: usize = 1;
+    let mut rows: usize = 0;
+    for line in 0..lines {
+        let samples = (words::word_or_zero(answer, at) % 4096) as usize;
+        at = print_line(answer, line, at + 1, samples, places);
+        rows += samples;
+    }
+    io::write_all(STDOUT_FILENO, b"end");
+    print_number(rows as u64);
+    io::write_all(STDOUT_FILENO, b"\n");
+}
+
+fn print_refused(number: u64, place: u64) {
+    io::write_all(STDOUT_FILENO, b"refused");
+    print_number(number);
+    print_number(place);
+    io::write_all(STDOUT_FILENO, b"\n");
+}
+
+fn print_accepted(result: Result) {
+    io::write_all(STDOUT_FILENO, b"accepted");
+    print_number(result.words);
+    print_number(result.rounds);
+    print_number(result.yes);
+    io::write_all(STDOUT_FILENO, b"\n");
+}
+
+fn input_taken(bytes: usize) -> bool
+    ensures { λ r. ⌜ r ≡ inputTaken bytes ⌝ }
+{
+    if bytes % 4 != 0 {
+        return false;
+    }
+    bytes <= MOST_BYTES
+}
+
+// Judges the input, where it is taken.
+fn judge_input(input: &[u8], distances: &mut [u8], answer: &mut [u8]) -> Result
+    requires { ⌜ (length (now distances) ≡ 32768) × (length (now answer) ≡ 65536) ⌝ }
+    ensures told { λ r. ⌜ resultSaid r ≡ programJudged (now (input .entry)) .result ⌝ }
+    ensures said { λ _. ⌜ wordsOf (now (answer .exit)) ≡ programJudged (now (input .entry)) .answer ⌝ }
+    ensures measured { λ _. ⌜ numbersOf (wordsOf (now (distances .exit))) ≡ programJudged (now (input .entry)) .distances ⌝ }
+{
+    if !input_taken(input.len()) {
+        words::fill_zero(distances);
+        words::fill_zero(answer);
+        return Result {
+            number: 16,
+            place: 0,
+            words: 0,
+            rounds: 0,
+            yes: 0,
+        };
+    }
+    engine::judge(input, distances, answer)
+}
+
+// 4,096 distances and 16,384 answer words are lent.
+fn print_judged(input: &[u8]) {
+    let mut distances = [0u8; 32768];
+    let mut answer = [0u8; 65536];
+    let result = judge_input(input, &mut distances, &mut answer);
+    if result.number == 0 {
+        print_accepted(result);
+        print_lines(&answer);
+    } else {
+        print_refused(result.number, result.place);
+    }
+}
+
+// More bytes are read than are taken, so that an input that is too long is seen.
+fn main() {
+    let mut input = io::large_buffer();
+    let n = io::read_full(STDIN_FILENO, &mut input);
+    print_judged(&input[..n]);
+}
