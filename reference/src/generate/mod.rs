@@ -51,6 +51,9 @@ impl Case {
     }
 }
 
+/// Refusals to aim at; those of lines more often, which have many ways to arise.
+const AIMS: [u64; 20] = [1, 2, 3, 4, 5, 6, 7, 8, 9, 10, 11, 11, 12, 12, 12, 12, 13, 14, 15, 16];
+
 /// The case of a seed: of a hundred about 50 valid ones (one of them of many
 /// rounds), 36 aimed at a certain refusal and 14 damaged without an aim, none of
 /// more than so many places (two, where a road is to be refused).
@@ -63,7 +66,7 @@ pub fn case(seed: u64, most_places: usize) -> Case {
             Case::lend(&mut random, &words)
         }
         50..=85 => {
-            let number = random.between(1, 16) as u64;
+            let number = random.pick(&AIMS);
             aim::aimed(&mut random, number, most_places)
         }
         _ => damaged_case(&mut random, most_places),

@@ -15,7 +15,8 @@ const RIGHT: u32 = 1;
 /// A sheet on a path of up to so many places with two surrounds, the first of
 /// which takes as many rounds as there are places.
 pub fn sheet(random: &mut Random, most_places: usize) -> Vec<u32> {
-    let places = random.count(1, most_places);
+    let any = random.count(1, most_places);
+    let places = random.pick(&[any, any, most_places]);
     let samples = random.pick(&[1, 2, 3, 16, 17]);
     let mut order: Vec<u32> = (0..places as u32).collect();
     random.shuffle(&mut order);

@@ -119,7 +119,7 @@ fn sizes(random: &mut Random, most_places: usize) -> Sizes {
         40..=42 => Sizes {
             samples: random.pick(&[100, MOST_SAMPLES - 1, MOST_SAMPLES]),
             places: random.count(1, most_places.min(3)),
-            signals: 1,
+            signals: random.pick(&[1, 1, 1, MOST_SIGNALS]),
             lines: random.count(1, 5),
         },
         43..=46 => Sizes { lines: random.count(MOST_LINES - 4, MOST_LINES), ..small },
