@@ -75,11 +75,25 @@ fn the_largest_sheet_is_judged() {
 #[test]
 fn rounds_are_as_many_as_places() {
     for seed in 0..40 {
-        let words = rounds::sheet(&mut Random::new(seed), 64);
+        let words = rounds::wandering_margins(&mut Random::new(seed), 64);
         let sheet = check(&words, DISTANCE_ENTRIES).expect("a valid sheet");
-        let left = judged_by::<Fast>(&common::case(&words, 2 + 4 * (1 + 17 * 64)));
+        let left = judged_by::<Fast>(&common::case(&words, 2 + 4 * (1 + 33 * 64)));
         assert_eq!(left.outcome().rounds, sheet.head.places as u64, "seed {seed}");
     }
+}
+
+/// A no reaches every place of the path, though few rounds are counted.
+#[test]
+fn verdicts_wander_where_margins_rest() {
+    let mut few = 0;
+    for seed in 0..40 {
+        let words = rounds::wandering_verdicts(&mut Random::new(seed), 64);
+        let left = judged_by::<Fast>(&common::case(&words, 2 + 7 * (1 + 33 * 64)));
+        let answer = Answer::read(&left.answer_words()).expect("a whole answer");
+        assert!(answer.lines[5].iter().all(|verdict| *verdict == no(0)), "seed {seed}");
+        few += u64::from(answer.places > 8 && left.outcome().rounds < 5);
+    }
+    assert!(few > 5, "{few}");
 }
 
 #[test]
