@@ -82,15 +82,16 @@ pub fn all_words(engine: &dyn Engine, bytes: &[u8], answer: &Answer) -> Checked 
     if verdicts > MOST_FOR_ALL {
         return Ok(());
     }
-    for (line, verdicts) in answer.lines.iter().enumerate() {
-        for (at, verdict) in verdicts.iter().enumerate() {
-            let (sample, place) = (at / answer.places, at % answer.places);
-            let found = engine.lookup(bytes, line as u64, sample as u64, place as u64);
-            let expected = if verdict.yes { 1 } else { 2 };
-            demand(found == expected, || {
-                format!("lookup ({line}, {sample}, {place}) gives {found} for {verdict:?}")
-            })?;
-        }
-    }
-    Ok(())
+    let lines = answer.lines.iter().enumerate();
+    let mut points = lines.flat_map(|(line, verdicts)| {
+        verdicts.iter().enumerate().map(move |(at, verdict)| (line, at, verdict))
+    });
+    points.try_for_each(|(line, at, verdict)| {
+        let (sample, place) = (at / answer.places, at % answer.places);
+        let found = engine.lookup(bytes, line as u64, sample as u64, place as u64);
+        let expected = if verdict.yes { 1 } else { 2 };
+        demand(found == expected, || {
+            format!("lookup ({line}, {sample}, {place}) gives {found} for {verdict:?}")
+        })
+    })
 }

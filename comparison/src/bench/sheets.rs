@@ -26,14 +26,17 @@ pub fn full_grid() -> Vec<u32> {
 fn grid_network(side: u32, samples: u32) -> SheetBuilder {
     let mut random = Random::new(8);
     let mut sheet = SheetBuilder::new(side * side, 2, samples);
-    for place in 0..side * side {
-        let right = (place % side + 1 < side).then_some(place + 1);
-        let below = (place / side + 1 < side).then_some(place + side);
-        for neighbour in [right, below].into_iter().flatten() {
-            sheet = sheet.road(place, neighbour, random.field(1, 3));
-        }
+    for (place, neighbour) in (0..side * side).flat_map(|place| grid_roads(side, place)) {
+        sheet = sheet.road(place, neighbour, random.field(1, 3));
     }
     sheet.samples(&drifting(side, samples, &mut random))
+}
+
+/// The roads from a place to the one on its right and the one below.
+fn grid_roads(side: u32, place: u32) -> impl Iterator<Item = (u32, u32)> {
+    let right = (place % side + 1 < side).then_some((place, place + 1));
+    let below = (place / side + 1 < side).then_some((place, place + side));
+    right.into_iter().chain(below)
 }
 
 /// Numbers of two signals, time outermost, then place, then signal: two waves
@@ -74,13 +77,10 @@ fn every_code(sheet: SheetBuilder, samples: u32) -> SheetBuilder {
 /// other, a place a round: 64 rounds.
 pub fn path() -> Vec<u32> {
     let mut random = Random::new(64);
-    let mut sheet = SheetBuilder::new(PLACES, 2, SAMPLES);
-    for place in 1..PLACES {
-        sheet = sheet.road(place - 1, place, 1);
-    }
-    for _ in 0..SAMPLES {
-        sheet = sheet.samples(&wandering(&mut random));
-    }
+    let sheet = SheetBuilder::new(PLACES, 2, SAMPLES);
+    let sheet = (1..PLACES).fold(sheet, |sheet, place| sheet.road(place - 1, place, 1));
+    let numbers: Vec<i32> = (0..SAMPLES).flat_map(|_| wandering(&mut random)).collect();
+    let sheet = sheet.samples(&numbers);
     sheet.at_least(0, 0).at_least(1, 0).bounded(7, 0, 1, (0, PLACES)).end()
 }
 

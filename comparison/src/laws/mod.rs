@@ -30,16 +30,25 @@ pub type Law = (&'static str, Write);
 pub fn check(engine: &dyn Engine, random: &mut Random, reached: &mut Reached) -> Checked {
     let words = valid::small_sheet(random, 12);
     let mut table = Table::resume(&words);
-    let mut pairs = Vec::new();
-    for _ in 0..LAWS_A_SHEET {
-        let (name, write) = random.pick(&LAWS);
-        pairs.push((name, write(&mut table, random)));
-        reached.count(&format!("law: {name}"));
-    }
+    let pairs = written(&mut table, random, reached);
     let answer = answered(engine, random, &table.words())?;
     let line = |number: u32| answer.lines.get(number as usize);
     for (name, (one, other)) in pairs {
         demand(line(one) == line(other), || format!("lines {one} and {other} break: {name}"))?;
     }
     Ok(())
+}
+
+/// Writes some laws into a table; gives each with its two lines.
+fn written(
+    table: &mut Table,
+    random: &mut Random,
+    reached: &mut Reached,
+) -> Vec<(&'static str, Pair)> {
+    let mut write = |_| {
+        let (name, write) = random.pick(&LAWS);
+        reached.count(&format!("law: {name}"));
+        (name, write(table, random))
+    };
+    (0..LAWS_A_SHEET).map(&mut write).collect()
 }

@@ -1,7 +1,8 @@
 //! Engines that do the right thing and then spoil what they leave.
 
 use super::caught;
-use crate::{Engine, Implementation};
+use crate::{steadiness, Engine, Implementation};
+use reference::generate::random::Random;
 use reference::judge::Outcome;
 use reference::words::{self, kinds};
 
@@ -63,6 +64,16 @@ fn a_no_at_zero_made_a_yes() {
             words::word(kind, words::payload(word))
         })
     });
+}
+
+/// Steadiness alone finds margins that are twice as large as they should be.
+#[test]
+fn margins_doubled_are_not_steady() {
+    let engine = Spoilt(|_, answer, _| {
+        change_words(answer, kinds::YES, |word| words::word(kinds::YES, word << 1 & 0x7FF_FFFF))
+    });
+    let mut random = Random::new(1);
+    assert!((0..1_000).any(|_| steadiness::check(&engine, &mut random).is_err()));
 }
 
 #[test]

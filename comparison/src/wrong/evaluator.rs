@@ -2,9 +2,11 @@
 //! the one fault it is told to make.
 
 use super::caught;
-use crate::{Engine, Implementation};
+use crate::reached::Reached;
+use crate::{laws, Engine, Implementation};
 use reference::distance::Distances;
 use reference::evaluation::Evaluation;
+use reference::generate::random::Random;
 use reference::margin::{Margin, Verdict};
 use reference::sheet::{Bounds, Operator, Sheet};
 
@@ -251,4 +253,12 @@ fn right_masked_by_the_upper_bound_alone() {
 #[test]
 fn windows_clipped() {
     assert!(caught(&Trapped::<WINDOW_CLIPPED>).is_some());
+}
+
+/// The laws alone find it too, with nothing to compare with.
+#[test]
+fn windows_clipped_break_a_law() {
+    let (mut random, mut reached) = (Random::new(1), Reached::default());
+    let mut breaks = || laws::check(&Trapped::<WINDOW_CLIPPED>, &mut random, &mut reached).is_err();
+    assert!((0..1_000).any(|_| breaks()));
 }

@@ -85,10 +85,8 @@ fn path(
     for (first, second) in rising_pairs(order) {
         sheet = sheet.road(first, second, random.field(1, 3));
     }
-    for _ in 0..samples {
-        sheet = sheet.samples(&sample(random, order, &numbers));
-    }
-    sheet
+    let numbers: Vec<i32> = (0..samples).flat_map(|_| sample(random, order, &numbers)).collect();
+    sheet.samples(&numbers)
 }
 
 /// The pairs of places that follow one another, as a sheet wants them: the lower
