@@ -16,6 +16,12 @@ impl SheetBuilder {
         SheetBuilder::default().word(kinds::HEAD, payload)
     }
 
+    /// A sheet to be continued: the words of a complete one without its end.
+    pub fn resume(words: &[u32]) -> Self {
+        let before_end = words.len().saturating_sub(1);
+        SheetBuilder { words: words[..before_end].to_vec() }
+    }
+
     /// Adds any word.
     pub fn word(mut self, kind: u32, payload: u32) -> Self {
         self.words.push(words::word(kind, payload));

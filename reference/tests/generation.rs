@@ -3,10 +3,11 @@
 mod common;
 
 use common::*;
+use reference::answer::Answer;
 use reference::fast::Fast;
 use reference::generate::random::Random;
-use reference::generate::{aim, case, valid};
-use reference::sheet::{check, Operator, DISTANCE_ENTRIES};
+use reference::generate::{aim, answers, case, limits, rounds, valid};
+use reference::sheet::{check, DISTANCE_ENTRIES};
 
 #[test]
 fn a_seed_determines_its_case() {
@@ -23,27 +24,10 @@ fn valid_sheets_are_accepted_and_use_every_code() {
         let words = valid::sheet(&mut Random::new(seed), 64);
         let sheet = check(&words, DISTANCE_ENTRIES).expect("a valid sheet");
         for line in &sheet.lines {
-            used[code(&line.operator)] += 1;
+            used[line.operator.code() as usize] += 1;
         }
     }
     assert!(used.iter().all(|&count| count > 50), "{used:?}");
-}
-
-fn code(operator: &Operator) -> usize {
-    match operator {
-        Operator::True => 0,
-        Operator::AtLeast { .. } => 1,
-        Operator::AtMost { .. } => 2,
-        Operator::Not { .. } => 3,
-        Operator::And { .. } => 4,
-        Operator::Until { .. } => 5,
-        Operator::Somewhere { .. } => 6,
-        Operator::Surround { .. } => 7,
-        Operator::Or { .. } => 8,
-        Operator::Eventually { .. } => 9,
-        Operator::Always { .. } => 10,
-        Operator::Everywhere { .. } => 11,
-    }
 }
 
 #[test]
@@ -86,4 +70,64 @@ fn the_largest_sheet_is_judged() {
     assert!(words.len() > 16 * 64 * 1024);
     let left = judged_by::<Fast>(&common::case(&words, 2 + 3 * (1 + 64 * 1024)));
     assert_eq!(left.number, 0);
+}
+
+#[test]
+fn rounds_are_as_many_as_places() {
+    for seed in 0..40 {
+        let words = rounds::wandering_margins(&mut Random::new(seed), 64);
+        let sheet = check(&words, DISTANCE_ENTRIES).expect("a valid sheet");
+        let left = judged_by::<Fast>(&common::case(&words, 2 + 4 * (1 + 33 * 64)));
+        assert_eq!(left.outcome().rounds, sheet.head.places as u64, "seed {seed}");
+    }
+}
+
+/// A no reaches every place of the path, though few rounds are counted.
+#[test]
+fn verdicts_wander_where_margins_rest() {
+    let mut few = 0;
+    for seed in 0..40 {
+        let words = rounds::wandering_verdicts(&mut Random::new(seed), 64);
+        let left = judged_by::<Fast>(&common::case(&words, 2 + 7 * (1 + 33 * 64)));
+        let answer = Answer::read(&left.answer_words()).expect("a whole answer");
+        assert!(answer.lines[5].iter().all(|verdict| *verdict == no(0)), "seed {seed}");
+        few += u64::from(answer.places > 8 && left.outcome().rounds < 5);
+    }
+    assert!(few > 5, "{few}");
+}
+
+#[test]
+fn answers_have_the_words_asked_for() {
+    for answer_words in [16_000, 16_383, 16_384, 16_385, 16_400] {
+        let words = limits::sheet_of_answer(&mut Random::new(1), answer_words);
+        let exact = judged_by::<Fast>(&common::case(&words, answer_words));
+        assert_eq!(exact.outcome().words, answer_words as u64);
+        let short = judged_by::<Fast>(&common::case(&words, answer_words - 1));
+        assert_eq!(short.number, 15);
+    }
+}
+
+#[test]
+fn sheets_have_the_words_asked_for() {
+    for seed in 0..60 {
+        for words in [300, 301, 302, 8_191, 8_192, 8_193, 8_200] {
+            let sheet = limits::sheet_of_words(&mut Random::new(seed), words);
+            assert_eq!(sheet.len(), words);
+            assert_eq!(judged_by::<Fast>(&common::case(&sheet, 16_384)).number, 0);
+        }
+    }
+}
+
+#[test]
+fn invented_answers_are_whole() {
+    for seed in 0..100 {
+        let words = answers::invented(&mut Random::new(seed));
+        assert!(Answer::read(&words).is_some(), "seed {seed}");
+    }
+}
+
+#[test]
+fn a_resumed_sheet_goes_on_before_its_end() {
+    let words = reference::builder::SheetBuilder::resume(&EXAMPLE_A).end();
+    assert_eq!(words, EXAMPLE_A);
 }

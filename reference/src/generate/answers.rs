@@ -19,6 +19,34 @@ pub fn damaged(random: &mut Random, answer: &[u8]) -> Vec<u8> {
     bytes
 }
 
+/// The words of a whole answer that need not be one to any sheet: its verdicts
+/// are any that have a word.
+pub fn invented(random: &mut Random) -> Vec<u32> {
+    let places = random.pick(&[1, 1, 2, 3, 64]);
+    let samples = random.pick(&[1, 2, 3, 5, 1024]);
+    let lines = random.pick(&[1, 2, 3, 64]);
+    let mut words = vec![words::word(kinds::ANSWER_HEAD, places << 20 | lines << 12 | samples)];
+    for _ in 0..lines {
+        let length = random.field(1, samples.min(6));
+        words.push(words::word(kinds::ANSWER_LINE, length));
+        words.extend((0..length * places).map(|_| verdict_word(random)));
+    }
+    words.push(words::word(kinds::END, words.len() as u32));
+    words
+}
+
+/// A word of kind 9 to 12 that is laid out as it must be, often at a limit.
+fn verdict_word(random: &mut Random) -> u32 {
+    const MOST: u32 = (1 << 27) - 1;
+    let any = random.field(0, MOST);
+    let size = random.pick(&[0, 1, MOST, any]);
+    match random.field(kinds::YES, kinds::NO_MINUS_INFINITY) {
+        kinds::YES => words::word(kinds::YES, size),
+        kinds::NO => words::word(kinds::NO, size.wrapping_neg()),
+        infinity => words::word(infinity, 0),
+    }
+}
+
 fn strike(random: &mut Random, words: &mut Vec<u32>) {
     let at = position(random, words);
     let word = words[at];

@@ -6,8 +6,10 @@
 pub mod aim;
 pub mod answers;
 pub mod damage;
+pub mod limits;
 pub mod network;
 pub mod random;
+pub mod rounds;
 pub mod table;
 pub mod valid;
 
@@ -49,15 +51,22 @@ impl Case {
     }
 }
 
-/// The case of a seed: of a hundred about 50 valid ones, 36 aimed at a certain
-/// refusal and 14 damaged without an aim, none of more than so many places (two,
-/// where a road is to be refused).
+/// Refusals to aim at; those of lines more often, which have many ways to arise.
+const AIMS: [u64; 20] = [1, 2, 3, 4, 5, 6, 7, 8, 9, 10, 11, 11, 12, 12, 12, 12, 13, 14, 15, 16];
+
+/// The case of a seed: of a hundred about 50 valid ones (one of them of many
+/// rounds), 36 aimed at a certain refusal and 14 damaged without an aim, none of
+/// more than so many places (two, where a road is to be refused).
 pub fn case(seed: u64, most_places: usize) -> Case {
     let mut random = Random::new(seed);
     match random.below(100) {
-        0..=49 => valid_case(&mut random, most_places),
+        0..=48 => valid_case(&mut random, most_places),
+        49 => {
+            let words = rounds::sheet(&mut random, most_places);
+            Case::lend(&mut random, &words)
+        }
         50..=85 => {
-            let number = random.between(1, 16) as u64;
+            let number = random.pick(&AIMS);
             aim::aimed(&mut random, number, most_places)
         }
         _ => damaged_case(&mut random, most_places),

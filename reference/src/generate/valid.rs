@@ -12,6 +12,10 @@ pub const LEAST: i32 = -67_108_864;
 /// The greatest sample and constant.
 pub const MOST: i32 = 67_108_863;
 
+/// Counts of samples around powers of two. An engine that takes samples in
+/// blocks goes wrong, if it does, at the edge of one.
+const AROUND_BLOCKS: [usize; 15] = [9, 15, 16, 17, 31, 32, 33, 47, 48, 49, 63, 64, 65, 127, 129];
+
 /// How large a sheet is to be.
 #[derive(Clone, Copy, Debug)]
 struct Sizes {
@@ -115,11 +119,17 @@ fn sizes(random: &mut Random, most_places: usize) -> Sizes {
         40..=42 => Sizes {
             samples: random.pick(&[100, MOST_SAMPLES - 1, MOST_SAMPLES]),
             places: random.count(1, most_places.min(3)),
-            signals: 1,
+            signals: random.pick(&[1, 1, 1, MOST_SIGNALS]),
             lines: random.count(1, 5),
         },
         43..=46 => Sizes { lines: random.count(MOST_LINES - 4, MOST_LINES), ..small },
         47..=50 => Sizes { signals: MOST_SIGNALS, ..small },
+        51..=60 => Sizes {
+            samples: random.pick(&AROUND_BLOCKS),
+            places: random.count(1, most_places.min(12)),
+            signals: random.count(1, 2),
+            lines: random.count(3, 8),
+        },
         _ => small,
     }
 }

@@ -91,6 +91,39 @@ pub enum Operator {
     Everywhere { left: usize, bounds: Bounds },
 }
 
+impl Operator {
+    /// The code that the operator is written with, 0 to 11.
+    pub fn code(&self) -> u32 {
+        match self {
+            Operator::True => 0,
+            Operator::AtLeast { .. } => 1,
+            Operator::AtMost { .. } => 2,
+            Operator::Not { .. } => 3,
+            Operator::And { .. } => 4,
+            Operator::Until { .. } => 5,
+            Operator::Somewhere { .. } => 6,
+            Operator::Surround { .. } => 7,
+            Operator::Or { .. } => 8,
+            Operator::Eventually { .. } => 9,
+            Operator::Always { .. } => 10,
+            Operator::Everywhere { .. } => 11,
+        }
+    }
+
+    /// The bounds, for codes that have them.
+    pub fn bounds(&self) -> Option<Bounds> {
+        match *self {
+            Operator::Until { bounds, .. }
+            | Operator::Somewhere { bounds, .. }
+            | Operator::Surround { bounds, .. }
+            | Operator::Eventually { bounds, .. }
+            | Operator::Always { bounds, .. }
+            | Operator::Everywhere { bounds, .. } => Some(bounds),
+            _ => None,
+        }
+    }
+}
+
 /// A line of the table. It "has verdicts for samples 0 to length - 1 and no
 /// others".
 #[derive(Clone, Copy, Debug, PartialEq, Eq)]

@@ -1,0 +1,11 @@
+//! Benchmarks: an engine and the implementation's fast path on the same sheets,
+//! in the same buffers, in one run.
+
+pub mod report;
+pub mod sheets;
+mod timing;
+
+#[cfg(test)]
+mod tests;
+
+pub use timing::{timed, Times};

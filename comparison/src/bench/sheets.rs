@@ -1,0 +1,125 @@
+//! The sheets that are timed.
+
+use reference::builder::SheetBuilder;
+use reference::generate::random::Random;
+
+/// The most samples.
+const SAMPLES: u32 = 1024;
+
+/// The most places.
+const PLACES: u32 = 64;
+
+/// A square grid of so many places a side with every code, two signals and so
+/// many samples.
+pub fn grid(side: u32, samples: u32) -> Vec<u32> {
+    let sheet = grid_network(side, samples);
+    every_code(sheet, samples).end()
+}
+
+/// The 8×8 grid, full length.
+pub fn full_grid() -> Vec<u32> {
+    grid(8, SAMPLES)
+}
+
+/// Roads of weight 1 to 3 between the neighbours of a grid, and the samples of
+/// two signals that drift over it.
+fn grid_network(side: u32, samples: u32) -> SheetBuilder {
+    let mut random = Random::new(8);
+    let mut sheet = SheetBuilder::new(side * side, 2, samples);
+    for (place, neighbour) in (0..side * side).flat_map(|place| grid_roads(side, place)) {
+        sheet = sheet.road(place, neighbour, random.field(1, 3));
+    }
+    sheet.samples(&drifting(side, samples, &mut random))
+}
+
+/// The roads from a place to the one on its right and the one below.
+fn grid_roads(side: u32, place: u32) -> impl Iterator<Item = (u32, u32)> {
+    let right = (place % side + 1 < side).then_some((place, place + 1));
+    let below = (place / side + 1 < side).then_some((place, place + side));
+    right.into_iter().chain(below)
+}
+
+/// Numbers of two signals, time outermost, then place, then signal: two waves
+/// that move over the grid, and some noise.
+fn drifting(side: u32, samples: u32, random: &mut Random) -> Vec<i32> {
+    let points = samples * side * side * 2;
+    let number = |point: u32| {
+        let (signal, place, time) = (point % 2, point / 2 % (side * side), point / 2 / side / side);
+        let along = f64::from(place % side + time / 8) / 3.0;
+        let across = f64::from(place / side + (1 + signal) * time / 16) / 2.0;
+        let wave = 30.0 * (along.sin() + across.cos());
+        wave as i32 + random.between(-12, 12) as i32
+    };
+    (0..points).map(number).collect()
+}
+
+/// Every code once, and two surrounds more with other bounds.
+fn every_code(sheet: SheetBuilder, samples: u32) -> SheetBuilder {
+    let ahead = 20.min(samples / 4);
+    sheet
+        .truth()
+        .at_least(0, -20)
+        .at_most(1, 10)
+        .line(3, 1, 0)
+        .line(4, 1, 2)
+        .bounded(5, 1, 2, (1, ahead))
+        .bounded(6, 4, 0, (1, 5))
+        .bounded(7, 1, 2, (0, 6))
+        .line(8, 3, 2)
+        .bounded(9, 4, 0, (0, ahead))
+        .bounded(10, 8, 0, (0, ahead))
+        .bounded(11, 8, 0, (0, 4))
+        .bounded(7, 8, 6, (2, 8))
+        .bounded(7, 1, 0, (1, 100))
+}
+
+/// A path of 64 places on which the lowest number wanders from one end to the
+/// other, a place a round: 64 rounds.
+pub fn path() -> Vec<u32> {
+    let mut random = Random::new(64);
+    let sheet = SheetBuilder::new(PLACES, 2, SAMPLES);
+    let sheet = (1..PLACES).fold(sheet, |sheet, place| sheet.road(place - 1, place, 1));
+    let numbers: Vec<i32> = (0..SAMPLES).flat_map(|_| wandering(&mut random)).collect();
+    let sheet = sheet.samples(&numbers);
+    sheet.at_least(0, 0).at_least(1, 0).bounded(7, 0, 1, (0, PLACES)).end()
+}
+
+/// Left lowest at the last place, right below all of it.
+fn wandering(random: &mut Random) -> Vec<i32> {
+    let lowest = random.between(-20, 20) as i32;
+    let place = |place: u32| {
+        let above = if place + 1 == PLACES { 0 } else { random.field(1, 40) as i32 };
+        [lowest + above, -100]
+    };
+    (0..PLACES).flat_map(place).collect()
+}
+
+/// All 2,016 roads between 64 places, with a wide surround and a narrow one.
+pub fn full_graph() -> Vec<u32> {
+    let mut random = Random::new(2016);
+    let mut sheet = SheetBuilder::new(PLACES, 2, SAMPLES);
+    for (first, second) in (0..PLACES).flat_map(|a| (a + 1..PLACES).map(move |b| (a, b))) {
+        sheet = sheet.road(first, second, random.field(1, 100));
+    }
+    let numbers: Vec<i32> =
+        (0..PLACES * SAMPLES * 2).map(|_| random.between(-50, 50) as i32).collect();
+    sheet
+        .samples(&numbers)
+        .at_least(0, 0)
+        .at_least(1, 0)
+        .bounded(7, 0, 1, (0, 1000))
+        .bounded(7, 0, 1, (3, 12))
+        .end()
+}
+
+/// The 6×6 grid with so many lines: two of the signals, then surrounds, untils
+/// and ranges in turn.
+pub fn grid_of_lines(lines: u32) -> Vec<u32> {
+    let sheet = grid_network(6, 256).at_least(0, -20).at_most(1, 10);
+    let add = |sheet: SheetBuilder, line: u32| match line % 3 {
+        0 => sheet.bounded(5, 0, 1, (0, 10)),
+        1 => sheet.bounded(6, 0, 0, (0, 5)),
+        _ => sheet.bounded(7, 0, 1, (0, 6)),
+    };
+    (2..lines).fold(sheet, add).end()
+}

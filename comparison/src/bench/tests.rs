@@ -1,0 +1,40 @@
+//! The sheets are what the benchmark says of them. Nothing is timed here.
+
+use super::sheets;
+use reference::fast::Fast;
+use reference::judge::Outcome;
+use reference::sheet::{check, Sheet, DISTANCE_ENTRIES};
+
+fn checked(words: &[u32]) -> Sheet {
+    check(words, DISTANCE_ENTRIES).expect("a valid sheet")
+}
+
+#[test]
+fn the_grid_has_every_code() {
+    let sheet = checked(&sheets::full_grid());
+    let mut codes: Vec<u32> = sheet.lines.iter().map(|line| line.operator.code()).collect();
+    codes.sort();
+    codes.dedup();
+    assert_eq!(codes, (0..=11).collect::<Vec<_>>());
+    assert_eq!((sheet.head.places, sheet.head.signals, sheet.head.samples), (64, 2, 1024));
+}
+
+#[test]
+fn the_path_takes_64_rounds() {
+    let words = sheets::path();
+    let case = crate::judging::case_of(&words, 2 + 3 * (1 + 64 * 1024));
+    let (mut distances, mut answer) = (vec![0; case.distances], vec![0; case.answer]);
+    let mut result = vec![0; case.result];
+    reference::judge::<Fast>(&case.sheet, &mut distances, &mut answer, &mut result);
+    assert_eq!(Outcome::from_bytes(&result).map(|outcome| outcome.rounds), Some(64));
+}
+
+#[test]
+fn the_full_graph_has_every_road() {
+    assert_eq!(checked(&sheets::full_graph()).roads.len(), 2016);
+}
+
+#[test]
+fn lines_are_as_many_as_asked_for() {
+    assert_eq!(checked(&sheets::grid_of_lines(64)).lines.len(), 64);
+}

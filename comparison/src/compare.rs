@@ -1,0 +1,86 @@
+//! A run of the comparison: a seed after the other, everything it determines.
+
+use crate::difference::Checked;
+use crate::printing::{Program, LABELS};
+use crate::reached::Reached;
+use crate::{judging, laws, lookups, steadiness, Engine};
+use reference::generate::random::Random;
+use reference::generate::{case, valid, Case};
+
+/// Networks have at most so many places.
+const MOST_PLACES: usize = 64;
+
+/// One seed in so many also tries steadiness and laws.
+const PAIRS_EVERY: u64 = 8;
+
+/// One seed in so many is also given to the printing program.
+const PRINTS_EVERY: u64 = 16;
+
+/// One seed in so many also judges a sheet of a million words.
+const LARGEST_EVERY: u64 = 1 << 15;
+
+/// What is compared, and what has been reached so far.
+pub struct Comparison<'a> {
+    engine: &'a dyn Engine,
+    program: Option<Program>,
+    /// The counts.
+    pub reached: Reached,
+}
+
+impl<'a> Comparison<'a> {
+    /// A comparison of an engine, and of a printing program if there is one.
+    pub fn new(engine: &'a dyn Engine, program: Option<Program>) -> Self {
+        let mut reached = Reached::default();
+        if program.is_some() {
+            reached.expect(&LABELS);
+        }
+        Comparison { engine, program, reached }
+    }
+
+    /// Compares everything that a seed determines.
+    pub fn seed(&mut self, seed: u64) -> Checked {
+        let case = case(seed, MOST_PLACES);
+        // Another stream than the one that made the case.
+        let mut random = Random::new(!seed);
+        self.judge(&mut random, &case)?;
+        if seed.is_multiple_of(PAIRS_EVERY) {
+            steadiness::check(self.engine, &mut random)?;
+            self.reached.count("steadiness of two sheets");
+            laws::check(self.engine, &mut random, &mut self.reached)?;
+        }
+        if seed.is_multiple_of(PRINTS_EVERY) {
+            self.print(&mut random, &case)?;
+        }
+        if seed.is_multiple_of(LARGEST_EVERY) {
+            let words = valid::largest_sheet(&mut random, 4);
+            let case = Case::lend(&mut random, &words);
+            judging::compared(self.engine, &mut random, &case)?;
+        }
+        Ok(())
+    }
+
+    /// The case itself, and lookups in what it leaves.
+    fn judge(&mut self, random: &mut Random, case: &Case) -> Checked {
+        let left = judging::compared(self.engine, random, case)?;
+        self.reached.count_case(case, &left);
+        lookups::compare(self.engine, random, &left.answer, &mut self.reached)?;
+        match left.whole_answer() {
+            Some(answer) if random.chance(30) => {
+                lookups::all_words(self.engine, &left.answer, &answer)
+            }
+            _ => Ok(()),
+        }
+    }
+
+    /// The case's bytes, and sometimes a sheet at a limit, in print.
+    fn print(&mut self, random: &mut Random, case: &Case) -> Checked {
+        let Some(program) = &self.program else {
+            return Ok(());
+        };
+        program.compare(&case.sheet, &mut self.reached)?;
+        if random.chance(5) {
+            program.compare_limit(random, &mut self.reached)?;
+        }
+        Ok(())
+    }
+}

@@ -1,0 +1,45 @@
+//! What differs, in words that lead to it.
+
+/// A difference between an engine and what it should have done.
+#[derive(Debug)]
+pub struct Difference(pub String);
+
+/// Nothing, or the difference that was found.
+pub type Checked = Result<(), Difference>;
+
+impl Difference {
+    /// A difference that says this.
+    pub fn new(what: impl Into<String>) -> Self {
+        Difference(what.into())
+    }
+}
+
+/// Demands something, or tells what was not so.
+pub fn demand(condition: bool, otherwise: impl FnOnce() -> String) -> Checked {
+    if condition {
+        Ok(())
+    } else {
+        Err(Difference(otherwise()))
+    }
+}
+
+/// Demands the same bytes; tells the first item that is not the same. Items
+/// have so many bytes, lowest byte first, as words and distances do.
+pub fn same_bytes(what: &str, item: usize, engine: &[u8], implementation: &[u8]) -> Checked {
+    let pairs = engine.iter().zip(implementation);
+    let Some(at) = pairs.clone().position(|(a, b)| a != b) else {
+        let lengths = (engine.len(), implementation.len());
+        return demand(lengths.0 == lengths.1, || format!("{what}: lengths {lengths:?}"));
+    };
+    let index = at / item;
+    let told = |bytes: &[u8]| {
+        let end = bytes.len().min((index + 1) * item);
+        let digits = bytes[index * item..end].iter().rev().map(|byte| format!("{byte:02X}"));
+        digits.collect::<String>()
+    };
+    Err(Difference(format!(
+        "{what}, item {index}: engine {}, implementation {}",
+        told(engine),
+        told(implementation)
+    )))
+}

@@ -1,0 +1,95 @@
+//! One case judged by an engine and by the implementation.
+
+use crate::difference::{demand, same_bytes, Difference};
+use crate::lent::Lent;
+use crate::{Engine, Implementation};
+use reference::answer::Answer;
+use reference::generate::random::Random;
+use reference::generate::Case;
+use reference::judge::{Outcome, BYTES_PER_DISTANCE, RESULT_BYTES};
+use reference::sheet::DISTANCE_ENTRIES;
+use reference::words::{self, BYTES_PER_WORD};
+
+/// Everything a judge leaves behind.
+pub struct Left {
+    /// The number given back.
+    pub number: u64,
+    /// The distance table's bytes.
+    pub distances: Vec<u8>,
+    /// The answer's bytes.
+    pub answer: Vec<u8>,
+    /// The result's bytes.
+    pub result: Vec<u8>,
+}
+
+impl Left {
+    /// The result, if 40 bytes were lent for it.
+    pub fn outcome(&self) -> Option<Outcome> {
+        Outcome::from_bytes(&self.result)
+    }
+
+    /// The answer, if it is a whole one.
+    pub fn whole_answer(&self) -> Option<Answer> {
+        Answer::read(&words::from_bytes(&self.answer)?)
+    }
+}
+
+/// What an engine leaves of a case in dirty buffers. It must write nothing
+/// beside what is lent, and nothing into the sheet.
+pub fn judged(engine: &dyn Engine, random: &mut Random, case: &Case) -> Result<Left, Difference> {
+    let sheet = Lent::holding(random, &case.sheet);
+    let mut distances = Lent::dirty(random, case.distances);
+    let mut answer = Lent::dirty(random, case.answer);
+    let mut result = Lent::dirty(random, case.result);
+    let number =
+        engine.judge(sheet.bytes(), distances.bytes_mut(), answer.bytes_mut(), result.bytes_mut());
+    demand(sheet.bytes() == case.sheet, || "the sheet was written".into())?;
+    for (lent, name) in
+        [(&sheet, "sheet"), (&distances, "distances"), (&answer, "answer"), (&result, "result")]
+    {
+        demand(lent.is_guarded(), || format!("bytes outside the {name} were written"))?;
+    }
+    Ok(Left {
+        number,
+        distances: distances.bytes().to_vec(),
+        answer: answer.bytes().to_vec(),
+        result: result.bytes().to_vec(),
+    })
+}
+
+/// Judges a case with both; every byte and the number must be the same.
+pub fn compared(engine: &dyn Engine, random: &mut Random, case: &Case) -> Result<Left, Difference> {
+    let left = judged(engine, random, case)?;
+    let right = judged(&Implementation, random, case)?;
+    let numbers = (left.number, right.number);
+    demand(numbers.0 == numbers.1, || {
+        format!("number: engine {}, implementation {}", numbers.0, numbers.1)
+    })?;
+    same_bytes("result", BYTES_PER_DISTANCE, &left.result, &right.result)?;
+    same_bytes("distances", BYTES_PER_DISTANCE, &left.distances, &right.distances)?;
+    same_bytes("answer", BYTES_PER_WORD, &left.answer, &right.answer)?;
+    Ok(left)
+}
+
+/// Judges the words of a valid sheet with enough lent; gives the whole answer.
+pub fn answered(
+    engine: &dyn Engine,
+    random: &mut Random,
+    words: &[u32],
+) -> Result<Answer, Difference> {
+    let case = Case::lend(random, words);
+    let left = judged(engine, random, &case)?;
+    demand(left.number == 0, || format!("a valid sheet was refused with {}", left.number))?;
+    left.whole_answer().ok_or(Difference::new("the answer is not a whole one"))
+}
+
+/// A case of these words with so many answer words and everything else as it
+/// should be lent.
+pub fn case_of(words: &[u32], answer_words: usize) -> Case {
+    Case {
+        sheet: words::to_bytes(words),
+        distances: DISTANCE_ENTRIES * BYTES_PER_DISTANCE,
+        answer: answer_words * BYTES_PER_WORD,
+        result: RESULT_BYTES,
+    }
+}

@@ -1,0 +1,58 @@
+//! The checks that hold an engine against the reference implementation.
+//!
+//! An [`Engine`] is anything that judges sheets and looks verdicts up over
+//! bytes. The programs of this package run the checks on the proved engine's
+//! static library; the tests run them on engines that are wrong on purpose and
+//! must be caught.
+
+#![forbid(unsafe_code)]
+#![warn(missing_docs)]
+
+pub mod bench;
+pub mod compare;
+pub mod difference;
+pub mod judging;
+pub mod laws;
+pub mod lent;
+pub mod lookups;
+pub mod printing;
+pub mod reached;
+pub mod steadiness;
+
+#[cfg(test)]
+mod wrong;
+
+/// What a host reaches: the two functions of the library, over bytes.
+pub trait Engine {
+    /// Judges a sheet into lent buffers and gives the number.
+    fn judge(
+        &self,
+        sheet: &[u8],
+        distances: &mut [u8],
+        answer: &mut [u8],
+        result: &mut [u8],
+    ) -> u64;
+
+    /// Looks a verdict up in an answer: 1 yes, 2 no, 0 no verdict.
+    fn lookup(&self, answer: &[u8], line: u64, sample: u64, place: u64) -> u64;
+}
+
+/// The reference implementation as an engine, with the evaluator that follows
+/// the published algorithm.
+pub struct Implementation;
+
+impl Engine for Implementation {
+    fn judge(
+        &self,
+        sheet: &[u8],
+        distances: &mut [u8],
+        answer: &mut [u8],
+        result: &mut [u8],
+    ) -> u64 {
+        reference::judge::<reference::fast::Fast>(sheet, distances, answer, result)
+    }
+
+    fn lookup(&self, answer: &[u8], line: u64, sample: u64, place: u64) -> u64 {
+        reference::lookup(answer, line, sample, place)
+    }
+}

@@ -1,0 +1,108 @@
+//! The printing program against the implementation's text, every character.
+
+use crate::difference::{demand, Checked, Difference};
+use crate::reached::Reached;
+use reference::fast::Fast;
+use reference::generate::limits;
+use reference::generate::random::Random;
+use reference::print;
+use reference::words;
+use std::io::Write;
+use std::path::PathBuf;
+use std::process::{Child, Command, Stdio};
+
+/// The words of the longest input that the program takes.
+const MOST_WORDS: usize = 8_192;
+
+/// The answer words that the program lends.
+const ANSWER_WORDS: usize = 16_384;
+
+/// What a run must have reached in print.
+pub const LABELS: [&str; 6] = [
+    "printed: accepted",
+    "printed: refused",
+    "printed: input of 32,768 bytes",
+    "printed: input above 32,768 bytes",
+    "printed: answer of 16,384 words",
+    "printed: answer above 16,384 words",
+];
+
+/// The printing program, by its path.
+pub struct Program(pub PathBuf);
+
+impl Program {
+    /// Gives the input to the program, which must print what the implementation
+    /// prints, nothing on standard error, and end well.
+    pub fn compare(&self, input: &[u8], reached: &mut Reached) -> Checked {
+        let printed = self
+            .run(input)
+            .map_err(|error| Difference(format!("{} cannot be run: {error}", self.0.display())))?;
+        let expected = print::<Fast>(input);
+        demand(printed == expected, || told(&printed, &expected))?;
+        let accepted = expected.starts_with("accepted");
+        reached.count(LABELS[usize::from(!accepted)]);
+        Ok(())
+    }
+
+    /// Gives a sheet just at or just beyond a limit to the program.
+    pub fn compare_limit(&self, random: &mut Random, reached: &mut Reached) -> Checked {
+        let (words, label) = match random.below(4) {
+            0 => (limits::sheet_of_words(random, MOST_WORDS), LABELS[2]),
+            1 => (limits::sheet_of_words(random, MOST_WORDS + 1), LABELS[3]),
+            2 => (limits::sheet_of_answer(random, ANSWER_WORDS), LABELS[4]),
+            _ => (limits::sheet_of_answer(random, ANSWER_WORDS + 1), LABELS[5]),
+        };
+        let mut input = words::to_bytes(&words);
+        // Beyond the limit of the input some bytes more or less change nothing.
+        if label == LABELS[3] {
+            let more = random.pick(&[0, 0, 1, 3, 8_000, 60_000, 300_000]);
+            input.truncate(input.len() - random.below(4));
+            input.resize(input.len() + more, 0);
+        }
+        self.compare(&input, reached)?;
+        reached.count(label);
+        Ok(())
+    }
+
+    fn run(&self, input: &[u8]) -> std::io::Result<String> {
+        let mut child = Command::new(&self.0)
+            .stdin(Stdio::piped())
+            .stdout(Stdio::piped())
+            .stderr(Stdio::piped())
+            .spawn()?;
+        feed(&mut child, input)?;
+        let output = child.wait_with_output()?;
+        let mut text = String::from_utf8_lossy(&output.stdout).into_owned();
+        text.push_str(&String::from_utf8_lossy(&output.stderr));
+        if !output.status.success() {
+            text.push_str(&format!("({})", output.status));
+        }
+        Ok(text)
+    }
+}
+
+/// Writes the input. A program that has seen that it is too long need not read
+/// on, so a broken pipe is no fault.
+fn feed(child: &mut Child, input: &[u8]) -> std::io::Result<()> {
+    let Some(mut stdin) = child.stdin.take() else {
+        return Ok(());
+    };
+    match stdin.write_all(input) {
+        Err(error) if error.kind() != std::io::ErrorKind::BrokenPipe => Err(error),
+        _ => Ok(()),
+    }
+}
+
+/// The first row that differs.
+fn told(printed: &str, expected: &str) -> String {
+    let rows = printed.lines().count().max(expected.lines().count());
+    let row = |text: &str, at: usize| text.lines().nth(at).map(str::to_string);
+    let at = (0..rows).find(|&at| row(printed, at) != row(expected, at));
+    match at {
+        Some(at) => {
+            let (program, implementation) = (row(printed, at), row(expected, at));
+            format!("printed row {at}: program {program:?}, implementation {implementation:?}")
+        }
+        None => "the printed texts differ in their newlines".into(),
+    }
+}

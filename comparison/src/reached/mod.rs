@@ -1,0 +1,86 @@
+//! What a run has reached: every refusal number and where it struck, every code,
+//! the limits, the kinds of verdicts. A run that has not seen them all has not
+//! compared what it should.
+
+mod accepted;
+mod refused;
+
+use crate::judging::Left;
+use crate::laws::LAWS;
+use crate::lookups;
+use reference::generate::Case;
+use reference::words;
+use std::collections::HashMap;
+
+/// Counts by label. All labels are known from the start, in the order they are
+/// printed in.
+pub struct Reached {
+    labels: Vec<String>,
+    counts: HashMap<String, u64>,
+}
+
+impl Default for Reached {
+    fn default() -> Self {
+        let numbers = (0..=16).map(|number| format!("number {number}"));
+        let lookups = lookups::LABELS.iter().map(|label| label.to_string());
+        let laws = LAWS.iter().map(|(name, _)| format!("law: {name}"));
+        let labels = numbers
+            .chain(refused::labels())
+            .chain(accepted::labels())
+            .chain(lookups)
+            .chain(laws)
+            .chain(["steadiness of two sheets".into()]);
+        Reached::of(labels.collect())
+    }
+}
+
+impl Reached {
+    fn of(labels: Vec<String>) -> Self {
+        let counts = labels.iter().map(|label| (label.clone(), 0)).collect();
+        Reached { labels, counts }
+    }
+
+    /// Asks for more labels.
+    pub fn expect(&mut self, labels: &[&str]) {
+        for label in labels {
+            self.labels.push((*label).into());
+            self.counts.insert((*label).into(), 0);
+        }
+    }
+
+    /// Counts a label.
+    ///
+    /// # Panics
+    ///
+    /// On a label that nobody asked for.
+    pub fn count(&mut self, label: &str) {
+        let count = self.counts.get_mut(label);
+        *count.unwrap_or_else(|| panic!("no label {label:?}")) += 1;
+    }
+
+    /// Counts all that a judged case shows.
+    pub fn count_case(&mut self, case: &Case, left: &Left) {
+        self.count(&format!("number {}", left.number));
+        let words = words::from_bytes(&case.sheet).unwrap_or_default();
+        let place = left.outcome().map_or(0, |outcome| outcome.place as usize);
+        let labels = match left.number {
+            0 => accepted::shown(&words, case, left),
+            number => refused::shown(&words, case, number, place),
+        };
+        for label in labels {
+            self.count(&label);
+        }
+    }
+
+    /// A row for each label.
+    pub fn rows(&self) -> String {
+        let row = |label: &String| format!("{:>10}  {label}\n", self.counts[label]);
+        self.labels.iter().map(row).collect()
+    }
+
+    /// The labels that were not reached.
+    pub fn missed(&self) -> Vec<&str> {
+        let missed = self.labels.iter().filter(|label| self.counts[*label] == 0);
+        missed.map(String::as_str).collect()
+    }
+}

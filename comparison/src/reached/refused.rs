@@ -1,0 +1,204 @@
+//! The kinds of places that a refusal strikes.
+
+use reference::generate::Case;
+use reference::judge::{BYTES_PER_DISTANCE, RESULT_BYTES};
+use reference::sheet::{LAST_CODE, MOST_PLACES, MOST_SAMPLES, MOST_SIGNALS};
+use reference::words::{self, kinds, BYTES_PER_WORD};
+
+/// Codes that are followed by a constant.
+const WITH_CONSTANT: [u32; 2] = [1, 2];
+
+/// Codes that are followed by bounds.
+const WITH_BOUNDS: [u32; 6] = [5, 6, 7, 9, 10, 11];
+
+/// Codes whose bounds are of time.
+const TIMED: [u32; 3] = [5, 9, 10];
+
+/// What is told of a word that is missing, and of one of another kind.
+const ABSENT: &str = "absent";
+const OTHER_KIND: &str = "another kind";
+
+/// All labels.
+pub fn labels() -> Vec<String> {
+    let fixed: [(u64, &[&str]); 10] = [
+        (1, &["no entry", "an entry short", "some entries"]),
+        (2, &[ABSENT, OTHER_KIND]),
+        (3, &["places", "signals", "samples"]),
+        (5, &["places equal", "places exchanged", "second beyond n"]),
+        (6, &["pair repeated", "pair lower"]),
+        (7, &[ABSENT, OTHER_KIND, "weight 0"]),
+        (8, &[ABSENT, OTHER_KIND]),
+        (10, &[ABSENT, "an end", "a sample", OTHER_KIND, "65th line"]),
+        (14, &[ABSENT, OTHER_KIND, "wrong count", "a word follows"]),
+        (15, &["a word short", "no word", "some words"]),
+    ];
+    let of_bytes = ["sheet", "answer", "distances", "result", "result, all else right"];
+    let of_fixed =
+        fixed.iter().flat_map(|(number, shown)| shown.iter().map(|text| label(*number, text)));
+    of_fixed
+        .chain(of_bytes.iter().map(|text| label(16, text)))
+        .chain((0..=LAST_CODE + 1).map(|code| label(11, &code_text(code))))
+        .chain(parameter_labels())
+        .chain(TIMED.iter().map(|&code| label(13, &code_text(code))))
+        .collect()
+}
+
+/// 12 for each code and parameter: absent, another kind, and its own fault.
+fn parameter_labels() -> Vec<String> {
+    let constants = WITH_CONSTANT.iter().flat_map(|&code| {
+        [ABSENT, OTHER_KIND, "bit 27"].map(|fault| parameter_label(code, "constant", fault))
+    });
+    let lowers = WITH_BOUNDS
+        .iter()
+        .flat_map(|&code| [ABSENT, OTHER_KIND].map(|fault| parameter_label(code, "lower", fault)));
+    let uppers = WITH_BOUNDS.iter().flat_map(|&code| {
+        [ABSENT, OTHER_KIND, "below lower"].map(|fault| parameter_label(code, "upper", fault))
+    });
+    constants.chain(lowers).chain(uppers).collect()
+}
+
+fn label(number: u64, text: &str) -> String {
+    format!("refusal {number}: {text}")
+}
+
+fn parameter_label(code: u32, parameter: &str, fault: &str) -> String {
+    label(12, &format!("code {code}, {parameter}, {fault}"))
+}
+
+fn code_text(code: u32) -> String {
+    if code > LAST_CODE {
+        "code above 11".into()
+    } else {
+        format!("code {code}")
+    }
+}
+
+/// The labels of a refused case.
+pub fn shown(words: &[u32], case: &Case, number: u64, place: usize) -> Vec<String> {
+    let word = words.get(place).copied();
+    let found = match number {
+        1 => vec![entries(case.distances / BYTES_PER_DISTANCE)],
+        2 | 8 => vec![word_there(word)],
+        3 => limits(words[0]),
+        5 => vec![road_places(words[place])],
+        6 => vec![road_order(words, place)],
+        7 if word == Some(words::word(kinds::ROAD_WEIGHT, 0)) => vec!["weight 0"],
+        7 => vec![word_there(word)],
+        10 => vec![line_there(word)],
+        11 | 13 => return vec![label(number, &code_text(code(words[place])))],
+        12 => return vec![parameter(words, place)],
+        14 => vec![end_there(words, place)],
+        15 => vec![answer_words(case, words)],
+        16 => odd_lengths(case),
+        _ => vec![],
+    };
+    found.into_iter().map(|text| label(number, text)).collect()
+}
+
+fn code(word: u32) -> u32 {
+    words::field(word, 27, 20)
+}
+
+fn word_there(word: Option<u32>) -> &'static str {
+    word.map_or(ABSENT, |_| OTHER_KIND)
+}
+
+fn entries(entries: usize) -> &'static str {
+    match entries {
+        0 => "no entry",
+        4095 => "an entry short",
+        _ => "some entries",
+    }
+}
+
+fn limits(head: u32) -> Vec<&'static str> {
+    let sizes = [
+        ("places", words::field(head, 27, 20) as usize, MOST_PLACES),
+        ("signals", words::field(head, 19, 12) as usize, MOST_SIGNALS),
+        ("samples", words::field(head, 11, 0) as usize, MOST_SAMPLES),
+    ];
+    let outside = sizes.iter().filter(|(_, size, most)| !(1..=*most).contains(size));
+    outside.map(|(name, ..)| *name).collect()
+}
+
+fn road_places(word: u32) -> &'static str {
+    let (first, second) = (words::field(word, 15, 8), words::field(word, 7, 0));
+    match first.cmp(&second) {
+        std::cmp::Ordering::Less => "second beyond n",
+        std::cmp::Ordering::Equal => "places equal",
+        std::cmp::Ordering::Greater => "places exchanged",
+    }
+}
+
+/// The road before begins two words before.
+fn road_order(words: &[u32], place: usize) -> &'static str {
+    if words[place] == words[place - 2] {
+        "pair repeated"
+    } else {
+        "pair lower"
+    }
+}
+
+fn line_there(word: Option<u32>) -> &'static str {
+    match word.map(words::kind) {
+        None => ABSENT,
+        Some(kinds::END) => "an end",
+        Some(kinds::SAMPLE) => "a sample",
+        Some(kinds::LINE) => "65th line",
+        Some(_) => OTHER_KIND,
+    }
+}
+
+/// The line word of a parameter stands one or two words before it: two, if the
+/// word right before is a lower bound.
+fn parameter(words: &[u32], place: usize) -> String {
+    let is_upper = words::kind(words[place - 1]) == kinds::LOWER;
+    let code = code(words[if is_upper { place - 2 } else { place - 1 }]);
+    let (name, kind, own_fault) = match (is_upper, WITH_CONSTANT.contains(&code)) {
+        (true, _) => ("upper", kinds::UPPER, "below lower"),
+        (_, true) => ("constant", kinds::CONSTANT, "bit 27"),
+        _ => ("lower", kinds::LOWER, "none"),
+    };
+    let fault = match words.get(place) {
+        None => ABSENT,
+        Some(&word) if words::kind(word) == kind => own_fault,
+        Some(_) => OTHER_KIND,
+    };
+    parameter_label(code, name, fault)
+}
+
+/// A word that follows stands behind an end of the right count.
+fn end_there(words: &[u32], place: usize) -> &'static str {
+    let end_before = words::word(kinds::END, place as u32 - 1);
+    match words.get(place) {
+        None => ABSENT,
+        Some(_) if words[place - 1] == end_before => "a word follows",
+        Some(&word) if words::kind(word) == kinds::END => "wrong count",
+        Some(_) => OTHER_KIND,
+    }
+}
+
+fn answer_words(case: &Case, words: &[u32]) -> &'static str {
+    let sheet = reference::sheet::check(words, reference::sheet::DISTANCE_ENTRIES);
+    let needed = sheet.map_or(0, |sheet| reference::answer::needed(&sheet));
+    match case.answer / BYTES_PER_WORD {
+        0 => "no word",
+        lent if lent + 1 == needed => "a word short",
+        _ => "some words",
+    }
+}
+
+fn odd_lengths(case: &Case) -> Vec<&'static str> {
+    let lengths = [
+        ("sheet", !case.sheet.len().is_multiple_of(BYTES_PER_WORD)),
+        ("answer", !case.answer.is_multiple_of(BYTES_PER_WORD)),
+        ("distances", !case.distances.is_multiple_of(BYTES_PER_DISTANCE)),
+        ("result", case.result != RESULT_BYTES),
+    ];
+    let wrong = lengths.iter().filter(|(_, wrong)| *wrong);
+    let mut names: Vec<&str> = wrong.map(|(name, _)| *name).collect();
+    if names == ["result"] {
+        names.push("result, all else right");
+    }
+    names
+}

@@ -1,0 +1,153 @@
+//! Engines that do the right thing and then spoil what they leave.
+
+use super::caught;
+use crate::{steadiness, Engine, Implementation};
+use reference::generate::random::Random;
+use reference::judge::Outcome;
+use reference::words::{self, kinds};
+
+/// What is changed in distances, answer and result.
+type Spoil = fn(&mut [u8], &mut [u8], &mut [u8]);
+
+struct Spoilt(Spoil);
+
+impl Engine for Spoilt {
+    fn judge(
+        &self,
+        sheet: &[u8],
+        distances: &mut [u8],
+        answer: &mut [u8],
+        result: &mut [u8],
+    ) -> u64 {
+        let number = Implementation.judge(sheet, distances, answer, result);
+        (self.0)(distances, answer, result);
+        number
+    }
+
+    fn lookup(&self, answer: &[u8], line: u64, sample: u64, place: u64) -> u64 {
+        Implementation.lookup(answer, line, sample, place)
+    }
+}
+
+#[track_caller]
+fn assert_caught(spoil: Spoil) {
+    assert!(caught(&Spoilt(spoil)).is_some());
+}
+
+/// Changes every word of an answer that is a verdict of this kind.
+fn change_words(answer: &mut [u8], kind: u32, change: impl Fn(u32) -> u32) {
+    for chunk in answer.chunks_exact_mut(4) {
+        let word = chunk.iter().rev().fold(0, |word, &byte| word << 8 | u32::from(byte));
+        if words::kind(word) == kind {
+            chunk.copy_from_slice(&change(word).to_le_bytes());
+        }
+    }
+}
+
+fn change_outcome(result: &mut [u8], change: impl Fn(&mut Outcome)) {
+    if let Some(mut outcome) = Outcome::from_bytes(result) {
+        change(&mut outcome);
+        result.copy_from_slice(&outcome.to_bytes());
+    }
+}
+
+#[test]
+fn margins_all_zero() {
+    assert_caught(|_, answer, _| change_words(answer, kinds::YES, |_| kinds::YES << 28));
+}
+
+#[test]
+fn a_no_at_zero_made_a_yes() {
+    assert_caught(|_, answer, _| {
+        change_words(answer, kinds::NO, |word| {
+            let kind = if words::payload(word) == 0 { kinds::YES } else { kinds::NO };
+            words::word(kind, words::payload(word))
+        })
+    });
+}
+
+/// Steadiness alone finds margins that are twice as large as they should be.
+#[test]
+fn margins_doubled_are_not_steady() {
+    let engine = Spoilt(|_, answer, _| {
+        change_words(answer, kinds::YES, |word| words::word(kinds::YES, word << 1 & 0x7FF_FFFF))
+    });
+    let mut random = Random::new(1);
+    assert!((0..1_000).any(|_| steadiness::check(&engine, &mut random).is_err()));
+}
+
+#[test]
+fn rounds_invented() {
+    assert_caught(|_, _, result| change_outcome(result, |outcome| outcome.rounds += 1));
+}
+
+#[test]
+fn yes_count_invented() {
+    assert_caught(|_, _, result| change_outcome(result, |outcome| outcome.yes = 0));
+}
+
+#[test]
+fn refusals_without_their_place() {
+    assert_caught(|_, _, result| change_outcome(result, |outcome| outcome.place = 0));
+}
+
+#[test]
+fn a_byte_behind_the_answer() {
+    assert_caught(|_, answer, _| answer.last_mut().into_iter().for_each(|byte| *byte |= 1));
+}
+
+#[test]
+fn a_byte_behind_the_distances() {
+    assert_caught(|distances, _, _| distances.last_mut().into_iter().for_each(|byte| *byte |= 1));
+}
+
+/// An engine that refuses everything, correctly zeroed.
+struct Refuses;
+
+impl Engine for Refuses {
+    fn judge(
+        &self,
+        _sheet: &[u8],
+        distances: &mut [u8],
+        answer: &mut [u8],
+        result: &mut [u8],
+    ) -> u64 {
+        Implementation.judge(&[], distances, answer, result)
+    }
+
+    fn lookup(&self, _answer: &[u8], _line: u64, _sample: u64, _place: u64) -> u64 {
+        0
+    }
+}
+
+#[test]
+fn every_sheet_turned_back() {
+    assert!(caught(&Refuses).is_some());
+}
+
+/// An engine that looks no further than the word it is asked for.
+struct Trusting;
+
+impl Engine for Trusting {
+    fn judge(
+        &self,
+        sheet: &[u8],
+        distances: &mut [u8],
+        answer: &mut [u8],
+        result: &mut [u8],
+    ) -> u64 {
+        Implementation.judge(sheet, distances, answer, result)
+    }
+
+    fn lookup(&self, answer: &[u8], line: u64, sample: u64, place: u64) -> u64 {
+        let words: Vec<u32> = words::from_bytes(answer).unwrap_or_default();
+        let end = words.iter().rposition(|&word| words::kind(word) == kinds::END);
+        let known = end.map_or(&words[..], |end| &words[..=end]);
+        Implementation.lookup(&words::to_bytes(known), line, sample, place)
+    }
+}
+
+#[test]
+fn a_lookup_that_does_not_look_behind_the_end() {
+    assert!(caught(&Trusting).is_some());
+}

@@ -1,0 +1,217 @@
+/*
+ * An example of a host: judges the sheets in the files it is given and prints a
+ * summary of each. Ends with 0 if all were accepted, 1 if one was refused, 2 if
+ * one could not be read.
+ */
+#include <inttypes.h>
+#include <stdio.h>
+#include <stdlib.h>
+#include <string.h>
+
+#include "tecuhualma.h"
+
+struct bytes {
+    uint8_t *at;
+    size_t length;
+};
+
+/* A sheet with the buffers that are lent for it. */
+struct job {
+    struct bytes sheet;
+    struct bytes distances;
+    struct bytes answer;
+    uint8_t result[TECUHUALMA_RESULT_BYTES];
+};
+
+/* ---- Numbers in bytes, lowest byte first ---- */
+
+static uint64_t number_at(const uint8_t *bytes, size_t count)
+{
+    uint64_t number = 0;
+    while (count > 0)
+        number = number << 8 | bytes[--count];
+    return number;
+}
+
+static uint32_t word_at(struct bytes words, size_t index)
+{
+    return (uint32_t)number_at(words.at + index * TECUHUALMA_WORD_BYTES, TECUHUALMA_WORD_BYTES);
+}
+
+static uint64_t result_of(const struct job *job, enum tecuhualma_result index)
+{
+    return number_at(job->result + 8 * (size_t)index, 8);
+}
+
+/* ---- Memory and files ---- */
+
+static struct bytes taken(size_t length)
+{
+    struct bytes bytes = {malloc(length > 0 ? length : 1), length};
+    if (bytes.at == NULL) {
+        fputs("out of memory\n", stderr);
+        exit(2);
+    }
+    return bytes;
+}
+
+/* Reads a whole file; gives 0 if that fails. */
+static int read_file(const char *path, struct bytes *content)
+{
+    FILE *file = fopen(path, "rb");
+    if (file == NULL)
+        return 0;
+    long length = fseek(file, 0, SEEK_END) == 0 ? ftell(file) : -1;
+    int whole = length >= 0 && fseek(file, 0, SEEK_SET) == 0;
+    *content = taken(whole ? (size_t)length : 0);
+    whole = whole && fread(content->at, 1, content->length, file) == content->length;
+    fclose(file);
+    return whole;
+}
+
+/* ---- Judging ---- */
+
+static size_t at_most(size_t number, size_t most)
+{
+    return number < most ? number : most;
+}
+
+/*
+ * Enough words for the answer, whatever the sheet holds: its head tells places
+ * and samples, its words of kind 5 the lines. Where these pass a limit the sheet
+ * is refused anyway.
+ */
+static size_t answer_words(struct bytes sheet)
+{
+    size_t words = sheet.length / TECUHUALMA_WORD_BYTES;
+    size_t lines = 0;
+    for (size_t index = 0; index < words; index++)
+        lines += word_at(sheet, index) >> 28 == 5;
+    uint32_t head = words > 0 ? word_at(sheet, 0) : 0;
+    size_t places = at_most(head >> 20 & 0xFF, TECUHUALMA_MOST_PLACES);
+    size_t samples = at_most(head & 0xFFF, TECUHUALMA_MOST_SAMPLES);
+    return TECUHUALMA_ANSWER_WORDS(places, samples, at_most(lines, TECUHUALMA_MOST_LINES));
+}
+
+static uint64_t judge_job(struct job *job)
+{
+    job->distances = taken(TECUHUALMA_DISTANCES_BYTES);
+    job->answer = taken(answer_words(job->sheet) * TECUHUALMA_WORD_BYTES);
+    return judge(job->sheet.at, job->sheet.length, job->distances.at, job->distances.length,
+                 job->answer.at, job->answer.length, job->result, sizeof job->result);
+}
+
+static void give_back(struct job *job)
+{
+    free(job->sheet.at);
+    free(job->distances.at);
+    free(job->answer.at);
+}
+
+/* ---- The summary ---- */
+
+static const char *const MEANINGS[] = {
+    "accepted",
+    "fewer than 4,096 distances lent",
+    "the head is absent or not of kind 1",
+    "places, signals or samples are outside their limits",
+    "spare bits of a road are set",
+    "a road's places are not two rising places of the network",
+    "a road's pair is not above the last",
+    "a road's weight is absent, not of kind 3, or 0",
+    "a sample is absent or not of kind 4",
+    "a sample has bit 27 set",
+    "there is no first line, or a 65th",
+    "a line has an unknown code, signal or operand, or an unused field set",
+    "a line's constant or bounds are absent, of another kind, or out of order",
+    "a line looks past the end of the recording",
+    "the end is absent, not of kind 15, miscounted, or not the last word",
+    "fewer answer words lent than needed",
+    "a length in bytes cannot be",
+};
+
+/* The verdicts of a line at its first sample, by the lookup. */
+static void print_first_sample(const struct job *job, uint64_t line)
+{
+    uint32_t places = word_at(job->answer, 0) >> 20 & 0xFF;
+    printf("line %" PRIu64 " at sample 0:", line);
+    for (uint64_t place = 0; place < places; place++) {
+        uint64_t verdict = lookup(job->answer.at, job->answer.length, line, 0, place);
+        fputs(verdict == TECUHUALMA_VERDICT_YES ? " yes" : " no", stdout);
+    }
+    putchar('\n');
+}
+
+/* Walks an answer's words from the head to the end; kinds 9 and 11 say yes. */
+static void print_lines(const struct job *job)
+{
+    size_t last = (size_t)result_of(job, TECUHUALMA_WORDS) - 1;
+    uint32_t counts[2] = {0, 0};
+    uint64_t line = 0;
+    for (size_t index = 1; index < last; index++) {
+        uint32_t kind = word_at(job->answer, index) >> 28;
+        counts[kind == 9 || kind == 11] += kind != 14;
+        int whole = index + 1 == last || word_at(job->answer, index + 1) >> 28 == 14;
+        if (!whole)
+            continue;
+        printf("line %" PRIu64 ": %" PRIu32 " yes, %" PRIu32 " no\n", line, counts[1], counts[0]);
+        memset(counts, 0, sizeof counts);
+        line++;
+    }
+    print_first_sample(job, line - 1);
+}
+
+static void print_distance(const struct job *job)
+{
+    uint32_t places = word_at(job->answer, 0) >> 20 & 0xFF;
+    uint64_t distance = number_at(job->distances.at + TECUHUALMA_DISTANCE_BYTES * (places - 1),
+                                  TECUHUALMA_DISTANCE_BYTES);
+    printf("from the first place to the last: ");
+    if (distance == TECUHUALMA_NO_DISTANCE)
+        puts("no way");
+    else
+        printf("%" PRIu64 "\n", distance);
+}
+
+static void print_summary(const struct job *job, uint64_t number)
+{
+    printf("number %" PRIu64 ", place %" PRIu64 ", words %" PRIu64 ", rounds %" PRIu64
+           ", yes %" PRIu64 "\n",
+           number, result_of(job, TECUHUALMA_PLACE), result_of(job, TECUHUALMA_WORDS),
+           result_of(job, TECUHUALMA_ROUNDS), result_of(job, TECUHUALMA_YES));
+    if (number != TECUHUALMA_ACCEPTED) {
+        printf("refused: %s\n", MEANINGS[number]);
+        return;
+    }
+    print_distance(job);
+    print_lines(job);
+}
+
+/* Judges one file; gives what the program is to end with. */
+static int judge_file(const char *path)
+{
+    struct job job;
+    if (!read_file(path, &job.sheet)) {
+        fprintf(stderr, "%s cannot be read\n", path);
+        return 2;
+    }
+    printf("%s\n", path);
+    uint64_t number = judge_job(&job);
+    print_summary(&job, number);
+    give_back(&job);
+    return number != TECUHUALMA_ACCEPTED;
+}
+
+int main(int count, char **arguments)
+{
+    int status = 0;
+    if (count < 2) {
+        fprintf(stderr, "usage: %s SHEET..\n", arguments[0]);
+        return 2;
+    }
+    for (int index = 1; index < count; index++) {
+        int ended = judge_file(arguments[index]);
+        status = ended > status ? ended : status;
+    }
+    return status;
+}

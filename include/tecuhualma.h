@@ -1,0 +1,132 @@
+/*
+ * Tecuhualma: verdicts of a station network, for hosts in C.
+ *
+ * A host hands over a sheet (stations and roads, counts per sample, a table of
+ * conditions) and lends three buffers. judge() decides on the sheet and fills
+ * them; lookup() reads one verdict out of an answer. docs/SHEETS.md tells how
+ * a sheet and an answer are laid out, word by word.
+ *
+ * Bytes. Every buffer is plain bytes at any address. A word is four bytes, a
+ * distance and a number of the result eight, always lowest byte first.
+ *
+ * Ownership. All buffers are the host's, before, during and after a call. The
+ * library keeps nothing between calls, takes no memory of its own but the
+ * stack, and reads and writes nothing beside what is lent. A buffer of no
+ * bytes may be NULL. What the lent buffers hold before the call is of no
+ * account; judge() sets each of their bytes.
+ *
+ * Overlap. The four buffers of judge() must not overlap: not the sheet with a
+ * lent one, nor two lent ones. This is the one duty the library cannot check.
+ *
+ * Threads. Calls whose lent buffers are different ones may run side by side.
+ */
+#ifndef TECUHUALMA_H
+#define TECUHUALMA_H
+
+#include <stddef.h>
+#include <stdint.h>
+
+#ifdef __cplusplus
+extern "C" {
+#endif
+
+#define TECUHUALMA_VERSION "0.1.0"
+
+/* The limits of a sheet. */
+#define TECUHUALMA_MOST_PLACES 64
+#define TECUHUALMA_MOST_SIGNALS 16
+#define TECUHUALMA_MOST_SAMPLES 1024
+#define TECUHUALMA_MOST_LINES 64
+#define TECUHUALMA_MOST_ROADS 2016
+
+/* The words of the longest sheet that can be accepted. */
+#define TECUHUALMA_MOST_SHEET_WORDS 1052802
+
+/* What to lend. The distance table has at least 4,096 entries, whatever the
+ * number of places; the result has just 40 bytes. */
+#define TECUHUALMA_WORD_BYTES 4
+#define TECUHUALMA_DISTANCE_BYTES 8
+#define TECUHUALMA_DISTANCES 4096
+#define TECUHUALMA_DISTANCES_BYTES (TECUHUALMA_DISTANCES * TECUHUALMA_DISTANCE_BYTES)
+#define TECUHUALMA_RESULT_BYTES 40
+
+/* Answer words that are enough for every sheet of so many places, samples and
+ * lines; lines that look ahead in time need fewer. */
+#define TECUHUALMA_ANSWER_WORDS(places, samples, lines) \
+    (2 + (size_t)(lines) * (1 + (size_t)(places) * (size_t)(samples)))
+#define TECUHUALMA_MOST_ANSWER_WORDS \
+    TECUHUALMA_ANSWER_WORDS(TECUHUALMA_MOST_PLACES, TECUHUALMA_MOST_SAMPLES, TECUHUALMA_MOST_LINES)
+
+/* The distance of two places that no roads connect. */
+#define TECUHUALMA_NO_DISTANCE UINT64_MAX
+
+/* The five numbers of the result: the index of each, eight bytes apart. */
+enum tecuhualma_result {
+    TECUHUALMA_NUMBER = 0, /* 0 on acceptance, else why the sheet is refused */
+    TECUHUALMA_PLACE = 1,  /* the index of the faulty word; 0 on acceptance */
+    TECUHUALMA_WORDS = 2,  /* the words of the answer, head to end */
+    TECUHUALMA_ROUNDS = 3, /* the greatest rounds of a surround, 0 without one */
+    TECUHUALMA_YES = 4     /* the count of yes verdicts */
+};
+
+/* The numbers. The first fault counts, front to back. */
+enum tecuhualma_number {
+    TECUHUALMA_ACCEPTED = 0,
+    TECUHUALMA_FEW_DISTANCES = 1,     /* under 4,096 entries lent */
+    TECUHUALMA_HEAD_KIND = 2,         /* head absent or not kind 1 */
+    TECUHUALMA_HEAD_LIMITS = 3,       /* places, signals or samples outside the limits */
+    TECUHUALMA_ROAD_SPARE_BITS = 4,   /* spare bits of a road set */
+    TECUHUALMA_ROAD_PLACES = 5,       /* first not below second, or second no place */
+    TECUHUALMA_ROAD_ORDER = 6,        /* a road's pair not above the last */
+    TECUHUALMA_ROAD_WEIGHT = 7,       /* weight absent, not kind 3, or 0 */
+    TECUHUALMA_SAMPLE_KIND = 8,       /* sample absent or not kind 4 */
+    TECUHUALMA_SAMPLE_BIT = 9,        /* bit 27 of a sample set */
+    TECUHUALMA_LINE_COUNT = 10,       /* no first line, or a 65th */
+    TECUHUALMA_LINE_WORD = 11,        /* code, signal, operand or unused field */
+    TECUHUALMA_LINE_PARAMETER = 12,   /* constant or bounds of a line */
+    TECUHUALMA_LINE_LENGTH = 13,      /* a line that looks past the recording */
+    TECUHUALMA_END = 14,              /* end absent, not kind 15, miscounted, or not last */
+    TECUHUALMA_SHORT_ANSWER = 15,     /* fewer answer words lent than needed */
+    TECUHUALMA_BYTE_LENGTHS = 16      /* a length in bytes that cannot be */
+};
+
+/* What lookup() gives. */
+enum tecuhualma_verdict {
+    TECUHUALMA_NO_VERDICT = 0,
+    TECUHUALMA_VERDICT_YES = 1,
+    TECUHUALMA_VERDICT_NO = 2
+};
+
+/*
+ * Decides on a sheet and gives the number, 0 on acceptance.
+ *
+ * Accepted: the answer's words stand at the front of `answer`, zeros behind
+ * them; n·n distances stand row by row at the front of `distances`, zeros
+ * behind them; `result` holds the five numbers.
+ *
+ * Refused: `answer` and `distances` are all zero; `result` holds the number,
+ * the place, and three zeros.
+ *
+ * Number 16 comes before all else: sheet_len or answer_len is not a multiple
+ * of 4, distances_len not one of 8, or result_len is not 40. A result of
+ * another length than 40 is all zero; only the number given back tells.
+ */
+uint64_t judge(const uint8_t *sheet, size_t sheet_len, uint8_t *distances, size_t distances_len,
+               uint8_t *answer, size_t answer_len, uint8_t *result, size_t result_len);
+
+/*
+ * Looks up the verdict of a line at a sample and a place: 1 yes, 2 no, 0 none.
+ *
+ * It is 0 exactly if the bytes are not a whole answer as judge() writes one
+ * (with nothing but zeros behind its end), or if they are but line, sample or
+ * place is not in it. A refused sheet's answer is all zero and has no verdict.
+ * Every call reads the whole answer.
+ */
+uint64_t lookup(const uint8_t *answer, size_t answer_len, uint64_t line, uint64_t sample,
+                uint64_t place);
+
+#ifdef __cplusplus
+}
+#endif
+
+#endif
