@@ -4,7 +4,7 @@ use super::{sheets, timed, Times};
 use crate::Engine;
 
 /// Times the three sheets of the benchmark, then how time grows with samples,
-/// places and lines; prints a row for each.
+/// places, lines and windows of time; prints a row for each.
 pub fn print(engine: &dyn Engine) {
     section("The three sheets, 64 places and 1,024 samples");
     row(engine, "8×8 grid, every code", &sheets::full_grid());
@@ -13,6 +13,7 @@ pub fn print(engine: &dyn Engine) {
     by_samples(engine);
     by_places(engine);
     by_lines(engine);
+    by_windows(engine);
 }
 
 fn by_samples(engine: &dyn Engine) {
@@ -33,6 +34,13 @@ fn by_lines(engine: &dyn Engine) {
     section("By lines: 6×6 grid, 256 samples");
     for lines in [8, 16, 32, 64] {
         row(engine, &format!("{lines} lines"), &sheets::grid_of_lines(lines));
+    }
+}
+
+fn by_windows(engine: &dyn Engine) {
+    section("By windows: 8×8 grid, until, eventually and always, 1,024 samples");
+    for ahead in [4, 16, 64, 256, 512] {
+        row(engine, &format!("0..{ahead}"), &sheets::grid_of_windows(ahead));
     }
 }
 

@@ -123,3 +123,15 @@ pub fn grid_of_lines(lines: u32) -> Vec<u32> {
     };
     (2..lines).fold(sheet, add).end()
 }
+
+/// The 8×8 grid with no surround: until, eventually and always over windows
+/// of so many samples ahead.
+pub fn grid_of_windows(ahead: u32) -> Vec<u32> {
+    grid_network(8, SAMPLES)
+        .at_least(0, -20)
+        .at_most(1, 10)
+        .bounded(5, 0, 1, (0, ahead))
+        .bounded(9, 0, 0, (0, ahead))
+        .bounded(10, 1, 0, (0, ahead))
+        .end()
+}

@@ -3,7 +3,7 @@
 use mathlib.Core.Path.{_≡_, sym, ap, subst, subst₂, _∙_}
 use mathlib.Core.Bool.{cond, _&&_}
 use mathlib.Core.List.{List}
-use Prim.Native.Nat.{ℕ, _≤_}
+use Prim.Native.Nat.{ℕ}
 use lib.Dec.{ltb}
 use lib.ListN.{length}
 use contract.Lifetimes
@@ -17,9 +17,9 @@ use Rattle.sheet.specs.Apart.{SamplesApart}
 use Rattle.sheet.proofs.Whole.{accepted-sheet}
 use Rattle.values.specs.Said.{says, nothing}
 use Rattle.lookup.specs.Lookup.{verdictNumber, saidAt, lookedUp}
-use Rattle.verdicts.specs.Judged.{Judged, answered, judged}
+use Rattle.verdicts.specs.Judged.{Judged, judged}
 use Rattle.verdicts.specs.Steady.{Steady}
-use Rattle.verdicts.proofs.Accepted.{Answered, accepted-answered, answered-lookup}
+use Rattle.verdicts.proofs.Accepted.{accepted-answered, answered-lookup}
 use Rattle.verdicts.proofs.Examples.{StarredExamples, examples-of}
 use Rattle.verdicts.proofs.Steadiness.{steadiness}
 use Rattle.engine.specs.declared.Result.{Result}

@@ -1,6 +1,6 @@
 -- How the outcome of the survey decides what is judged: a refusal as it is, an accepted sheet by the room for its answer.
-use mathlib.Core.Path.{_≡_, refl, sym, ap, subst, _∙_}
-use mathlib.Core.Bool.{Bool, true, false, cond}
+use mathlib.Core.Path.{_≡_, sym, ap, subst, _∙_}
+use mathlib.Core.Bool.{Bool, cond}
 use mathlib.Core.List.{List}
 use Prim.Native.Nat.{ℕ, _<_, _≤_}
 use lib.Dec.{leb}
@@ -15,7 +15,7 @@ use Rattle.sheet.specs.Checking.{mapped, layoutOf}
 use Rattle.sheet.specs.Survey.{surveyedBy, surveyed}
 use Rattle.sheet.proofs.Checks.{mapped-accepted, mapped-refused}
 use Rattle.verdicts.specs.Answer.{wordsNeeded}
-use Rattle.verdicts.specs.Judged.{Judged, refusal, answered, judgedBy, judged}
+use Rattle.verdicts.specs.Judged.{refusal, answered, judgedBy, judged}
 use Rattle.engine.specs.Lines.{foundBy, found, Accepting}
 
 -- bytes that are all zero hold zero words

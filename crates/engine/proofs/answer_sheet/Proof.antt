@@ -1,5 +1,5 @@
 -- The result has what writing the answer has found.
-use mathlib.Core.Path.{_≡_, ap, ap₂, _∙_}
+use mathlib.Core.Path.{ap, ap₂, _∙_}
 use Prim.Native.Nat.{ℕ, _+_}
 use native.Mathlib.Nat.{add-comm}
 use native.Mathlib.Omega.{arith}

@@ -1,13 +1,11 @@
 -- The survey's outcome decides: a refusal leaves zeros, and so does an answer that has no room; all else is written.
-use mathlib.Core.Path.{_≡_, sym, ap, subst, _∙_}
-use mathlib.Core.List.{List}
+use mathlib.Core.Path.{_≡_, sym, ap, _∙_}
 use Prim.Native.Nat.{ℕ, _<_, _≤_}
 use native.Mathlib.Omega.{arith}
-use lib.ListN.{length, replicate}
+use lib.ListN.{length}
 use borrow.Author.Needs.{needs}
 use Rattle.words.specs.Bytes.{wordsOf, numbersOf}
 use Rattle.words.proofs.Numbers.{same-count}
-use Rattle.words.proofs.Words.{length-words}
 use Rattle.sheet.specs.Faults.{faultNumber}
 use Rattle.sheet.specs.Checking.{checkSaid}
 use Rattle.sheet.proofs.Surveys.{refusing, zero-numbers}

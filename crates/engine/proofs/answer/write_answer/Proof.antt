@@ -1,5 +1,5 @@
 -- The head, the lines and the end are put one after the other, and the part behind the end is lent to be cleared.
-use mathlib.Core.Path.{_≡_, sym, ap, ap₂, subst, _∙_}
+use mathlib.Core.Path.{_≡_, sym, ap, ap₂, _∙_}
 use mathlib.Core.List.{List, [], _∷_, _++_}
 use Prim.Native.Nat.{ℕ, _+_, _-_, _*_, _^_, _<_, _≤_}
 use native.Mathlib.Omega.{arith}
@@ -7,11 +7,10 @@ use lib.ListN.{length, set, take, replicate, length-append, length-drop}
 use borrow.Author.Needs.{needs}
 use Rattle.words.specs.Bytes.{wordsOf, numbersOf}
 use Rattle.words.specs.Word.{wordOf}
-use Rattle.words.specs.Rows.{concat, padded, put}
+use Rattle.words.specs.Rows.{concat, put}
 use Rattle.words.proofs.Parts.{tail-list, tail-back}
 use Rattle.words.proofs.Words.{words-count}
 use Rattle.sheet.specs.Layout.{Layout}
-use Rattle.sheet.specs.Checking.{layoutOf}
 use Rattle.sheet.specs.Roads.{network, recording}
 use Rattle.verdicts.specs.Answer.{lineIndex, wordsNeeded, lineWords, headWord, answerWords}
 use Rattle.engine.specs.Lines.{found}
