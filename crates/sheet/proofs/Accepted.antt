@@ -21,7 +21,6 @@ use Rattle.sheet.proofs.Tests.{and-true}
 pub record SizesWithin (z : Sizes) : Type 0 where
   pub places-some : 1 ≤ z .places
   pub places-most : z .places ≤ mostPlaces
-  pub signals-some : 1 ≤ z .signals
   pub signals-most : z .signals ≤ mostSignals
   pub samples-some : 1 ≤ z .samples
   pub samples-most : z .samples ≤ mostSamples
@@ -48,7 +47,6 @@ head-accepted s {z} e =
     let within : SizesWithin sizes = record {
       places-some = p .0;
       places-most = p .1;
-      signals-some = v .0;
       signals-most = v .1;
       samples-some = t .0;
       samples-most = t .1;

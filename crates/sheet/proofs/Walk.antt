@@ -79,19 +79,13 @@ module _ (s : List ℕ) (v T : ℕ) where
             most = omega arith;
           }
 
--- ---- how many lines there are, and where the first stands
+-- ---- there is a first line
 
-pub lines-counted : (s : List ℕ) (v T at : ℕ) {lines : List Line} {end : ℕ} → linesFrom s v T mostLines [] at ≡ accepted (lines, end)
-    → (1 ≤ length lines) × (length lines ≤ mostLines) × (at < length s)
-lines-counted s v T at {lines} {end} e =
-    let front = lines-front s v T mostLines [] at e in
-    ⊎-elim (λ stop. absurd (none stop)) (λ read. (some read, front .most, read .there)) (stop-or-read s v T 63 [] at e)
+pub first-inside : (s : List ℕ) (v T at : ℕ) {lines : List Line} {end : ℕ} → linesFrom s v T mostLines [] at ≡ accepted (lines, end) → at < length s
+first-inside s v T at {lines} e = ⊎-elim (λ stop. absurd (none stop)) (λ read. read .there) (stop-or-read s v T 63 [] at e)
   where
     none : Stopped s v T [] lines → ⊥
     none stop = let same = ap length (stop .same) in let some = stop .some in omega arith
-
-    some : LineRead s v T 63 [] at lines end → 1 ≤ length lines
-    some read = lines-front s v T 63 ([] ++ (read .line ∷ [])) (read .next) (read .rest) .least
 
 -- ---- the walk
 

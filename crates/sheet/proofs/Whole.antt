@@ -16,7 +16,7 @@ use Rattle.sheet.specs.Layout.{Sizes, Layout, roadAt, sampleCount, headC
 use Rattle.sheet.specs.Checking.{mapped, lineCount, layoutOf}
 use Rattle.sheet.proofs.Checks.{require-accepted, bind-accepted, mapped-accepted, mapped-refused, mapped-twice}
 use Rattle.sheet.proofs.Accepted.{SizesWithin, head-accepted, samples-end, end-accepted, end-mapped}
-use Rattle.sheet.proofs.Walk.{lines-counted}
+use Rattle.sheet.proofs.Walk.{first-inside}
 
 -- ---- the lines and the end, where what stands before them has passed
 
@@ -76,8 +76,6 @@ pub record AcceptedSheet (s : List ℕ) (d : ℕ) (L : Layout) : Type 0 where
   pub recording : samplesFrom s (sampleCount (L.sizes)) (layoutOf L .recording) ≡ accepted (layoutOf L .table)
   pub table : linesFrom s (L.sizes.signals) (L.sizes.samples) mostLines [] (layoutOf L .table) ≡ accepted (L.lines, length s - 1)
   pub table-there : layoutOf L .table < length s
-  pub lines-some : 1 ≤ length (L.lines)
-  pub lines-most : length (L.lines) ≤ mostLines
 
 pub accepted-sheet : (s : List ℕ) (d : ℕ) (L : Layout) → checked s d ≡ accepted L → AcceptedSheet s d L
 unfolding checked
@@ -91,7 +89,6 @@ accepted-sheet s d L e =
     let ends = end-accepted s (lines .0 .1) _ (lines .2) in
     let begins : samples .0 ≡ roadAt (roads .0) + sampleCount z = samples-end s (sampleCount z) (roadAt (roads .0)) (samples .1) in
     let last : lines .0 .1 ≡ length s - 1 = omega (arith, ends .0) in
-    let counted = lines-counted s (z .signals) (z .samples) (samples .0) (lines .1) in
     let ended : ℕ → Checked (List Line × ℕ) = λ n. accepted (lines .0 .0, n) in
     let found : Layout = record { sizes = z; roads = roads .0; lines = lines .0 .0 } in
     let sheet : AcceptedSheet s d found = record {
@@ -101,8 +98,6 @@ accepted-sheet s d L e =
       roads = roads .1;
       recording = samples .1 ∙ ap accepted begins;
       table = ap (linesFrom s (z .signals) (z .samples) mostLines []) (sym begins) ∙ lines .1 ∙ ap ended last;
-      table-there = subst (λ (n : ℕ). n < length s) begins (counted .2);
-      lines-some = counted .0;
-      lines-most = counted .1;
+      table-there = subst (λ (n : ℕ). n < length s) begins (first-inside s (z .signals) (z .samples) (samples .0) (lines .1));
     } in
     subst (AcceptedSheet s d) (ends .1) sheet
