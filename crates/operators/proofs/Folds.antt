@@ -1,14 +1,17 @@
 -- Folds over chain numbers, one number more at a time, as the loops of the operators take them.
 use mathlib.Core.Path.{_≡_, refl, _∙_}
 use mathlib.Core.Bool.{Bool, true, false, cond}
-use Prim.Native.Nat.{ℕ, zero, suc, _+_, _≤_}
-use native.Mathlib.Nat.{le-of-lt}
+use Prim.Native.Nat.{ℕ, zero, suc, _+_, _≤_, zero-le}
+use native.Mathlib.Nat.{le-of-lt, le-suc, le-refl, le-trans, le-antisymm}
+use native.Mathlib.Decide.{le-ind}
 use native.Mathlib.Numerals.{add-one}
-use lib.Dec.{leb}
+use lib.Dec.{leb, leb→le}
 use borrow.Author.Tests.{le-leb, lt-leb}
 use Rattle.logic.specs.Lattice.{leastOver, greatestOver}
 use Rattle.logic.specs.Table.{Signal, untilAt, everTrue}
+use Rattle.logic.proofs.Margins.{meet-by, join-by}
 use Rattle.values.specs.Chain.{chains, chainLattice, highest}
+use Rattle.values.proofs.Naturals.{leb-trans, leb-total}
 
 -- ---- a window that begins at `first`: nothing before it, and from there on every number counts
 module _ (f : ℕ → ℕ) (first : ℕ) where
@@ -35,6 +38,29 @@ pub greatest-next : (test : ℕ → Bool) (f : ℕ → ℕ) (n : ℕ) → greate
 unfolding greatestOver
 greatest-next test f n = rw (add-one n) refl
 
+-- ---- how the folds go on: the least only falls, and a greatest that nothing later exceeds is the greatest of all
+meet-under : (a b : ℕ) → (chainLattice .meet a b ≤ a) × (chainLattice .meet a b ≤ b)
+meet-under a b = meet-by leb 0 highest leb-trans leb-total (λ m. (m ≤ a) × (m ≤ b)) a b
+    (λ h. (le-refl a, leb→le a b h))
+    (λ h. (leb→le b a h, le-refl b))
+
+join-none : (a b : ℕ) → b ≤ a → chainLattice .join a b ≡ a
+join-none a b h = join-by leb 0 highest leb-trans leb-total (λ m. m ≡ a) a b (λ k. le-antisymm h (leb→le a b k)) (λ _. refl)
+
+cond-under : (t : Bool) (a b : ℕ) → a ≤ b → cond t a 0 ≤ b
+cond-under true a b h = h
+cond-under false a b h = zero-le
+
+module _ (test : ℕ → Bool) (f : ℕ → ℕ) {m : ℕ} where
+  least-falls : (n : ℕ) → m ≤ n → leastOver chainLattice test f n ≤ leastOver chainLattice test f m
+  unfolding leastOver
+  least-falls n h = le-ind (λ k. leastOver chainLattice test f k ≤ leastOver chainLattice test f m) (le-refl _) (λ k _ e. le-trans (meet-under _ _ .0) e) n h
+
+  greatest-stays : (n : ℕ) → m ≤ n → ((k : ℕ) → m ≤ k → f k ≤ greatestOver chainLattice test f m) → greatestOver chainLattice test f n ≡ greatestOver chainLattice test f m
+  unfolding greatestOver
+  greatest-stays n h low = le-ind (λ k. greatestOver chainLattice test f k ≡ greatestOver chainLattice test f m) refl
+      (λ k l e. rw e (join-none (greatestOver chainLattice test f m) (cond (test k) (f k) 0) (cond-under (test k) (f k) _ (low k l)))) n h
+
 -- ---- until
 -- what sample u offers: the lesser of right there and the least of left from t to u
 abbrev pub offer : Signal chains → Signal chains → ℕ → ℕ → ℕ → ℕ
@@ -47,6 +73,14 @@ until-more left right t l first u h = greatest-more (offer left right t l) first
 pub until-all : (left right : Signal chains) (lower upper t l : ℕ) → untilAt chains left right lower upper t l ≡ greatestOver chainLattice (leb (t + lower)) (offer left right t l) (t + upper + 1)
 unfolding untilAt
 until-all left right lower upper t l = rw (add-one (t + upper)) refl
+
+-- no sample from u on offers more than the least of left before u, so where that is no more than until so far, until is known
+pub until-known : (left right : Signal chains) (lower upper t l u : ℕ) → u ≤ t + upper + 1
+    → leastOver chainLattice (leb t) (λ v. left v l) u ≤ greatestOver chainLattice (leb (t + lower)) (offer left right t l) u
+    → untilAt chains left right lower upper t l ≡ greatestOver chainLattice (leb (t + lower)) (offer left right t l) u
+until-known left right lower upper t l u h low = until-all left right lower upper t l
+    ∙ greatest-stays (leb (t + lower)) (offer left right t l) (t + upper + 1) h
+    (λ k b. le-trans (meet-under (right k l) _ .1) (le-trans (least-falls (leb t) (λ v. left v l) (suc k) (le-trans b (le-suc k))) low))
 
 -- ---- until with a left operand that is always true, which holds nothing back
 least-true : (test : ℕ → Bool) (n : ℕ) → leastOver chainLattice test (λ _. highest) n ≡ highest

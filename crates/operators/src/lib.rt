@@ -95,6 +95,10 @@ pub fn until_at(
     let mut least = least_between(words, left, places, t, first, l);
     let mut best = values::bottom();
     for u in first..end {
+        // every later sample offers at most the least of left so far
+        if least <= best {
+            return best;
+        }
         least = values::lesser(least, signal_at(words, left, places, u, l));
         best = values::greater(
             best,

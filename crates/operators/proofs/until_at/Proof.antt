@@ -1,4 +1,5 @@
--- Each turn takes one sample more into the least of left, and what that sample offers into the greatest.
+-- Each turn takes one sample more into the least of left, and what that sample offers into the greatest. Where the least is no more than the
+-- greatest, no later sample changes that.
 use mathlib.Core.Path.{_≡_, sym, ap, ap₂, _∙_}
 use Prim.Native.Nat.{_+_, _-_, _≤_}
 use native.Mathlib.Nat.{mul-le-mul-right}
@@ -12,7 +13,7 @@ use Rattle.logic.specs.Lattice.{leastOver, greatestOver}
 use Rattle.values.specs.Chain.{chainLattice}
 use Rattle.values.specs.Signals.{signalIn}
 use Rattle.operators.proofs.Bounds.{window-end}
-use Rattle.operators.proofs.Folds.{greatest-none, least-more, offer, until-more, until-all}
+use Rattle.operators.proofs.Folds.{greatest-none, least-more, offer, until-more, until-all, until-known}
 use Rattle.operators.proofs.until_at.Statement.{statement}
 use Rattle.operators.proofs.until_at.Tie as tie
 
@@ -51,14 +52,20 @@ loop-holds c =
     let a = c .before .before .before .args in
     (search needs, search needs, c .before .least-between .ensures, c .bottom .ensures ∙ sym (greatest-none _ _ (a .t + a .lower) (omega arith)))
 
+returns : tie.Need-returns Inv-loop μ-loop
+returns c =
+    let a = c .before .before .before .before .before .before .args in
+    let loop = c .before .before .loop in
+    loop .inv .3 ∙ sym (until-known _ _ (a .lower) (a .upper) (a .t) (a .l) (loop .u) (omega arith) (omega arith))
+
 signal-at-requires : tie.Need-signal-at-requires Inv-loop μ-loop
-signal-at-requires c κs = omega (arith, in-table (c .loop-test .taken) (c .before .before .before .before .before .pre .0 .place))
+signal-at-requires c κs = omega (arith, in-table (c .before .loop-test .taken) (c .before .before .before .before .before .before .pre .0 .place))
 
 lesser-requires : tie.Need-lesser-requires Inv-loop μ-loop
 lesser-requires c κs = search needs
 
 signal-at-requires-2 : tie.Need-signal-at-requires-2 Inv-loop μ-loop
-signal-at-requires-2 c κs = omega (arith, in-table (c .before .before .loop-test .taken) (c .before .before .before .before .before .before .before .pre .1 .place))
+signal-at-requires-2 c κs = omega (arith, in-table (c .before .before .before .loop-test .taken) (c .before .before .before .before .before .before .before .before .pre .1 .place))
 
 lesser-requires-2 : tie.Need-lesser-requires-2 Inv-loop μ-loop
 lesser-requires-2 c κs = search needs
@@ -67,15 +74,15 @@ greater-requires : tie.Need-greater-requires Inv-loop μ-loop
 greater-requires c κs = search needs
 
 add-u : tie.Need-add-u Inv-loop μ-loop
-add-u c = omega (arith, end-fits (c .before .before .before .before .before .before .before .before .before .before))
+add-u c = omega (arith, end-fits (c .before .before .before .before .before .before .before .before .before .before .before))
 
 loop-less : tie.Need-loop-less Inv-loop μ-loop
 loop-less c = search needs
 
 loop-again : tie.Need-loop-again Inv-loop μ-loop
 loop-again c =
-    let a = c .before .before .before .before .before .before .before .before .before .before .args in
-    let loop = c .before .before .before .before .before .before .loop in
+    let a = c .before .before .before .before .before .before .before .before .before .before .before .args in
+    let loop = c .before .before .before .before .before .before .before .loop in
     let held = c .before .before .before .lesser .ensures ∙ ap₂ (chainLattice .meet) (loop .inv .2) (c .before .before .before .before .signal-at .ensures) ∙ sym (least-more _ _ (loop .u) (omega arith)) in
     let offered = c .before .lesser2 .ensures ∙ ap₂ (chainLattice .meet) (c .before .before .signal-at2 .ensures) held in
     let signal = signalIn (wordsOf (a .words .now)) in (
@@ -86,8 +93,8 @@ loop-again c =
           ∙ sym (until-more (signal (a .left) (a .places)) (signal (a .right) (a .places)) (a .t) (a .l) (a .t + a .lower) (loop .u) (loop .inv .0)),
     )
 
-returns : tie.Need-returns Inv-loop μ-loop
-returns c =
+returns-2 : tie.Need-returns-2 Inv-loop μ-loop
+returns-2 c =
     let a = c .before .before .before .before .before .args in
     let ended : c .before .loop .u ≡ a .t + a .upper + 1 = omega arith in
     c .before .loop .inv .3 ∙ ap (greatestOver chainLattice _ _) ended ∙ sym (until-all _ _ (a .lower) (a .upper) (a .t) (a .l))
@@ -104,6 +111,7 @@ until-at-spec =
     least-between-requires
     bottom-requires
     loop-holds
+    returns
     signal-at-requires
     lesser-requires
     signal-at-requires-2
@@ -112,4 +120,4 @@ until-at-spec =
     add-u
     loop-less
     loop-again
-    returns)
+    returns-2)
