@@ -130,6 +130,9 @@ static const char *const MEANINGS[] = {
     "a length in bytes cannot be",
 };
 
+/* By what lookup() gives: silence is neither a yes nor a no. */
+static const char *const VERDICTS[] = {" none", " yes", " no"};
+
 /* The verdicts of a line at its first sample, by the lookup. */
 static void print_first_sample(const struct job *job, uint64_t line)
 {
@@ -137,7 +140,7 @@ static void print_first_sample(const struct job *job, uint64_t line)
     printf("line %" PRIu64 " at sample 0:", line);
     for (uint64_t place = 0; place < places; place++) {
         uint64_t verdict = lookup(job->answer.at, job->answer.length, line, 0, place);
-        fputs(verdict == TECUHUALMA_VERDICT_YES ? " yes" : " no", stdout);
+        fputs(VERDICTS[verdict], stdout);
     }
     putchar('\n');
 }
