@@ -2,7 +2,7 @@
 
 use crate::difference::{demand, same_bytes, Difference};
 use crate::lent::Lent;
-use crate::{Engine, Implementation};
+use crate::{Engine, Filled, Implementation};
 use reference::answer::Answer;
 use reference::generate::random::Random;
 use reference::generate::Case;
@@ -41,8 +41,12 @@ pub fn judged(engine: &dyn Engine, random: &mut Random, case: &Case) -> Result<L
     let mut distances = Lent::dirty(random, case.distances);
     let mut answer = Lent::dirty(random, case.answer);
     let mut result = Lent::dirty(random, case.result);
-    let number =
-        engine.judge(sheet.bytes(), distances.bytes_mut(), answer.bytes_mut(), result.bytes_mut());
+    let left = Filled {
+        distances: distances.bytes_mut(),
+        answer: answer.bytes_mut(),
+        result: result.bytes_mut(),
+    };
+    let number = engine.judge(sheet.bytes(), left);
     demand(sheet.bytes() == case.sheet, || "the sheet was written".into())?;
     for (lent, name) in
         [(&sheet, "sheet"), (&distances, "distances"), (&answer, "answer"), (&result, "result")]

@@ -22,16 +22,20 @@ pub mod steadiness;
 #[cfg(test)]
 mod wrong;
 
+/// The buffers that are lent for a judge to fill.
+pub struct Filled<'a> {
+    /// The distance table.
+    pub distances: &'a mut [u8],
+    /// The answer.
+    pub answer: &'a mut [u8],
+    /// The result.
+    pub result: &'a mut [u8],
+}
+
 /// What a host reaches: the two functions of the library, over bytes.
 pub trait Engine {
     /// Judges a sheet into lent buffers and gives the number.
-    fn judge(
-        &self,
-        sheet: &[u8],
-        distances: &mut [u8],
-        answer: &mut [u8],
-        result: &mut [u8],
-    ) -> u64;
+    fn judge(&self, sheet: &[u8], left: Filled) -> u64;
 
     /// Looks a verdict up in an answer: 1 yes, 2 no, 0 no verdict.
     fn lookup(&self, answer: &[u8], line: u64, sample: u64, place: u64) -> u64;
@@ -42,14 +46,8 @@ pub trait Engine {
 pub struct Implementation;
 
 impl Engine for Implementation {
-    fn judge(
-        &self,
-        sheet: &[u8],
-        distances: &mut [u8],
-        answer: &mut [u8],
-        result: &mut [u8],
-    ) -> u64 {
-        reference::judge::<reference::fast::Fast>(sheet, distances, answer, result)
+    fn judge(&self, sheet: &[u8], left: Filled) -> u64 {
+        reference::judge::<reference::fast::Fast>(sheet, left.distances, left.answer, left.result)
     }
 
     fn lookup(&self, answer: &[u8], line: u64, sample: u64, place: u64) -> u64 {

@@ -1,7 +1,7 @@
 //! The engine's static library. Only the programs include this file, because
 //! only they are linked with the library.
 
-use comparison::Engine;
+use comparison::{Engine, Filled};
 
 unsafe extern "C" {
     fn judge(
@@ -21,25 +21,19 @@ unsafe extern "C" {
 pub struct Library;
 
 impl Engine for Library {
-    fn judge(
-        &self,
-        sheet: &[u8],
-        distances: &mut [u8],
-        answer: &mut [u8],
-        result: &mut [u8],
-    ) -> u64 {
+    fn judge(&self, sheet: &[u8], left: Filled) -> u64 {
         // SAFETY: slices are valid for their lengths, and borrows that are
         // exclusive do not overlap. No bytes may be lent as a null pointer.
         unsafe {
             judge(
                 start(sheet),
                 sheet.len(),
-                start(distances).cast_mut(),
-                distances.len(),
-                start(answer).cast_mut(),
-                answer.len(),
-                start(result).cast_mut(),
-                result.len(),
+                start(left.distances).cast_mut(),
+                left.distances.len(),
+                start(left.answer).cast_mut(),
+                left.answer.len(),
+                start(left.result).cast_mut(),
+                left.result.len(),
             )
         }
     }

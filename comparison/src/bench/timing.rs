@@ -1,7 +1,7 @@
 //! How long an engine takes.
 
 use crate::judging::case_of;
-use crate::{Engine, Implementation};
+use crate::{Engine, Filled, Implementation};
 use reference::sheet::{check, DISTANCE_ENTRIES};
 use std::time::{Duration, Instant};
 
@@ -62,8 +62,13 @@ pub fn timed(engine: &dyn Engine, words: &[u32]) -> Times {
 }
 
 fn run(engine: &dyn Engine, sheet: &[u8], lent: &mut Buffers) -> Duration {
+    let left = Filled {
+        distances: &mut lent.distances,
+        answer: &mut lent.answer,
+        result: &mut lent.result,
+    };
     let start = Instant::now();
-    let number = engine.judge(sheet, &mut lent.distances, &mut lent.answer, &mut lent.result);
+    let number = engine.judge(sheet, left);
     let taken = start.elapsed();
     assert_eq!(number, 0, "a valid sheet was refused");
     taken

@@ -1,7 +1,7 @@
 //! Engines that do the right thing and then spoil what they leave.
 
 use super::caught;
-use crate::{steadiness, Engine, Implementation};
+use crate::{steadiness, Engine, Filled, Implementation};
 use reference::generate::random::Random;
 use reference::judge::Outcome;
 use reference::words::{self, kinds};
@@ -12,14 +12,12 @@ type Spoil = fn(&mut [u8], &mut [u8], &mut [u8]);
 struct Spoilt(Spoil);
 
 impl Engine for Spoilt {
-    fn judge(
-        &self,
-        sheet: &[u8],
-        distances: &mut [u8],
-        answer: &mut [u8],
-        result: &mut [u8],
-    ) -> u64 {
-        let number = Implementation.judge(sheet, distances, answer, result);
+    fn judge(&self, sheet: &[u8], left: Filled) -> u64 {
+        let Filled { distances, answer, result } = left;
+        let number = Implementation.judge(
+            sheet,
+            Filled { distances: &mut *distances, answer: &mut *answer, result: &mut *result },
+        );
         (self.0)(distances, answer, result);
         number
     }
@@ -105,14 +103,8 @@ fn a_byte_behind_the_distances() {
 struct Refuses;
 
 impl Engine for Refuses {
-    fn judge(
-        &self,
-        _sheet: &[u8],
-        distances: &mut [u8],
-        answer: &mut [u8],
-        result: &mut [u8],
-    ) -> u64 {
-        Implementation.judge(&[], distances, answer, result)
+    fn judge(&self, _sheet: &[u8], left: Filled) -> u64 {
+        Implementation.judge(&[], left)
     }
 
     fn lookup(&self, _answer: &[u8], _line: u64, _sample: u64, _place: u64) -> u64 {
@@ -129,14 +121,8 @@ fn every_sheet_turned_back() {
 struct Trusting;
 
 impl Engine for Trusting {
-    fn judge(
-        &self,
-        sheet: &[u8],
-        distances: &mut [u8],
-        answer: &mut [u8],
-        result: &mut [u8],
-    ) -> u64 {
-        Implementation.judge(sheet, distances, answer, result)
+    fn judge(&self, sheet: &[u8], left: Filled) -> u64 {
+        Implementation.judge(sheet, left)
     }
 
     fn lookup(&self, answer: &[u8], line: u64, sample: u64, place: u64) -> u64 {

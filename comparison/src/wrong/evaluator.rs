@@ -3,7 +3,7 @@
 
 use super::caught;
 use crate::reached::Reached;
-use crate::{laws, Engine, Implementation};
+use crate::{laws, Engine, Filled, Implementation};
 use reference::distance::Distances;
 use reference::evaluation::Evaluation;
 use reference::generate::random::Random;
@@ -210,14 +210,8 @@ fn step<const FAULT: u32>(neighbours: &[Vec<usize>], row: &Row, right: &Row) -> 
 struct Trapped<const FAULT: u32>;
 
 impl<const FAULT: u32> Engine for Trapped<FAULT> {
-    fn judge(
-        &self,
-        sheet: &[u8],
-        distances: &mut [u8],
-        answer: &mut [u8],
-        result: &mut [u8],
-    ) -> u64 {
-        reference::judge::<Faulty<FAULT>>(sheet, distances, answer, result)
+    fn judge(&self, sheet: &[u8], left: Filled) -> u64 {
+        reference::judge::<Faulty<FAULT>>(sheet, left.distances, left.answer, left.result)
     }
 
     fn lookup(&self, answer: &[u8], line: u64, sample: u64, place: u64) -> u64 {
