@@ -1,10 +1,11 @@
 -- Folds over chain numbers, one number more at a time, as the loops of the operators take them.
-use mathlib.Core.Path.{_≡_, refl, _∙_}
+use mathlib.Core.Path.{_≡_, refl, sym, ap, ap₂, _∙_}
 use mathlib.Core.Bool.{Bool, true, false, cond}
-use Prim.Native.Nat.{ℕ, zero, suc, _+_, _≤_, zero-le}
+use Prim.Native.Nat.{ℕ, zero, suc, _+_, _<_, _≤_, zero-le, max}
 use native.Mathlib.Nat.{le-of-lt, le-suc, le-refl, le-trans, le-antisymm}
 use native.Mathlib.Decide.{le-ind}
 use native.Mathlib.Numerals.{add-one}
+use native.Mathlib.Omega.{arith}
 use lib.Dec.{leb, leb→le}
 use borrow.Author.Tests.{le-leb, lt-leb}
 use Rattle.logic.specs.Lattice.{leastOver, greatestOver}
@@ -12,6 +13,7 @@ use Rattle.logic.specs.Table.{Signal, untilAt, everTrue}
 use Rattle.logic.proofs.Margins.{meet-by, join-by}
 use Rattle.values.specs.Chain.{chains, chainLattice, highest}
 use Rattle.values.proofs.Naturals.{leb-trans, leb-total}
+use Rattle.operators.specs.Rows.{ahead}
 
 -- ---- a window that begins at `first`: nothing before it, and from there on every number counts
 module _ (f : ℕ → ℕ) (first : ℕ) where
@@ -103,3 +105,36 @@ module _ (right : Signal chains) (l : ℕ) (small : (u : ℕ) → right u l ≤ 
 
   pub eventually-all : (lower upper t : ℕ) → untilAt chains (everTrue chains) right lower upper t l ≡ greatestOver chainLattice (leb (t + lower)) (λ u. right u l) (t + upper + 1)
   eventually-all lower upper t = until-all (everTrue chains) right lower upper t l ∙ greatest-true (leb (t + lower)) t (t + upper + 1)
+
+-- ---- a window that moves on by one sample
+pub join-max : (a b : ℕ) → chainLattice .join a b ≡ max a b
+join-max a b = join-by leb 0 highest leb-trans leb-total (λ m. m ≡ max a b) a b (λ h. let k = leb→le a b h in omega arith) (λ h. let k = leb→le b a h in omega arith)
+
+greatest-first : (f : ℕ → ℕ) (first n : ℕ) → first + 1 ≤ n → greatestOver chainLattice (leb first) f n ≡ max (f first) (greatestOver chainLattice (leb (first + 1)) f n)
+greatest-first f first n h = le-ind (λ k. greatestOver chainLattice (leb first) f k ≡ max (f first) (greatestOver chainLattice (leb (first + 1)) f k)) one more n h
+  where
+    one : greatestOver chainLattice (leb first) f (first + 1) ≡ max (f first) (greatestOver chainLattice (leb (first + 1)) f (first + 1))
+    one =
+        let here : greatestOver chainLattice (leb first) f (first + 1) ≡ max (greatestOver chainLattice (leb first) f first) (f first) = greatest-more f first first (le-refl first) ∙ join-max _ _ in
+        omega (arith, here, greatest-none f first first (le-refl first), greatest-none f (first + 1) (first + 1) (le-refl (first + 1)))
+
+    more : (k : ℕ) → first + 1 ≤ k → greatestOver chainLattice (leb first) f k ≡ max (f first) (greatestOver chainLattice (leb (first + 1)) f k)
+        → greatestOver chainLattice (leb first) f (suc k) ≡ max (f first) (greatestOver chainLattice (leb (first + 1)) f (suc k))
+    more k b e =
+        let longer : greatestOver chainLattice (leb first) f (k + 1) ≡ max (greatestOver chainLattice (leb first) f k) (f k) = greatest-more f first k (omega arith) ∙ join-max _ _ in
+        let shorter : greatestOver chainLattice (leb (first + 1)) f (k + 1) ≡ max (greatestOver chainLattice (leb (first + 1)) f k) (f k) = greatest-more f (first + 1) k b ∙ join-max _ _ in
+        rw (← add-one k) (omega (arith, longer, shorter, e))
+
+-- where the first sample is not the greatest, the greatest stays, but for the sample that enters
+pub ahead-next : (right : Signal chains) (l : ℕ) → ((u : ℕ) → right u l ≤ highest) → (lower upper t former : ℕ) → lower ≤ upper
+    → former ≡ ahead right lower upper t l → right (t + lower) l < former → chainLattice .join former (right (t + 1 + upper) l) ≡ ahead right lower upper (t + 1) l
+ahead-next right l small lower upper t former h e less =
+    let f : ℕ → ℕ = λ u. right u l in
+    let first : greatestOver chainLattice (leb (t + lower)) f (t + upper + 1) ≡ max (f (t + lower)) (greatestOver chainLattice (leb (t + lower + 1)) f (t + upper + 1)) = greatest-first f (t + lower) (t + upper + 1) (omega arith) in
+    let before : former ≡ greatestOver chainLattice (leb (t + lower)) f (t + upper + 1) = e ∙ eventually-all right l small lower upper t in
+    let kept : former ≡ greatestOver chainLattice (leb (t + lower + 1)) f (t + upper + 1) = omega arith in
+    let from : t + lower + 1 ≡ t + 1 + lower = omega arith in
+    let to : t + upper + 1 ≡ t + 1 + upper = omega arith in
+    ap (λ (m : ℕ). chainLattice .join m (f (t + 1 + upper))) (kept ∙ ap₂ (λ (a b : ℕ). greatestOver chainLattice (leb a) f b) from to)
+    ∙ sym (greatest-more f (t + 1 + lower) (t + 1 + upper) (omega arith))
+    ∙ sym (eventually-all right l small lower upper (t + 1))

@@ -12,8 +12,8 @@ use Rattle.values.specs.Chain.{chainLattice}
 use Rattle.values.specs.Signals.{signalIn, turned}
 use Rattle.operators.proofs.Bounds.{turned-bound, window-end}
 use Rattle.operators.proofs.Folds.{greatest-none, greatest-more, eventually-all}
-use Rattle.operators.proofs.eventually_at.Statement.{statement}
-use Rattle.operators.proofs.eventually_at.Tie as tie
+use Rattle.operators.proofs.eventually.greatest_ahead.Statement.{statement}
+use Rattle.operators.proofs.eventually.greatest_ahead.Tie as tie
 
 abbrev Inv-loop : tie.InvT-loop
 Inv-loop words start places lower upper t l negated best₀ u₀ u-end best u =
@@ -23,7 +23,7 @@ abbrev μ-loop : tie.MeasureT-loop
 μ-loop words start places lower upper t l negated best₀ u₀ u-end best u = u-end - u
 
 end-fits : (c : tie.Start Inv-loop μ-loop) → c .args .t + c .args .upper + 1 ≤ length (c .args .words .now)
-end-fits c = window-end (c .args .words .now) (c .pre)
+end-fits c = window-end (c .args .words .now) (c .pre .0) (omega arith)
 
 bottom-requires : tie.Need-bottom-requires Inv-loop μ-loop
 bottom-requires c κs = search needs
@@ -43,7 +43,7 @@ loop-holds c =
     (search needs, search needs, c .bottom .ensures ∙ sym (greatest-none _ _ (a .t + a .lower) (omega arith)))
 
 turned-at-requires : tie.Need-turned-at-requires Inv-loop μ-loop
-turned-at-requires c κs = omega (arith, in-table (c .loop-test .taken) (c .before .before .before .before .pre .place))
+turned-at-requires c κs = omega (arith, in-table (c .loop-test .taken) (c .before .before .before .before .pre .1))
 
 greater-requires : tie.Need-greater-requires Inv-loop μ-loop
 greater-requires c κs = search needs
@@ -66,8 +66,8 @@ returns c =
     c .before .loop .inv .2 ∙ ap (greatestOver chainLattice _ _) ended
     ∙ sym (eventually-all _ (a .l) (λ u. turned-bound (a .negated) _ (a .start) (a .places) u (a .l)) (a .lower) (a .upper) (a .t))
 
-pub eventually-at-spec : {M : Type 1} → statement M
-eventually-at-spec =
+pub greatest-ahead-spec : {M : Type 1} → statement M
+greatest-ahead-spec =
     tie.close
     (tie.spec
     Inv-loop

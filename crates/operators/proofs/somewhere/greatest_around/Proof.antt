@@ -1,24 +1,24 @@
 -- Each turn takes one place more into the greatest, as nothing where it lies out of range.
 use mathlib.Core.Path.{_≡_, sym, ap, ap₂, _∙_}
-use Prim.Native.Nat.{_+_, _-_, _≤_, _<_}
+use Prim.Native.Nat.{_-_, _≤_}
 use native.Mathlib.Omega.{arith}
+use lib.ListN.{getD}
 use borrow.Author.Needs.{needs}
 use Rattle.words.specs.Bytes.{wordsOf, numbersOf}
 use Rattle.words.proofs.Rows.{in-table}
 use Rattle.logic.specs.Lattice.{greatestOver}
 use Rattle.values.specs.Chain.{chainLattice}
-use Rattle.values.specs.Signals.{signalIn, turned, inTable}
+use Rattle.values.specs.Signals.{inTable}
 use Rattle.operators.proofs.Folds.{greatest-next}
-use Rattle.operators.proofs.somewhere_at.Statement.{statement}
-use Rattle.operators.proofs.somewhere_at.Tie as tie
+use Rattle.operators.proofs.somewhere.greatest_around.Statement.{statement}
+use Rattle.operators.proofs.somewhere.greatest_around.Tie as tie
 
 abbrev Inv-loop : tie.InvT-loop
-Inv-loop words start places distances lower upper t centre negated best₀ k₀ best k =
-    (k ≤ places)
-    × (best ≡ greatestOver chainLattice (inTable (numbersOf (wordsOf distances)) places centre lower upper) (turned negated (signalIn (wordsOf words) start places) t) k)
+Inv-loop signal places distances lower upper centre best₀ k₀ best k =
+    (k ≤ places) × (best ≡ greatestOver chainLattice (inTable (numbersOf (wordsOf distances)) places centre lower upper) (λ j. getD signal j 0) k)
 
 abbrev μ-loop : tie.MeasureT-loop
-μ-loop words start places distances lower upper t centre negated best₀ k₀ best k = places - k
+μ-loop signal places distances lower upper centre best₀ k₀ best k = places - k
 
 bottom-requires : tie.Need-bottom-requires Inv-loop μ-loop
 bottom-requires c κs = search needs
@@ -29,10 +29,8 @@ loop-holds c = (search needs, c .bottom .ensures)
 
 ranged-at-requires : tie.Need-ranged-at-requires Inv-loop μ-loop
 ranged-at-requires c κs =
-    let a = c .before .before .before .before .before .args in
-    let sample : a .t < a .t + 1 = omega arith in
-    let row : a .centre < a .centre + 1 = omega arith in
-    (omega (arith, in-table sample (c .loop-test .taken)), omega (arith, in-table row (c .loop-test .taken)))
+    let start = c .before .before .before .before .before in
+    (omega arith, omega (arith, in-table (start .pre .0) (c .loop-test .taken), start .pre .2))
 
 greater-requires : tie.Need-greater-requires Inv-loop μ-loop
 greater-requires c κs = search needs
@@ -53,8 +51,8 @@ returns c =
     let ended : c .before .loop .k ≡ c .before .before .before .before .before .args .places = omega arith in
     c .before .loop .inv .1 ∙ ap (greatestOver chainLattice _ _) ended
 
-pub somewhere-at-spec : {M : Type 1} → statement M
-somewhere-at-spec =
+pub greatest-around-spec : {M : Type 1} → statement M
+greatest-around-spec =
     tie.close
     (tie.spec
     Inv-loop

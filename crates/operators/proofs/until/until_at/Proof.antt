@@ -14,8 +14,8 @@ use Rattle.values.specs.Chain.{chainLattice}
 use Rattle.values.specs.Signals.{signalIn}
 use Rattle.operators.proofs.Bounds.{window-end}
 use Rattle.operators.proofs.Folds.{greatest-none, least-more, offer, until-more, until-all, until-known}
-use Rattle.operators.proofs.until_at.Statement.{statement}
-use Rattle.operators.proofs.until_at.Tie as tie
+use Rattle.operators.proofs.until.until_at.Statement.{statement}
+use Rattle.operators.proofs.until.until_at.Tie as tie
 
 abbrev Inv-loop : tie.InvT-loop
 Inv-loop words left right places lower upper t l first end least₀ best₀ u₀ least best u =
@@ -27,7 +27,7 @@ abbrev μ-loop : tie.MeasureT-loop
 μ-loop words left right places lower upper t l first end least₀ best₀ u₀ least best u = end - u
 
 end-fits : (c : tie.Start Inv-loop μ-loop) → c .args .t + c .args .upper + 1 ≤ length (c .args .words .now)
-end-fits c = window-end (c .args .words .now) (c .pre .0)
+end-fits c = window-end (c .args .words .now) (c .pre .0) (omega arith)
 
 add-first : tie.Need-add-first Inv-loop μ-loop
 add-first c = omega (arith, end-fits (c .before))
@@ -59,13 +59,13 @@ returns c =
     loop .inv .3 ∙ sym (until-known _ _ (a .lower) (a .upper) (a .t) (a .l) (loop .u) (omega arith) (omega arith))
 
 signal-at-requires : tie.Need-signal-at-requires Inv-loop μ-loop
-signal-at-requires c κs = omega (arith, in-table (c .before .loop-test .taken) (c .before .before .before .before .before .before .pre .0 .place))
+signal-at-requires c κs = omega (arith, in-table (c .before .loop-test .taken) (c .before .before .before .before .before .before .pre .2))
 
 lesser-requires : tie.Need-lesser-requires Inv-loop μ-loop
 lesser-requires c κs = search needs
 
 signal-at-requires-2 : tie.Need-signal-at-requires-2 Inv-loop μ-loop
-signal-at-requires-2 c κs = omega (arith, in-table (c .before .before .before .loop-test .taken) (c .before .before .before .before .before .before .before .before .pre .1 .place))
+signal-at-requires-2 c κs = omega (arith, in-table (c .before .before .before .loop-test .taken) (c .before .before .before .before .before .before .before .before .pre .2))
 
 lesser-requires-2 : tie.Need-lesser-requires-2 Inv-loop μ-loop
 lesser-requires-2 c κs = search needs

@@ -5,8 +5,8 @@ use borrow.Author.Needs.{needs}
 use Rattle.words.proofs.Words.{words-count}
 use Rattle.values.specs.Chain.{wordChain}
 use Rattle.values.specs.Signals.{signalIn}
-use Rattle.operators.proofs.signal_at.Statement.{statement}
-use Rattle.operators.proofs.signal_at.Tie as tie
+use Rattle.operators.proofs.signals.signal_at.Statement.{statement}
+use Rattle.operators.proofs.signals.signal_at.Tie as tie
 
 mul-word-at : tie.Need-mul-word-at
 mul-word-at c = omega (arith, words-count (c .before .args .words .now))

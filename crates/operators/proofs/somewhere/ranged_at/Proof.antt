@@ -1,5 +1,5 @@
 -- The two tests are those of `inTable`, one at a time.
-use mathlib.Core.Path.{_∙_}
+use mathlib.Core.Path.{_∙_, refl}
 use native.Mathlib.Omega.{arith}
 use borrow.Author.Needs.{needs}
 use borrow.Author.Tests.{le-leb, lt-leb}
@@ -7,8 +7,8 @@ use Rattle.words.specs.Bytes.{wordsOf}
 use Rattle.words.proofs.Words.{words-count}
 use Rattle.words.proofs.Numbers.{numbers-count}
 use Rattle.values.specs.Signals.{inTable}
-use Rattle.operators.proofs.ranged_at.Statement.{statement}
-use Rattle.operators.proofs.ranged_at.Tie as tie
+use Rattle.operators.proofs.somewhere.ranged_at.Statement.{statement}
+use Rattle.operators.proofs.somewhere.ranged_at.Tie as tie
 
 mul-number-at : tie.Need-mul-number-at
 mul-number-at c = let distances = c .before .before .args .distances .now in omega (arith, numbers-count (wordsOf distances), words-count distances)
@@ -33,12 +33,15 @@ returns-2 : tie.Need-returns-2
 unfolding inTable
 returns-2 c = c .bottom2 .ensures ∙ simp (← c .before .before .before .number-at .ensures, le-leb _ _ (c .before .before .if1 .left), lt-leb _ _ (c .before .if2 .taken))
 
-turned-at-requires : tie.Need-turned-at-requires
-turned-at-requires c κs = search needs
+mul-result : tie.Need-mul-result
+mul-result c = search needs
+
+shared-slice-read-result : tie.Need-shared-slice-read-result
+shared-slice-read-result c = search needs
 
 returns-3 : tie.Need-returns-3
 unfolding inTable
-returns-3 c = c .turned-at .ensures ∙ simp (← c .before .before .before .number-at .ensures, le-leb _ _ (c .before .before .if1 .left), le-leb _ _ (c .before .if2 .left))
+returns-3 c = simp (← c .before .before .before .number-at .ensures, le-leb _ _ (c .before .before .if1 .left), le-leb _ _ (c .before .if2 .left))
 
 pub ranged-at-spec : {M : Type 1} → statement M
 ranged-at-spec =
@@ -51,5 +54,6 @@ ranged-at-spec =
     returns
     bottom-requires-2
     returns-2
-    turned-at-requires
+    mul-result
+    shared-slice-read-result
     returns-3)

@@ -10,8 +10,8 @@ use Rattle.logic.specs.Lattice.{leastOver}
 use Rattle.values.specs.Chain.{chainLattice}
 use Rattle.values.specs.Signals.{signalIn}
 use Rattle.operators.proofs.Folds.{least-none, least-more}
-use Rattle.operators.proofs.least_between.Statement.{statement}
-use Rattle.operators.proofs.least_between.Tie as tie
+use Rattle.operators.proofs.until.least_between.Statement.{statement}
+use Rattle.operators.proofs.until.least_between.Tie as tie
 
 abbrev Inv-loop : tie.InvT-loop
 Inv-loop words start places first end l least₀ u₀ least u =

@@ -1,0 +1,109 @@
+-- Each turn fills one place more.
+use mathlib.Core.Path.{_≡_, subst}
+use Prim.Native.Nat.{ℕ, _<_, _+_, _*_, _-_, _≤_}
+use native.Mathlib.Nat.{le-mul-of-pos-right}
+use native.Mathlib.Omega.{arith}
+use lib.IntN.{ℤ}
+use lib.ListN.{length, getD}
+use borrow.Author.Needs.{needs}
+use mir.Syntax.{w32}
+use mir.Val.{toZ}
+use mir.Facts.{toZ-ofZ}
+use Rattle.words.specs.Word.{sampleOf}
+use Rattle.words.specs.Bytes.{wordsOf}
+use Rattle.words.proofs.Rows.{in-table}
+use Rattle.words.proofs.Words.{words-count}
+use Rattle.operators.proofs.Bounds.{in-row}
+use Rattle.operators.specs.Rows.{Filled, atomValue}
+use Rattle.operators.proofs.RowLaws.{filled-none, filled-more, filled-all}
+use Rattle.operators.proofs.atoms.atom_row.Statement.{statement}
+use Rattle.operators.proofs.atoms.atom_row.Tie as tie
+
+abbrev Inv-loop : tie.InvT-loop
+Inv-loop samples places signals signal constant least t row₀ l₀ row l = (l ≤ places) × (length row ≡ length row₀) × Filled l (λ k. atomValue least (sampleOf (getD (wordsOf samples) ((t * places + k) * signals + signal) 0)) (toZ w32 constant)) row
+
+abbrev μ-loop : tie.MeasureT-loop
+μ-loop samples places signals signal constant least t row₀ l₀ row l = places - l
+
+module _ (c : tie.In-loop Inv-loop μ-loop) where
+  abbrev start : tie.Start Inv-loop μ-loop
+  start = c .before .before .before .before
+
+  abbrev point : ℕ
+  point = start .args .t * start .args .places + c .before .loop .l
+
+  -- the index is that of a word, and a word has bytes
+  inside : point * start .args .signals + start .args .signal < length (wordsOf (start .args .samples .now))
+  inside =
+      omega (arith, in-table (in-row (start .args .t) (c .loop-test .taken)) (start .pre .0), start .pre .1)
+
+  fits : (point ≤ point * start .args .signals) × (point * start .args .signals + start .args .signal < length (start .args .samples .now))
+  fits =
+      let some : 0 < start .args .signals = omega (arith, start .pre .0) in
+      (le-mul-of-pos-right point some, omega (arith, inside, words-count (start .args .samples .now)))
+
+loop-holds : tie.Need-loop-holds Inv-loop μ-loop
+loop-holds c = (search needs, search needs, filled-none _ _)
+
+mul-atom-at : tie.Need-mul-atom-at Inv-loop μ-loop
+mul-atom-at c = omega (arith, fits c)
+
+add-atom-at : tie.Need-add-atom-at Inv-loop μ-loop
+add-atom-at c = omega (arith, fits c)
+
+mul-atom-at-2 : tie.Need-mul-atom-at-2 Inv-loop μ-loop
+mul-atom-at-2 c = omega (arith, fits c)
+
+add-atom-at-2 : tie.Need-add-atom-at-2 Inv-loop μ-loop
+add-atom-at-2 c = omega (arith, fits c)
+
+atom-at-requires : tie.Need-atom-at-requires Inv-loop μ-loop
+atom-at-requires c κs = (inside c, rw (toZ-ofZ (start c .fits .constant)) (start c .pre .2))
+
+mul-row : tie.Need-mul-row Inv-loop μ-loop
+mul-row c = search needs
+
+slice-write-row : tie.Need-slice-write-row Inv-loop μ-loop
+slice-write-row c = search needs
+
+add-l : tie.Need-add-l Inv-loop μ-loop
+add-l c = search needs
+
+loop-less : tie.Need-loop-less Inv-loop μ-loop
+loop-less c = search needs
+
+loop-again : tie.Need-loop-again Inv-loop μ-loop
+loop-again c =
+    let loop = c .before .before .loop in
+    (search needs, search needs, filled-more (loop .row) (loop .l) (c .atom-at .result) (loop .inv .2) (omega arith) (c .atom-at .ensures))
+
+same-length : tie.Need-same-length Inv-loop μ-loop
+same-length c = search needs
+
+returns : tie.Need-returns Inv-loop μ-loop
+returns c =
+    let start = c .before .before .before .before in
+    let a = start .args in
+    let ended : c .before .loop .l ≡ a .places = omega arith in
+    subst (λ (k : ℤ). Filled (a .places) (λ l. atomValue (a .least) (sampleOf (getD (wordsOf (a .samples .now)) ((a .t * a .places + l) * a .signals + a .signal) 0)) k) (c .before .loop .row))
+    (toZ-ofZ (start .fits .constant)) (filled-all (c .before .loop .inv .2) ended)
+
+pub atom-row-spec : {M : Type 1} → statement M
+atom-row-spec =
+    tie.close
+    (tie.spec
+    Inv-loop
+    μ-loop
+    loop-holds
+    mul-atom-at
+    add-atom-at
+    mul-atom-at-2
+    add-atom-at-2
+    atom-at-requires
+    mul-row
+    slice-write-row
+    add-l
+    loop-less
+    loop-again
+    same-length
+    returns)
