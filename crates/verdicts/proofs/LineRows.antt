@@ -6,7 +6,7 @@ use Prim.Native.Nat.{ℕ, zero, suc, _+_, _*_, _<_, _≤_, max}
 use native.Mathlib.Nat.{suc-mul}
 use native.Mathlib.Numerals.{add-one}
 use native.Mathlib.Omega.{arith}
-use lib.ListN.{length, take}
+use lib.ListN.{length, getD, take}
 use lib.Seq.{take-take}
 use Rattle.words.specs.Bytes.{wordsOf}
 use Rattle.words.specs.Rows.{row, concat, rows, put}
@@ -14,6 +14,7 @@ use Rattle.words.proofs.Puts.{take-put, put-append}
 use Rattle.words.proofs.Rows.{length-rows}
 use Rattle.words.proofs.Words.{words-take}
 use Rattle.logic.specs.Counts.{sumBelow, mostBelow}
+use Rattle.verdicts.specs.Sample.{entry}
 
 -- the words before the line, read from the bytes while the line is written from index `to` on
 pub words-before : (bytes s v : List ℕ) (begin to : ℕ) → begin ≤ to → to ≤ length s → wordsOf bytes ≡ put s to v → wordsOf (take (begin * 4) bytes) ≡ take begin s
@@ -24,6 +25,10 @@ words-before bytes s v begin to h k e =
 pub put-row : (s : List ℕ) (begin : ℕ) (f : ℕ → ℕ → ℕ) (t m : ℕ) → begin ≤ length s → put (put s begin (rows f t m)) (begin + t * m) (row (f t) m) ≡ put s begin (rows f (t + 1) m)
 unfolding concat
 put-row s begin f t m h = rw (add-one t, ← length-rows f t m) (put-append s begin (rows f t m) (row (f t) m) h)
+
+-- a row of one sample alone
+pub entry-one : (values : List ℕ) (l : ℕ) → entry values 1 0 l ≡ getD values l 0
+entry-one values l = ap (λ (i : ℕ). getD values i 0) (omega arith)
 
 -- ---- sums and greatest numbers
 pub sum-more : (f : ℕ → ℕ) (n : ℕ) → sumBelow f (n + 1) ≡ sumBelow f n + f n

@@ -1,7 +1,7 @@
 -- The value of a line at one sample and place: it is at most `highest`, what it reads is there, and the table of distances gives the ranges of
 -- the network.
 use mathlib.Core.Path.{_≡_, refl, sym, ap, _∙_}
-use mathlib.Core.Bool.{Bool, and-false, _&&_}
+use mathlib.Core.Bool.{Bool, true, false, and-false, _&&_}
 use mathlib.Core.List.{List}
 use Prim.Native.Nat.{ℕ, zero, suc, _+_, _-_, _*_, _≤_, _<_, _^_, zero-le}
 use native.Mathlib.Nat.{mul-comm, mul-assoc, mul-le-mul-right}
@@ -29,32 +29,18 @@ use Rattle.sheet.specs.declared.check.Layout.{Layout}
 use Rattle.sheet.specs.Checked.{wordAt}
 use Rattle.sheet.specs.Roads.{distanceNumber}
 use Rattle.sheet.proofs.AcceptedLines.{sample-bits}
-use Rattle.values.specs.Chain.{chains, chainLattice, highest}
-use Rattle.values.specs.Signals.{signalIn, inTable}
+use Rattle.values.specs.Chain.{chains, chainLattice, chainOpposite, highest}
+use Rattle.values.specs.Signals.{signalIn, turned, inTable}
 use Rattle.values.proofs.Machine.{small-fits}
 use Rattle.values.proofs.Naturals.{leb-trans, leb-total}
 use Rattle.values.proofs.Valid.{valid-difference}
-use Rattle.operators.specs.Reach.{Window, Range}
-use Rattle.operators.proofs.Bounds.{signal-bound}
-use Rattle.operators.proofs.Folds.{eventually-all}
+use Rattle.operators.specs.Reach.{Window}
+use Rattle.operators.specs.Rows.{Filled, somewhereIn}
+use Rattle.operators.proofs.Bounds.{signal-bound, bounded-kept}
 use Rattle.surround.specs.Lanes.{joinedBy, surroundValue}
 use Rattle.verdicts.specs.Writing.{sheetNetwork, sheetRecording, earlier, lineValue, Surveyed, Written, Readable}
 
 -- ---- no value is beyond `highest`
-
-bounded-kept : Keeps chainLattice chainLattice (λ c _. c ≤ highest)
-bounded-kept = record {
-  keeps-top = omega arith;
-  keeps-bottom = zero-le;
-  keeps-meet = λ a b c d h k. meet-by leb 0 highest leb-trans leb-total (λ c. c ≤ highest) a b (λ _. h) (λ _. k);
-  keeps-join = λ a b c d h k. join-by leb 0 highest leb-trans leb-total (λ c. c ≤ highest) a b (λ _. k) (λ _. h);
-}
-
-pub meet-bound : (a b : ℕ) → a ≤ highest → b ≤ highest → chainLattice .meet a b ≤ highest
-meet-bound a b h k = bounded-kept .keeps-meet a b a b h k
-
-pub greatest-bound : (test : ℕ → Bool) (f : ℕ → ℕ) (n : ℕ) → ((k : ℕ) → f k ≤ highest) → greatestOver chainLattice test f n ≤ highest
-greatest-bound test f n h = greatest-kept chainLattice chainLattice (λ c _. c ≤ highest) bounded-kept test f f n (λ k _. h k)
 
 pub surround-bound : (words : List ℕ) (left right n : ℕ) (sheet : List ℕ) (roads : ℕ) (distances : List ℕ) (lower upper t centre : ℕ)
     → surroundValue words left right n sheet roads distances lower upper t centre ≤ highest
@@ -62,10 +48,6 @@ unfolding surroundValue
 surround-bound words left right n sheet roads distances lower upper t centre = surround-kept chainLattice chainLattice (λ c _. c ≤ highest) bounded-kept (joinedBy sheet roads) n
     (signalIn words left n t) (signalIn words right n t) (signalIn words left n t) (signalIn words right n t)
     (λ k _. signal-bound words left n t k) (λ k _. signal-bound words right n t k) _ _ centre
-
-pub eventually-bound : (right : Signal chains) (lower upper t l : ℕ) → ((u : ℕ) → right u l ≤ highest) → untilAt chains (everTrue chains) right lower upper t l ≤ highest
-eventually-bound right lower upper t l h =
-    rw (eventually-all right l h lower upper t) (greatest-bound (leb (t + lower)) (λ u. right u l) (t + upper + 1) h)
 
 readable-constant : (L : Layout) (words starts : List ℕ) (o : Operator) (t : ℕ) → Readable L words starts o t → ConstantIn (InBits 26) o
 readable-constant L words starts True t r = tt
@@ -96,11 +78,13 @@ module _ (s : List ℕ) (L : Layout) where
 
 -- ---- a sample of the recording
 
-pub sample-inside : (L : Layout) {x t l : ℕ} → x < L .signals → t < L .samples → l < L .places → (t * L .places + l) * L .signals + x < L .signals * L .places * L .samples
-sample-inside L hx ht hl =
+-- all places of a sample, in the order of the sheet
+pub sample-inside : (L : Layout) {t : ℕ} → t < L .samples → (t + 1) * L .places * L .signals ≤ L .signals * L .places * L .samples
+sample-inside L {t} h =
     let e : L .samples * L .places * L .signals ≡ L .signals * L .places * L .samples =
     mul-comm (L .samples * L .places) (L .signals) ∙ ap (λ (k : ℕ). L .signals * k) (mul-comm (L .samples) (L .places)) ∙ sym (mul-assoc (L .signals) (L .places) (L .samples)) in
-    rw e at (in-table (in-table ht hl) hx)
+    let later : t + 1 ≤ L .samples = omega arith in
+    rw e at (mul-le-mul-right (L .signals) (mul-le-mul-right (L .places) later))
 
 -- a constant as the machine holds it is the constant
 pub constant-kept : (c : ℤ) → InBits 26 c → toZ w32 (ofZ w32 c) ≡ c
@@ -113,16 +97,9 @@ words-from bytes k h = ap wordsOf (tail-list bytes (k * 4) h) ∙ words-drop byt
 
 -- ---- what an operator reads of an earlier line is there
 
-module _ {L : Layout} {words starts : List ℕ} {j t l : ℕ} where
-  pub point-inside : Written L words starts j t → l < L .places → getD starts j 0 + (t * L .places + l) < length words
-  point-inside written b = let later : t < t + 1 = omega arith in omega (arith, in-table later b, written .inside)
-
-  pub range-inside : {s distances : List ℕ} → Surveyed s L distances → Written L words starts j t → l < L .places → Range words (getD starts j 0) (L .places) distances t l
-  range-inside survey written b = record { inside = written .inside; row = omega (arith, mul-le-mul-right (L .places) b, survey .room) }
-
-pub window-inside : {L : Layout} {words starts : List ℕ} {j lower upper t l : ℕ} → lower ≤ upper → Written L words starts j (t + upper) → l < L .places
-    → Window words (getD starts j 0) (L .places) lower upper t l
-window-inside h written b = record { bounds = h; place = b; inside = written .inside }
+pub window-inside : {L : Layout} {words starts : List ℕ} {j lower upper t : ℕ} → lower ≤ upper → Written L words starts j (t + upper)
+    → Window words (getD starts j 0) (L .places) lower upper t
+window-inside h written = record { bounds = h; inside = written .inside }
 
 -- ---- ranges
 
@@ -143,7 +120,15 @@ pub range-at : (s : List ℕ) (L : Layout) (distances : List ℕ) → Surveyed s
 unfolding within inTable
 range-at s L distances survey lower upper l k h b c = in-range lower upper (distanceIn (sheetNetwork s L) l k) _ h (survey .measured l k b c)
 
-pub range-same : (s : List ℕ) (L : Layout) (distances : List ℕ) → Surveyed s L distances → (f : Signal chains) (lower upper t l : ℕ) → upper < 2 ^ 28 → l < L .places
+range-same : (s : List ℕ) (L : Layout) (distances : List ℕ) → Surveyed s L distances → (f : Signal chains) (lower upper t l : ℕ) → upper < 2 ^ 28 → l < L .places
     → greatestOver chainLattice (inTable distances (L .places) l lower upper) (f t) (L .places) ≡ somewhereAt chains (sheetNetwork s L) f lower upper t l
 unfolding somewhereAt
 range-same s L distances survey f lower upper t l h b = greatest-same _ _ (f t) (L .places) (λ k c. range-at s L distances survey lower upper l k h b c)
+
+-- a row by the table's ranges is a row by those of the network
+pub somewhere-same : (s : List ℕ) (L : Layout) (distances : List ℕ) → Surveyed s L distances → (dual : Bool) (f : Signal chains) (lower upper t : ℕ) → upper < 2 ^ 28 → (row : List ℕ)
+    → Filled (L .places) (somewhereIn dual distances (L .places) f lower upper t) row
+    → Filled (L .places) (turned dual (somewhereAt chains (sheetNetwork s L) (turned dual f) lower upper) t) row
+somewhere-same s L distances survey true f lower upper t h row filled =
+    record { at = λ l b. filled .at l b ∙ ap chainOpposite (range-same s L distances survey (turned true f) lower upper t l h b) }
+somewhere-same s L distances survey false f lower upper t h row filled = record { at = λ l b. filled .at l b ∙ range-same s L distances survey f lower upper t l h b }

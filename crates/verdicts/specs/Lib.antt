@@ -2,4 +2,5 @@ pub mod Answer
 pub mod Judged
 pub mod Steady
 pub mod Writing
+pub mod Sample
 pub mod SurroundLine

@@ -1,4 +1,5 @@
 // The answer to a sheet: verdicts and margins as words, the result, and the engine that writes them.
-pub mod point;
+mod evaluation;
 pub mod row;
+mod sample;
 pub mod surround_line;

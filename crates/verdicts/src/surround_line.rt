@@ -1,4 +1,5 @@
 // The verdicts of a surround line: the samples of a block are settled side by side about every centre, and then written sample by sample.
+use crate::sample::write_sample;
 use sheet::check::Layout;
 use sheet::operator::Bounds;
 use surround::LANES;
@@ -8,7 +9,7 @@ ghost use mathlib.Core.Path.{_≡_};
 ghost use Prim.Native.Nat.{_+_, _*_, _≤_};
 ghost use lib.ListN.{length, take};
 ghost use Rattle.words.specs.Bytes.{wordsOf, numbersOf};
-ghost use Rattle.words.specs.Rows.{row, rows, put};
+ghost use Rattle.words.specs.Rows.{rows, put};
 ghost use Rattle.logic.specs.Counts.{count, sumBelow};
 ghost use Rattle.values.specs.Chain.{chainWord, chainVerdict};
 ghost use Rattle.surround.specs.Lanes.{lanes, laneOf};
@@ -20,21 +21,6 @@ pub struct Tally {
     pub yes: u64,
 }
 
-// Writes the words of one sample, which a lane of the row holds, from index `to` on, and counts its yes verdicts.
-fn write_lane(out: &[u32], places: usize, lane: usize, answer: &mut [u8], to: usize) -> u64
-    requires { ⌜ LanesBounded (now out) places (lane + 1) × (to + places ≤ length (wordsOf (now answer))) ⌝ }
-    ensures written { λ _. ⌜ wordsOf (now (answer .exit)) ≡ put (wordsOf (now (answer .entry))) to (row (λ l. chainWord (laneOf (now (out .entry)) lane l)) places) ⌝ }
-    ensures counted { λ r. ⌜ r ≡ sumBelow (λ l. count (chainVerdict (laneOf (now (out .entry)) lane l))) places ⌝ }
-{
-    let mut yes: u64 = 0;
-    for l in 0..places {
-        let value = out[l * LANES + lane];
-        words::put_word(answer, to + l, values::word_of(value));
-        yes += values::yes(value) as u64;
-    }
-    yes
-}
-
 // Writes the samples of a block, one lane after the other.
 fn write_lanes(out: &[u32], places: usize, samples: usize, answer: &mut [u8], to: usize) -> u64
     requires { ⌜ LanesBounded (now out) places samples × (to + samples * places ≤ length (wordsOf (now answer))) ⌝ }
@@ -44,7 +30,7 @@ fn write_lanes(out: &[u32], places: usize, samples: usize, answer: &mut [u8], to
     let mut yes: u64 = 0;
     let mut at = to;
     for lane in 0..samples {
-        yes += write_lane(out, places, lane, answer, at);
+        yes += write_sample(out, LANES, lane, places, answer, at);
         at += places;
     }
     yes

@@ -44,7 +44,7 @@ module _ {A : Type 0} where
       (λ l. List·getD-append (row f n) (f n ∷ []) d i (rw (length-row f n) l) ∙ getD-row f n i d l)
       (eq-or-lt-of-le (le-of-suc-le-suc h))
 
-  row-ext : (f g : ℕ → A) (n : ℕ) → ((i : ℕ) → i < n → f i ≡ g i) → row f n ≡ row g n
+  pub row-ext : (f g : ℕ → A) (n : ℕ) → ((i : ℕ) → i < n → f i ≡ g i) → row f n ≡ row g n
   unfolding row
   row-ext f g zero h = refl
   row-ext f g (suc n) h =

@@ -33,22 +33,21 @@ room c =
     omega (arith, words-count (start .args .answer .now), words-count (loop .answer), mul-le-mul-right (start .args .places) (c .loop-test .taken), suc-mul (loop .lane) (start .args .places))
 
 -- the yes verdicts with those of one lane more
-total : (c : tie.After-slice-known2 Inv-loop μ-loop) → c .before .before .before .before .before .loop .yes + c .before .before .write-lane .result
+total : (c : tie.After-slice-known2 Inv-loop μ-loop) → c .before .before .before .before .before .loop .yes + c .before .before .write-sample .result
     ≡ sumBelow (λ k. sumBelow (λ l. count (chainVerdict (laneOf (c .before .before .before .before .before .before .before .before .args .out .now) k l))) (c .before .before .before .before .before .before .before .before .args .places)) (c .before .before .before .before .before .loop .lane + 1)
-total c = ap₂ _+_ (c .before .before .before .before .before .loop .inv .4) (c .before .before .write-lane .ensures .1) ∙ sym (sum-more _ (c .before .before .before .before .before .loop .lane))
+total c = ap₂ _+_ (c .before .before .before .before .before .loop .inv .4) (c .before .before .write-sample .ensures .1) ∙ sym (sum-more _ (c .before .before .before .before .before .loop .lane))
 
 loop-holds : tie.Need-loop-holds Inv-loop μ-loop
 unfolding concat sumBelow
 loop-holds c = (search needs, search needs, search needs, sym (put-nil _ _), search needs)
 
-write-lane-requires : tie.Need-write-lane-requires Inv-loop μ-loop
-write-lane-requires c κs =
+write-sample-requires : tie.Need-write-sample-requires Inv-loop μ-loop
+write-sample-requires c κs =
     let lanes = c .before .before .before .before .before .pre .0 in (
       record {
         few-places = lanes .few-places;
-        few = search needs;
-        room = lanes .room;
-        bound = λ place lane b l. lanes .bound place lane b (omega arith);
+        inside = λ l b. omega (arith, lanes .room, lanes .few);
+        bound = λ l b. lanes .bound l _ b (c .before .loop-test .taken);
       },
       room (c .before),
     )
@@ -78,7 +77,7 @@ loop-again c =
       search needs,
       search needs,
       omega (arith, loop .inv .2),
-      c .before .before .write-lane .ensures .0 ∙ after ∙ put-row first (start .args .to) words (loop .lane) (start .args .places) (omega (arith, start .pre .1)),
+      c .before .before .write-sample .ensures .0 ∙ after ∙ put-row first (start .args .to) words (loop .lane) (start .args .places) (omega (arith, start .pre .1)),
       total c,
     )
 
@@ -100,7 +99,7 @@ write-lanes-spec =
     Inv-loop
     μ-loop
     loop-holds
-    write-lane-requires
+    write-sample-requires
     add-yes
     add-at
     add-lane

@@ -1,4 +1,4 @@
--- Each turn puts the word of one place more after those of the lane, and counts its verdict.
+-- Each turn puts the word of one place more after those of the sample, and counts its verdict.
 use mathlib.Core.Path.{_≡_, sym, ap, ap₂, _∙_}
 use Prim.Native.Nat.{ℕ, _+_, _-_, _*_, _≤_, _<_}
 use native.Mathlib.Omega.{arith}
@@ -11,21 +11,21 @@ use Rattle.words.proofs.Words.{words-count}
 use Rattle.logic.specs.Counts.{count, sumBelow}
 use Rattle.values.specs.Chain.{chainWord, chainVerdict}
 use Rattle.values.proofs.Machine.{byte-count}
-use Rattle.surround.specs.Lanes.{laneOf}
+use Rattle.verdicts.specs.Sample.{entry}
 use Rattle.verdicts.proofs.LineRows.{sum-more, sum-bound}
-use Rattle.verdicts.proofs.surround_line.write_lane.Statement.{statement}
-use Rattle.verdicts.proofs.surround_line.write_lane.Tie as tie
+use Rattle.verdicts.proofs.sample.write_sample.Statement.{statement}
+use Rattle.verdicts.proofs.sample.write_sample.Tie as tie
 
 abbrev Inv-loop : tie.InvT-loop
-Inv-loop out places lane answer₀ to yes₀ l₀ answer sum l = (l ≤ places) × (length answer ≡ length answer₀)
-    × (wordsOf answer ≡ put (wordsOf answer₀) to (row (λ k. chainWord (laneOf out lane k)) l))
-    × (sum ≡ sumBelow (λ k. count (chainVerdict (laneOf out lane k))) l)
+Inv-loop values stride offset places answer₀ to yes₀ l₀ answer sum l = (l ≤ places) × (length answer ≡ length answer₀)
+    × (wordsOf answer ≡ put (wordsOf answer₀) to (row (λ k. chainWord (entry values stride offset k)) l))
+    × (sum ≡ sumBelow (λ k. count (chainVerdict (entry values stride offset k))) l)
 
 abbrev μ-loop : tie.MeasureT-loop
-μ-loop out places lane answer₀ to yes₀ l₀ answer sum l = places - l
+μ-loop values stride offset places answer₀ to yes₀ l₀ answer sum l = places - l
 
 abbrev Value : tie.Start Inv-loop μ-loop → ℕ → ℕ
-Value c l = laneOf (c .args .out .now) (c .args .lane) l
+Value c l = entry (c .args .values .now) (c .args .stride) (c .args .offset) l
 
 room : (c : tie.In-loop Inv-loop μ-loop) → (c .before .before .before .before .args .to + c .before .loop .l < length (wordsOf (c .before .before .before .before .args .answer .now)))
     × (c .before .before .before .before .args .to + c .before .loop .l < length (wordsOf (c .before .loop .answer)))
@@ -38,17 +38,21 @@ loop-holds : tie.Need-loop-holds Inv-loop μ-loop
 unfolding row sumBelow
 loop-holds c = (search needs, search needs, sym (put-nil _ _), search needs)
 
+-- the index of the value
+inside : (c : tie.In-loop Inv-loop μ-loop) → c .before .loop .l * c .before .before .before .before .args .stride + c .before .before .before .before .args .offset < length (c .before .before .before .before .args .values .now)
+inside c = c .before .before .before .before .pre .0 .inside (c .before .loop .l) (c .loop-test .taken)
+
 mul-value : tie.Need-mul-value Inv-loop μ-loop
-mul-value c = search needs
+mul-value c = omega (arith, inside c, c .before .before .before .before .good)
 
 add-value : tie.Need-add-value Inv-loop μ-loop
-add-value c = search needs
+add-value c = omega (arith, inside c, c .before .before .before .before .good)
 
 mul-value-2 : tie.Need-mul-value-2 Inv-loop μ-loop
-mul-value-2 c = search needs
+mul-value-2 c = omega (arith, inside c, c .before .before .before .before .good)
 
 shared-slice-read-value : tie.Need-shared-slice-read-value Inv-loop μ-loop
-shared-slice-read-value c = search needs
+shared-slice-read-value c = inside (c .before)
 
 add-put-word : tie.Need-add-put-word Inv-loop μ-loop
 add-put-word c = omega (arith, words-count (c .before .before .before .before .before .before .args .answer .now), room (c .before .before))
@@ -56,7 +60,7 @@ add-put-word c = omega (arith, words-count (c .before .before .before .before .b
 word-of-requires : tie.Need-word-of-requires Inv-loop μ-loop
 word-of-requires c κs =
     let start = c .before .before .before .before .before .before in
-    start .pre .0 .bound (c .before .before .before .loop .l) (start .args .lane) (c .before .before .loop-test .taken) (omega arith)
+    start .pre .0 .bound (c .before .before .before .loop .l) (c .before .before .loop-test .taken)
 
 put-word-requires : tie.Need-put-word-requires Inv-loop μ-loop
 put-word-requires c κs = room (c .before .before .before) .1
@@ -101,8 +105,8 @@ returns c =
       c .before .loop .inv .3 ∙ ap (sumBelow _) ended,
     )
 
-pub write-lane-spec : {M : Type 1} → statement M
-write-lane-spec =
+pub write-sample-spec : {M : Type 1} → statement M
+write-sample-spec =
     tie.close
     (tie.spec
     Inv-loop

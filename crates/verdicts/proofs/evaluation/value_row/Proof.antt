@@ -1,0 +1,391 @@
+-- Each arm knows which operator it has: with that, what the operator reads is there, and the row it leaves has the values of the line.
+use mathlib.Core.Path.{_≡_, sym, ap, subst, _∙_}
+use mathlib.Core.Bool.{true, false}
+use mathlib.Core.List.{List}
+use Prim.Native.Nat.{ℕ, suc, _+_, _*_, _≤_, _<_}
+use native.Mathlib.Omega.{arith}
+use lib.IntN.{ℤ}
+use lib.ListN.{length}
+use mir.Syntax.{w32}
+use mir.Val.{toZ, ofZ}
+use borrow.Author.Needs.{needs}
+use Rattle.words.specs.Bytes.{wordsOf, numbersOf}
+use Rattle.logic.specs.Table.{value}
+use Rattle.logic.proofs.Small.{InBits}
+use Rattle.sheet.specs.declared.operator.Operator.{Operator}
+use Rattle.sheet.specs.Decoding.{operatorSaid}
+use Rattle.values.specs.Chain.{chains}
+use Rattle.operators.specs.Rows.{Filled}
+use Rattle.verdicts.specs.Writing.{sheetRecording, lineValue, Readable}
+use Rattle.verdicts.proofs.Points.{sample-inside, constant-kept, window-inside, somewhere-same}
+use Rattle.verdicts.proofs.evaluation.value_row.Statement.{statement}
+use Rattle.verdicts.proofs.evaluation.value_row.Tie as tie
+
+-- before the match, where every arm has come from
+module _ (c : tie.After-slice-known) where
+  abbrev start : tie.Start
+  start = c .before .before .before .before .before
+
+  abbrev Reads : Operator → Type 0
+  Reads o = Readable (start .args .layout) (wordsOf (start .args .words .now)) (start .args .starts .now) (operatorSaid o) (start .args .t)
+
+  abbrev Value : Operator → ℕ → ℕ → ℕ
+  Value o = lineValue (wordsOf (start .args .sheet .now)) (start .args .layout) (wordsOf (start .args .words .now)) (start .args .starts .now) (operatorSaid o)
+
+  abbrev Sample : ℕ → ℕ → ℤ
+  Sample x l = sheetRecording (wordsOf (start .args .sheet .now)) (start .args .layout) x (start .args .t) l
+
+  abbrev Row : (ℕ → ℕ) → List ℕ → Type 0
+  Row = Filled (start .args .layout .places)
+
+  readable : {o : Operator} → start .args .operator ≡ o → Reads o
+  readable e = subst Reads e (start .pre .1)
+
+  -- the values at the sample before
+  former : {o : Operator} → start .args .operator ≡ o → (u : ℕ) → start .args .t ≡ suc u → Row (Value o u) (start .args .row .now)
+  former e u h = subst (λ o. Row (Value o u) (start .args .row .now)) e (start .pre .2 u h)
+
+  told : {o : Operator} {row : List ℕ} → start .args .operator ≡ o → Row (Value o (start .args .t)) row → Row (Value (start .args .operator) (start .args .t)) row
+  told {o} {row} e filled = subst (λ p. Row (Value p (start .args .t)) row) (sym e) filled
+
+  atoms-inside : {x : ℕ} (k : ℤ) → (x < start .args .layout .signals) × (start .args .t < start .args .layout .samples) × InBits 26 k → (x < start .args .layout .signals)
+      × (start .args .layout .recording + (start .args .t + 1) * start .args .layout .places * start .args .layout .signals ≤ length (wordsOf (start .args .sheet .now)))
+      × InBits 26 (toZ w32 (ofZ w32 k)) × (start .args .layout .places ≤ length (start .args .row .now))
+  atoms-inside k (signal, sample, bits) =
+      (signal, omega (arith, sample-inside (start .args .layout) sample, start .pre .0 .recorded), rw (constant-kept k bits) bits, start .pre .3)
+
+enum-told : tie.Need-enum-told
+enum-told c = search needs
+
+true-row-requires : tie.Need-true-row-requires
+true-row-requires c κs = search needs
+
+enum-known-operator : tie.Need-enum-known-operator
+enum-known-operator c = search needs
+
+recorded-row-requires : tie.Need-recorded-row-requires
+recorded-row-requires c κs = atoms-inside (c .before .before .before .before) (c .before .before .operator .given .0 .1 .0) (readable (c .before .before .before .before) (c .before .before .operator .given .1))
+
+enum-known-operator-2 : tie.Need-enum-known-operator-2
+enum-known-operator-2 c = search needs
+
+recorded-row-requires-2 : tie.Need-recorded-row-requires-2
+recorded-row-requires-2 c κs = atoms-inside (c .before .before .before .before) (c .before .before .operator2 .given .0 .1 .0) (readable (c .before .before .before .before) (c .before .before .operator2 .given .1))
+
+enum-known-operator-3 : tie.Need-enum-known-operator-3
+enum-known-operator-3 c = search needs
+
+mul-turned-row : tie.Need-mul-turned-row
+mul-turned-row c =
+    let line = readable (c .before .before .before) (c .before .operator3 .given .1) in omega (arith, line .line)
+
+shared-slice-read-turned-row : tie.Need-shared-slice-read-turned-row
+shared-slice-read-turned-row c = readable (c .before .before .before .before) (c .before .before .operator3 .given .1) .line
+
+turned-row-requires : tie.Need-turned-row-requires
+turned-row-requires c κs =
+    let known = c .before .before .before .before .before in
+    (readable known (c .before .before .before .operator3 .given .1) .inside, start known .pre .3)
+
+enum-known-operator-4 : tie.Need-enum-known-operator-4
+enum-known-operator-4 c = search needs
+
+mul-and-row : tie.Need-mul-and-row
+mul-and-row c =
+    let line = readable (c .before .before .before) (c .before .operator4 .given .1) .0 in omega (arith, line .line)
+
+shared-slice-read-and-row : tie.Need-shared-slice-read-and-row
+shared-slice-read-and-row c = readable (c .before .before .before .before) (c .before .before .operator4 .given .1) .0 .line
+
+mul-and-row-2 : tie.Need-mul-and-row-2
+mul-and-row-2 c =
+    let line = readable (c .before .before .before .before) (c .before .before .operator4 .given .1) .1 in omega (arith, line .line)
+
+shared-slice-read-and-row-2 : tie.Need-shared-slice-read-and-row-2
+shared-slice-read-and-row-2 c = readable (c .before .before .before .before .before) (c .before .before .before .operator4 .given .1) .1 .line
+
+and-row-requires : tie.Need-and-row-requires
+and-row-requires c κs =
+    let known = c .before .before .before .before .before .before in
+    let (left, right) = readable known (c .before .before .before .before .operator4 .given .1) in
+    (left .inside, right .inside, start known .pre .3)
+
+enum-known-operator-5 : tie.Need-enum-known-operator-5
+enum-known-operator-5 c = search needs
+
+mul-until-row : tie.Need-mul-until-row
+mul-until-row c =
+    let line = readable (c .before .before .before) (c .before .operator5 .given .1) .1 in omega (arith, line .line)
+
+shared-slice-read-until-row : tie.Need-shared-slice-read-until-row
+shared-slice-read-until-row c = readable (c .before .before .before .before) (c .before .before .operator5 .given .1) .1 .line
+
+mul-until-row-2 : tie.Need-mul-until-row-2
+mul-until-row-2 c =
+    let line = readable (c .before .before .before .before) (c .before .before .operator5 .given .1) .2 in omega (arith, line .line)
+
+shared-slice-read-until-row-2 : tie.Need-shared-slice-read-until-row-2
+shared-slice-read-until-row-2 c = readable (c .before .before .before .before .before) (c .before .before .before .operator5 .given .1) .2 .line
+
+until-row-requires : tie.Need-until-row-requires
+until-row-requires c κs =
+    let known = c .before .before .before .before .before .before in
+    let (ordered, left, right) = readable known (c .before .before .before .before .operator5 .given .1) in
+    (window-inside ordered left, window-inside ordered right, start known .pre .3)
+
+enum-known-operator-6 : tie.Need-enum-known-operator-6
+enum-known-operator-6 c = search needs
+
+mul-somewhere-row : tie.Need-mul-somewhere-row
+mul-somewhere-row c =
+    let line = readable (c .before .before .before) (c .before .operator6 .given .1) .1 in omega (arith, line .line)
+
+shared-slice-read-somewhere-row : tie.Need-shared-slice-read-somewhere-row
+shared-slice-read-somewhere-row c = readable (c .before .before .before .before) (c .before .before .operator6 .given .1) .1 .line
+
+somewhere-row-requires : tie.Need-somewhere-row-requires
+somewhere-row-requires c κs =
+    let known = c .before .before .before .before .before in
+    (readable known (c .before .before .before .operator6 .given .1) .1 .inside, start known .pre .0 .places .1, start known .pre .0 .room, start known .pre .3)
+
+enum-told-2 : tie.Need-enum-told-2
+enum-told-2 c = search needs
+
+enum-known-operator-7 : tie.Need-enum-known-operator-7
+enum-known-operator-7 c = search needs
+
+mul-and-row-3 : tie.Need-mul-and-row-3
+mul-and-row-3 c =
+    let line = readable (c .before .before .before) (c .before .operator7 .given .1) .0 in omega (arith, line .line)
+
+shared-slice-read-and-row-3 : tie.Need-shared-slice-read-and-row-3
+shared-slice-read-and-row-3 c = readable (c .before .before .before .before) (c .before .before .operator7 .given .1) .0 .line
+
+mul-and-row-4 : tie.Need-mul-and-row-4
+mul-and-row-4 c =
+    let line = readable (c .before .before .before .before) (c .before .before .operator7 .given .1) .1 in omega (arith, line .line)
+
+shared-slice-read-and-row-4 : tie.Need-shared-slice-read-and-row-4
+shared-slice-read-and-row-4 c = readable (c .before .before .before .before .before) (c .before .before .before .operator7 .given .1) .1 .line
+
+and-row-requires-2 : tie.Need-and-row-requires-2
+and-row-requires-2 c κs =
+    let known = c .before .before .before .before .before .before in
+    let (left, right) = readable known (c .before .before .before .before .operator7 .given .1) in
+    (left .inside, right .inside, start known .pre .3)
+
+enum-known-operator-8 : tie.Need-enum-known-operator-8
+enum-known-operator-8 c = search needs
+
+mul-eventually-row : tie.Need-mul-eventually-row
+mul-eventually-row c =
+    let line = readable (c .before .before .before) (c .before .operator8 .given .1) .1 in omega (arith, line .line)
+
+shared-slice-read-eventually-row : tie.Need-shared-slice-read-eventually-row
+shared-slice-read-eventually-row c = readable (c .before .before .before .before) (c .before .before .operator8 .given .1) .1 .line
+
+eventually-row-requires : tie.Need-eventually-row-requires
+unfolding lineValue value
+eventually-row-requires c κs =
+    let known = c .before .before .before .before .before in
+    let which = c .before .before .before .operator8 .given .1 in
+    let (ordered, line) = readable known which in
+    (window-inside ordered line, start known .pre .3, former known which)
+
+enum-known-operator-9 : tie.Need-enum-known-operator-9
+enum-known-operator-9 c = search needs
+
+mul-eventually-row-2 : tie.Need-mul-eventually-row-2
+mul-eventually-row-2 c =
+    let line = readable (c .before .before .before) (c .before .operator9 .given .1) .1 in omega (arith, line .line)
+
+shared-slice-read-eventually-row-2 : tie.Need-shared-slice-read-eventually-row-2
+shared-slice-read-eventually-row-2 c = readable (c .before .before .before .before) (c .before .before .operator9 .given .1) .1 .line
+
+eventually-row-requires-2 : tie.Need-eventually-row-requires-2
+unfolding lineValue value
+eventually-row-requires-2 c κs =
+    let known = c .before .before .before .before .before in
+    let which = c .before .before .before .operator9 .given .1 in
+    let (ordered, line) = readable known which in
+    (window-inside ordered line, start known .pre .3, former known which)
+
+enum-known-operator-10 : tie.Need-enum-known-operator-10
+enum-known-operator-10 c = search needs
+
+mul-somewhere-row-2 : tie.Need-mul-somewhere-row-2
+mul-somewhere-row-2 c =
+    let line = readable (c .before .before .before) (c .before .operator10 .given .1) .1 in omega (arith, line .line)
+
+shared-slice-read-somewhere-row-2 : tie.Need-shared-slice-read-somewhere-row-2
+shared-slice-read-somewhere-row-2 c = readable (c .before .before .before .before) (c .before .before .operator10 .given .1) .1 .line
+
+somewhere-row-requires-2 : tie.Need-somewhere-row-requires-2
+somewhere-row-requires-2 c κs =
+    let known = c .before .before .before .before .before in
+    (readable known (c .before .before .before .operator10 .given .1) .1 .inside, start known .pre .0 .places .1, start known .pre .0 .room, start known .pre .3)
+
+same-length : tie.Need-same-length
+same-length c = search needs
+
+returns : tie.Need-returns
+unfolding lineValue value
+returns c = told (c .before .before .before .before .before .before) (c .before .before .before .before .enum-told .given .1) (c .before .before .true-row .ensures)
+
+same-length-2 : tie.Need-same-length-2
+same-length-2 c = search needs
+
+returns-2 : tie.Need-returns-2
+unfolding lineValue value
+returns-2 c =
+    let known = c .before .before .before .before .before .before .before in
+    let which = c .before .before .before .before .before .operator .given in
+    told known (which .1) (record { at = λ l b. c .before .before .recorded-row .ensures .at l b ∙ ap (chains .atLeast (Sample known (which .0 .0) l)) (constant-kept (which .0 .1 .0) (readable known (which .1) .2)) })
+
+same-length-3 : tie.Need-same-length-3
+same-length-3 c = search needs
+
+returns-3 : tie.Need-returns-3
+unfolding lineValue value
+returns-3 c =
+    let known = c .before .before .before .before .before .before .before in
+    let which = c .before .before .before .before .before .operator2 .given in
+    told known (which .1) (record { at = λ l b. c .before .before .recorded-row2 .ensures .at l b ∙ ap (chains .atMost (Sample known (which .0 .0) l)) (constant-kept (which .0 .1 .0) (readable known (which .1) .2)) })
+
+same-length-4 : tie.Need-same-length-4
+same-length-4 c = search needs
+
+returns-4 : tie.Need-returns-4
+unfolding lineValue value
+returns-4 c = told (c .before .before .before .before .before .before .before .before) (c .before .before .before .before .before .before .operator3 .given .1) (c .before .before .turned-row .ensures)
+
+same-length-5 : tie.Need-same-length-5
+same-length-5 c = search needs
+
+returns-5 : tie.Need-returns-5
+unfolding lineValue value
+returns-5 c = told (c .before .before .before .before .before .before .before .before .before) (c .before .before .before .before .before .before .before .operator4 .given .1) (c .before .before .and-row .ensures)
+
+same-length-6 : tie.Need-same-length-6
+same-length-6 c = search needs
+
+returns-6 : tie.Need-returns-6
+unfolding lineValue value
+returns-6 c = told (c .before .before .before .before .before .before .before .before .before) (c .before .before .before .before .before .before .before .operator5 .given .1) (c .before .before .until-row .ensures)
+
+same-length-7 : tie.Need-same-length-7
+same-length-7 c = search needs
+
+returns-7 : tie.Need-returns-7
+unfolding lineValue value
+returns-7 c =
+    let known = c .before .before .before .before .before .before .before .before in
+    let which = c .before .before .before .before .before .before .operator6 .given .1 in
+    told known which (somewhere-same _ (start known .args .layout) _ (start known .pre .0) false _ _ _ (start known .args .t) (readable known which .0) _ (c .before .before .somewhere-row .ensures))
+
+returns-8 : tie.Need-returns-8
+returns-8 c = absurd (readable (c .before .before) (c .enum-told2 .given .1))
+
+same-length-8 : tie.Need-same-length-8
+same-length-8 c = search needs
+
+returns-9 : tie.Need-returns-9
+unfolding lineValue value
+returns-9 c = told (c .before .before .before .before .before .before .before .before .before) (c .before .before .before .before .before .before .before .operator7 .given .1) (c .before .before .and-row2 .ensures)
+
+same-length-9 : tie.Need-same-length-9
+same-length-9 c = search needs
+
+returns-10 : tie.Need-returns-10
+unfolding lineValue value
+returns-10 c = told (c .before .before .before .before .before .before .before .before) (c .before .before .before .before .before .before .operator8 .given .1) (c .before .before .eventually-row .ensures)
+
+same-length-10 : tie.Need-same-length-10
+same-length-10 c = search needs
+
+returns-11 : tie.Need-returns-11
+unfolding lineValue value
+returns-11 c = told (c .before .before .before .before .before .before .before .before) (c .before .before .before .before .before .before .operator9 .given .1) (c .before .before .eventually-row2 .ensures)
+
+same-length-11 : tie.Need-same-length-11
+same-length-11 c = search needs
+
+returns-12 : tie.Need-returns-12
+unfolding lineValue value
+returns-12 c =
+    let known = c .before .before .before .before .before .before .before .before in
+    let which = c .before .before .before .before .before .before .operator10 .given .1 in
+    told known which (somewhere-same _ (start known .args .layout) _ (start known .pre .0) true _ _ _ (start known .args .t) (readable known which .0) _ (c .before .before .somewhere-row2 .ensures))
+
+pub value-row-spec : {M : Type 1} → statement M
+value-row-spec =
+    tie.close
+    (tie.spec
+    enum-told
+    true-row-requires
+    enum-known-operator
+    recorded-row-requires
+    enum-known-operator-2
+    recorded-row-requires-2
+    enum-known-operator-3
+    mul-turned-row
+    shared-slice-read-turned-row
+    turned-row-requires
+    enum-known-operator-4
+    mul-and-row
+    shared-slice-read-and-row
+    mul-and-row-2
+    shared-slice-read-and-row-2
+    and-row-requires
+    enum-known-operator-5
+    mul-until-row
+    shared-slice-read-until-row
+    mul-until-row-2
+    shared-slice-read-until-row-2
+    until-row-requires
+    enum-known-operator-6
+    mul-somewhere-row
+    shared-slice-read-somewhere-row
+    somewhere-row-requires
+    enum-told-2
+    enum-known-operator-7
+    mul-and-row-3
+    shared-slice-read-and-row-3
+    mul-and-row-4
+    shared-slice-read-and-row-4
+    and-row-requires-2
+    enum-known-operator-8
+    mul-eventually-row
+    shared-slice-read-eventually-row
+    eventually-row-requires
+    enum-known-operator-9
+    mul-eventually-row-2
+    shared-slice-read-eventually-row-2
+    eventually-row-requires-2
+    enum-known-operator-10
+    mul-somewhere-row-2
+    shared-slice-read-somewhere-row-2
+    somewhere-row-requires-2
+    same-length
+    returns
+    same-length-2
+    returns-2
+    same-length-3
+    returns-3
+    same-length-4
+    returns-4
+    same-length-5
+    returns-5
+    same-length-6
+    returns-6
+    same-length-7
+    returns-7
+    returns-8
+    same-length-8
+    returns-9
+    same-length-9
+    returns-10
+    same-length-10
+    returns-11
+    same-length-11
+    returns-12)
