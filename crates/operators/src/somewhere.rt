@@ -11,7 +11,8 @@ ghost use Rattle.sheet.specs.Limits.{mostPlaces};
 ghost use Rattle.values.specs.Signals.{signalIn, inTable};
 ghost use Rattle.operators.specs.Rows.{Filled, Bounded, turnedTo, around, somewhereIn};
 
-// The value at place k where it lies in range of the centre, else the greatest of nothing.
+// The value at place k where it lies in range of the centre, else the greatest of nothing. It is read in either case: what is left is a choice
+// of numbers, where a jump could not be foreseen.
 fn ranged_at(
     signal: &[u32],
     places: usize,
@@ -24,6 +25,7 @@ fn ranged_at(
     requires { ⌜ (k < length (now signal)) × (centre * places + k < length (numbersOf (wordsOf (now distances)))) ⌝ }
     ensures { λ r. ⌜ r ≡ cond (inTable (numbersOf (wordsOf (now (distances .entry)))) places centre lower upper k) (getD (now (signal .entry)) k 0) 0 ⌝ }
 {
+    let value = signal[k];
     let distance = words::number_at(distances, centre * places + k);
     if distance < lower {
         return values::bottom();
@@ -31,7 +33,7 @@ fn ranged_at(
     if upper < distance {
         return values::bottom();
     }
-    signal[k]
+    value
 }
 
 // The greatest within range of one centre.
