@@ -201,6 +201,3 @@ round-made sheet roads n right x old both x′ i b j s = record {
       ∙ ap (chainLattice .meet (laneOf x lane place))
       (least-kept chainLattice chainLattice (λ u v. u ≡ v) (same-kept chainLattice) (joinedBy sheet roads place) _ _ n (λ k c. j .handed k lane c m));
 }
-
-pub roads-wider : (sheet : List ℕ) (roads n m : ℕ) → n ≤ m → RoadsIn sheet roads n → RoadsIn sheet roads m
-roads-wider sheet roads n m h i = record { there = i .there; order = i .order; inside = λ r l. omega (arith, i .inside r l) }

@@ -169,22 +169,25 @@ module _ {sheet : List ℕ} {roads n : ℕ} {right x₀ x old y : List ℕ} {r :
         bounded = kept;
       }
 
-  pub going-moved : (t u : Bool) → t ≡ false → u ≡ true → RowsApart t (λ v. v / 2) old y n → RowsApart u (λ v. v) old y n → Going sheet roads n right x₀ y r
+  pub going-moved : (t u : Bool) → t ≡ false → u ≡ true → RowsApart t (λ v. v / 2) old y n → RowsApart u (λ v. v / 1) old y n → Going sheet roads n right x₀ y r
   going-moved t u e f a d = record {
     steps = suc (g .steps);
     reached = next;
     early = omega (arith, g .early);
     counted = g .counted;
     last = inr (late t e a);
-    falls = omega (arith, g .falls, total-falls (λ v. v) u f d);
+    falls = omega (arith, g .falls, total-falls (λ v. v / 1) u f d);
     bounded = kept;
   }
 
-  pub going-rests : (t u : Bool) → t ≡ false → u ≡ false → RowsApart t (λ v. v / 2) old y n → RowsApart u (λ v. v) old y n
+  pub going-rests : (t u : Bool) → t ≡ false → u ≡ false → RowsApart t (λ v. v / 2) old y n → RowsApart u (λ v. v / 1) old y n
       → Settled sheet roads n right x₀ r y
   going-rests t u e f a d = record {
     steps = g .steps;
-    reached = λ place lane b l. sym (d .alike f place lane b l) ∙ former place lane b l;
-    rests = λ place lane b l. sym (next place lane b l) ∙ sym (d .alike f place lane b l) ∙ former place lane b l;
+    reached = λ place lane b l. same place lane b l ∙ former place lane b l;
+    rests = λ place lane b l. sym (next place lane b l) ∙ same place lane b l ∙ former place lane b l;
     counted = le-antisymm (g .counted) (late t e a);
   }
+    where
+      same : (place lane : ℕ) → place < n → lane < lanes → laneOf y lane place ≡ laneOf old lane place
+      same place lane b l = omega (arith, d .alike f place lane b l)

@@ -1,11 +1,11 @@
 -- Laws of the loops over one place's lanes: one lane more is written, and one lane more is compared.
-use mathlib.Core.Path.{_≡_, sym, _∙_, ap}
+use mathlib.Core.Path.{_≡_, sym, subst, _∙_, ap}
 use mathlib.Core.Bool.{Bool, true, false}
 use mathlib.Core.List.{List}
-use Prim.Native.Nat.{ℕ, _+_, _*_, _<_}
+use Prim.Native.Nat.{ℕ, _+_, _*_, _<_, _≤_}
 use native.Mathlib.Omega.{arith}
 use borrow.Author.Count.{below-more}
-use lib.ListN.{length, getD, set}
+use lib.ListN.{length, set, length-set}
 use lib.Seq.{getD-set-same, getD-set-other}
 use Rattle.words.proofs.Rows.{same-index}
 use Rattle.surround.specs.Lanes.{lanes, laneOf}
@@ -14,7 +14,7 @@ use Rattle.surround.specs.Strips.{Written, StripsApart, RowsApart}
 use Rattle.surround.specs.Steps.{RoadPulled}
 
 -- ---- writing
-pub written-more : (place k : ℕ) (f : ℕ → ℕ) (s t : List ℕ) (v : ℕ) → Written place k f s t → k < lanes → place * lanes + k < length t → v ≡ f k
+written-more : (place k : ℕ) (f : ℕ → ℕ) (s t : List ℕ) (v : ℕ) → Written place k f s t → k < lanes → place * lanes + k < length t → v ≡ f k
     → Written place (k + 1) f s (set t (place * lanes + k) v)
 written-more place k f s t v w b l e =
     record {
@@ -26,8 +26,25 @@ written-more place k f s t v w b l e =
           ∙ w .kept p lane c (λ same. omega (arith, h same));
     }
 
+-- what a loop over the lanes knows at its head, after k of them
+pub record Writing (place k : ℕ) (f : ℕ → ℕ) (before after : List ℕ) : Type 0 where
+  pub few : k ≤ lanes
+  pub long : length after ≡ length before
+  pub so-far : Written place k f before after
+
+module _ {place k : ℕ} {f : ℕ → ℕ} {s t : List ℕ} (w : Writing place k f s t) where
+  pub writing-more : {v : ℕ} → k < lanes → place * lanes + lanes ≤ length s → v ≡ f k → Writing place (k + 1) f s (set t (place * lanes + k) v)
+  writing-more {v} b room e = record {
+    few = omega arith;
+    long = length-set t (place * lanes + k) v ∙ w .long;
+    so-far = written-more place k f s t v (w .so-far) b (omega (arith, w .long)) e;
+  }
+
+  pub writing-all : lanes ≤ k → Written place lanes f s t
+  writing-all b = let e : k ≡ lanes = omega (arith, w .few) in subst (λ (i : ℕ). Written place i f s t) e (w .so-far)
+
 -- ---- comparing
-false-true : false ≡ true → ⊥
+pub false-true : false ≡ true → ⊥
 false-true e = let z : _≡_ {A = ℕ} 0 1 = cc in omega arith
 
 module _ (h : ℕ → ℕ) (a b : List ℕ) (place : ℕ) where
@@ -59,12 +76,6 @@ module _ (h : ℕ → ℕ) (a b : List ℕ) where
     alike = λ z. absurd (false-true (sym z));
     apart = λ _. let u = s .apart e in (k, u .0, l, u .1, u .2);
   }
-
--- ---- from the front on
-pub filled-more : (f : ℕ → ℕ) (s : List ℕ) (i v : ℕ) → i < length s → v ≡ f i → ((j : ℕ) → j < i → getD s j 0 ≡ f j) → (j : ℕ) → j < i + 1 → getD (set s i v) j 0 ≡ f j
-filled-more f s i v l e h = below-more (λ j. getD (set s i v) j 0 ≡ f j) i
-    (λ j b. getD-set-other s i j v 0 (λ q. absurd (omega arith)) ∙ h j b)
-    (getD-set-same s i v 0 l ∙ e)
 
 -- ---- two pulls along a road
 pub road-pulled : (a b : ℕ) (both x y z : List ℕ) → (a ≡ b → ⊥)

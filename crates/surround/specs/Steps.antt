@@ -1,10 +1,10 @@
 -- What a round does, row by row: `both` holds what each place hands to its neighbours, and a pull takes it over where it is less.
 use mathlib.Core.Path.{_≡_}
-use mathlib.Core.Bool.{Bool}
+use mathlib.Core.Bool.{Bool, false}
 use mathlib.Core.List.{List}
 use Prim.Native.Nat.{ℕ, suc, _*_, _<_, _≤_}
 use lib.Dec.{T}
-use lib.ListN.{length}
+use lib.ListN.{length, getD}
 use Rattle.logic.specs.Lattice.{leastOver}
 use Rattle.logic.specs.Iteration.{iterate, rounds}
 use Rattle.logic.specs.Counts.{mostBelow}
@@ -26,12 +26,27 @@ pub record Bounded (row : List ℕ) (n : ℕ) : Type 0 where
 pub record ValidRow (row : List ℕ) (n : ℕ) : Type 0 where
   pub valid : (place lane : ℕ) → place < n → lane < lanes → Valid (laneOf row lane place)
 
+-- the flags of k places are a test's
+pub record Marked (test : ℕ → Bool) (flags : List Bool) (k : ℕ) : Type 0 where
+  pub flag : (place : ℕ) → place < k → getD flags place false ≡ test place
+
+-- the numbers of the places without a flag are the lowest
+pub record LowOutside (inside : List Bool) (row : List ℕ) (n : ℕ) : Type 0 where
+  pub low : (place lane : ℕ) → place < n → lane < lanes → getD inside place false ≡ false → laneOf row lane place ≡ 0
+
 -- rows with room for n places, all of one length
 pub record Rooms (n : ℕ) (x right old both : List ℕ) : Type 0 where
   pub room : n * lanes ≤ length x
   pub right-room : length right ≡ length x
   pub old-room : length old ≡ length x
   pub both-room : length both ≡ length x
+
+-- the rows of an iteration are lowest outside: nothing there changes
+pub record LowRows (inside : List Bool) (n : ℕ) (x right old both : List ℕ) : Type 0 where
+  pub low : LowOutside inside x n
+  pub right-low : LowOutside inside right n
+  pub old-low : LowOutside inside old n
+  pub both-low : LowOutside inside both n
 
 -- old is x, and both the greater of x and right
 pub record Joined (x right old both : List ℕ) (n : ℕ) : Type 0 where

@@ -3,41 +3,63 @@ ghost use Prim.Native.Nat.{_+_, _*_, _/_, _≤_, _<_};
 ghost use lib.ListN.{length};
 ghost use Rattle.words.specs.Bytes.{wordsOf};
 ghost use Rattle.sheet.specs.Limits.{mostPlaces};
-ghost use Rattle.surround.specs.Lanes.{lanes};
-ghost use Rattle.surround.specs.Strips.{RowsApart};
-ghost use Rattle.surround.specs.Steps.{RoadsIn, Bounded, ValidRow, Rooms, Joined, RoadPulled, Stepped, Round, Settled};
-use crate::LANES;
+ghost use Rattle.values.specs.Chain.{chainLattice};
+ghost use Rattle.surround.specs.Lanes.{lanes, laneOf};
+ghost use Rattle.surround.specs.Strips.{Written, RowsApart};
+ghost use Rattle.surround.specs.Steps.{RoadsIn, Bounded, ValidRow, Rooms, LowOutside, LowRows, Joined, RoadPulled, Stepped, Round, Settled};
+use crate::strips::copy_strip;
+use crate::strips::greater_strip;
 use crate::strips::pull_strip;
-use crate::strips::strip_fell;
-use crate::strips::strip_moved;
+use crate::strips::strip_changed;
+
+// A chain number has its margin in whole units of this.
+const MARGIN: u32 = 2;
 
 // Keeps the former numbers, and makes of them what each place hands to its neighbours: a pull must not read a place that has stepped already.
-fn join(x: &[u32], right: &[u32], places: usize, old: &mut [u32], both: &mut [u32])
-    requires { ⌜ (places * lanes ≤ length (now x)) × (places * lanes ≤ length (now right)) × (places * lanes ≤ length (now old)) × (places * lanes ≤ length (now both)) ⌝ }
-    ensures { λ _. ⌜ Joined (now (x .entry)) (now (right .entry)) (now (old .exit)) (now (both .exit)) places ⌝ }
+fn join(x: &[u32], right: &[u32], inside: &[bool], old: &mut [u32], both: &mut [u32])
+    requires { ⌜ Rooms (length (now inside)) (now x) (now right) (now old) (now both) × LowRows (now inside) (length (now inside)) (now x) (now right) (now old) (now both) ⌝ }
+    ensures { λ _. ⌜ Joined (now (x .entry)) (now (right .entry)) (now (old .exit)) (now (both .exit)) (length (now (inside .entry))) × LowRows (now (inside .entry)) (length (now (inside .entry))) (now (x .entry)) (now (right .entry)) (now (old .exit)) (now (both .exit)) ⌝ }
 {
-    for i in 0..places * LANES {
-        old[i] = x[i];
-        both[i] = values::greater(x[i], right[i]);
+    for place in 0..inside.len() {
+        if inside[place] {
+            copy_strip(x, old, place);
+            greater_strip(x, right, both, place);
+        }
+    }
+}
+
+// A place takes over what another hands to it. Outside the ball it has the lowest number already.
+fn pull(x: &mut [u32], both: &[u32], inside: &[bool], place: usize, other: usize)
+    requires { ⌜ (place < length (now inside)) × LowOutside (now inside) (now x) (length (now inside)) × (place * lanes + lanes ≤ length (now x)) × (other * lanes + lanes ≤ length (now both)) ⌝ }
+    ensures { λ _. ⌜ Written place lanes (λ lane. chainLattice .meet (laneOf (now (x .entry)) lane place) (laneOf (now (both .entry)) lane other)) (now (x .entry)) (now (x .exit)) ⌝ }
+{
+    if inside[place] {
+        pull_strip(x, both, place, other);
     }
 }
 
 // A road brings to each of its two ends what the other hands over.
-fn pull_road(x: &mut [u32], both: &[u32], first: usize, second: usize)
-    requires { ⌜ (first < second) × (second * lanes + lanes ≤ length (now x)) × (second * lanes + lanes ≤ length (now both)) ⌝ }
+fn pull_road(x: &mut [u32], both: &[u32], inside: &[bool], first: usize, second: usize)
+    requires { ⌜ (first < second) × (second < length (now inside)) × LowOutside (now inside) (now x) (length (now inside)) × (length (now inside) * lanes ≤ length (now x)) × (length (now inside) * lanes ≤ length (now both)) ⌝ }
     ensures { λ _. ⌜ RoadPulled first second (now (both .entry)) (now (x .entry)) (now (x .exit)) ⌝ }
 {
-    pull_strip(x, both, first, second);
-    pull_strip(x, both, second, first);
+    pull(x, both, inside, first, second);
+    pull(x, both, inside, second, first);
 }
 
-fn step(x: &mut [u32], both: &[u32], sheet: &[u8], roads: usize)
-    requires { ⌜ RoadsIn (wordsOf (now sheet)) roads (length (now x) / lanes) × (length (now x) ≤ length (now both)) ⌝ }
+fn step(x: &mut [u32], both: &[u32], inside: &[bool], sheet: &[u8], roads: usize)
+    requires { ⌜ RoadsIn (wordsOf (now sheet)) roads (length (now inside)) × LowOutside (now inside) (now x) (length (now inside)) × (length (now inside) * lanes ≤ length (now x)) × (length (now inside) * lanes ≤ length (now both)) ⌝ }
     ensures { λ _. ⌜ Stepped (wordsOf (now (sheet .entry))) roads (now (both .entry)) (now (x .entry)) (now (x .exit)) ⌝ }
 {
     for r in 0..roads {
         let word = words::word_at(sheet, 1 + 2 * r);
-        pull_road(x, both, (word / 256 % 256) as usize, (word % 256) as usize);
+        pull_road(
+            x,
+            both,
+            inside,
+            (word / 256 % 256) as usize,
+            (word % 256) as usize,
+        );
     }
 }
 
@@ -46,37 +68,24 @@ fn round(
     right: &[u32],
     old: &mut [u32],
     both: &mut [u32],
-    places: usize,
+    inside: &[bool],
     sheet: &[u8],
     roads: usize,
 )
-    requires { ⌜ RoadsIn (wordsOf (now sheet)) roads places × Bounded (now x) places × Rooms places (now x) (now right) (now old) (now both) ⌝ }
-    ensures { λ _. ⌜ Round (wordsOf (now (sheet .entry))) roads places (now (right .entry)) (now (x .entry)) (now (old .exit)) (now (x .exit)) ⌝ }
+    requires { ⌜ RoadsIn (wordsOf (now sheet)) roads (length (now inside)) × Bounded (now x) (length (now inside)) × Rooms (length (now inside)) (now x) (now right) (now old) (now both) × LowRows (now inside) (length (now inside)) (now x) (now right) (now old) (now both) ⌝ }
+    ensures { λ _. ⌜ Round (wordsOf (now (sheet .entry))) roads (length (now (inside .entry))) (now (right .entry)) (now (x .entry)) (now (old .exit)) (now (x .exit)) × LowRows (now (inside .entry)) (length (now (inside .entry))) (now (x .exit)) (now (right .entry)) (now (old .exit)) (now (both .exit)) ⌝ }
 {
-    join(x, right, places, old, both);
-    step(x, both, sheet, roads);
+    join(x, right, inside, old, both);
+    step(x, both, inside, sheet, roads);
 }
 
-// Whether a margin fell.
-fn fell(old: &[u32], x: &[u32], places: usize) -> bool
-    requires { ⌜ (places * lanes ≤ length (now old)) × (places * lanes ≤ length (now x)) ⌝ }
-    ensures { λ r. ⌜ RowsApart r (λ c. c / 2) (now (old .entry)) (now (x .entry)) places ⌝ }
+// Whether the numbers of a place inside, in whole units, are other than they were.
+fn changed(old: &[u32], x: &[u32], inside: &[bool], unit: u32) -> bool
+    requires { ⌜ (1 ≤ unit) × (length (now inside) * lanes ≤ length (now old)) × (length (now inside) * lanes ≤ length (now x)) × LowOutside (now inside) (now old) (length (now inside)) × LowOutside (now inside) (now x) (length (now inside)) ⌝ }
+    ensures { λ r. ⌜ RowsApart r (λ c. c / unit) (now (old .entry)) (now (x .entry)) (length (now (inside .entry))) ⌝ }
 {
-    for place in 0..places {
-        if strip_fell(old, x, place) {
-            return true;
-        }
-    }
-    false
-}
-
-// Whether a margin or a verdict fell.
-fn moved(old: &[u32], x: &[u32], places: usize) -> bool
-    requires { ⌜ (places * lanes ≤ length (now old)) × (places * lanes ≤ length (now x)) ⌝ }
-    ensures { λ r. ⌜ RowsApart r (λ c. c) (now (old .entry)) (now (x .entry)) places ⌝ }
-{
-    for place in 0..places {
-        if strip_moved(old, x, place) {
+    for place in 0..inside.len() {
+        if inside[place] && strip_changed(old, x, place, unit) {
             return true;
         }
     }
@@ -84,24 +93,24 @@ fn moved(old: &[u32], x: &[u32], places: usize) -> bool
 }
 
 // Steps until no place changes in any lane. The rounds count the steps in which a margin fell; verdicts may still move after these.
-pub fn settle(
+pub(crate) fn settle(
     x: &mut [u32],
     right: &[u32],
     old: &mut [u32],
     both: &mut [u32],
-    places: usize,
+    inside: &[bool],
     sheet: &[u8],
     roads: usize,
 ) -> u64
-    requires { ⌜ RoadsIn (wordsOf (now sheet)) roads places × ValidRow (now x) places × ValidRow (now right) places × (places ≤ mostPlaces) × Rooms places (now x) (now right) (now old) (now both) ⌝ }
-    ensures { λ r. ⌜ Settled (wordsOf (now (sheet .entry))) roads places (now (right .entry)) (now (x .entry)) r (now (x .exit)) ⌝ }
+    requires { ⌜ RoadsIn (wordsOf (now sheet)) roads (length (now inside)) × ValidRow (now x) (length (now inside)) × ValidRow (now right) (length (now inside)) × (length (now inside) ≤ mostPlaces) × Rooms (length (now inside)) (now x) (now right) (now old) (now both) × LowRows (now inside) (length (now inside)) (now x) (now right) (now old) (now both) ⌝ }
+    ensures { λ r. ⌜ Settled (wordsOf (now (sheet .entry))) roads (length (now (inside .entry))) (now (right .entry)) (now (x .entry)) r (now (x .exit)) ⌝ }
 {
     let mut rounds: u64 = 1;
     loop {
-        round(x, right, old, both, places, sheet, roads);
-        if fell(old, x, places) {
+        round(x, right, old, both, inside, sheet, roads);
+        if changed(old, x, inside, MARGIN) {
             rounds += 1;
-        } else if !moved(old, x, places) {
+        } else if !changed(old, x, inside, 1) {
             break rounds;
         }
     }

@@ -12,15 +12,18 @@ mod rows;
 mod strips;
 
 use iteration::settle;
+use rows::clear_outside;
 use rows::load;
+use rows::mark_ball;
 use rows::mask;
+use sheet::limits::MOST_PLACES;
 use strips::copy_strip;
 
 // Samples side by side.
 pub const LANES: usize = 16;
 
 // The length of a row with the lanes of the most places.
-pub const ROW: usize = 64 * LANES;
+pub const ROW: usize = MOST_PLACES * LANES;
 
 fn greater_of(a: u64, b: u64) -> u64
     ensures { λ r. ⌜ r ≡ max a b ⌝ }
@@ -43,13 +46,16 @@ fn surround_centre(
     ring: &mut [u32],
     old: &mut [u32],
     both: &mut [u32],
+    inside: &mut [bool],
 ) -> u64
-    requires { ⌜ (centre < places) × RowsReady (now left) (now right) places (wordsOf (now sheet)) roads (numbersOf (wordsOf (now distances))) × Rooms places (now x) (now ring) (now old) (now both) ⌝ }
+    requires { ⌜ (centre < places) × (length (now inside) ≡ places) × RowsReady (now left) (now right) places (wordsOf (now sheet)) roads (numbersOf (wordsOf (now distances))) × Rooms places (now x) (now ring) (now old) (now both) ⌝ }
     ensures { λ r. ⌜ CentreDone (now (left .entry)) (now (right .entry)) places (wordsOf (now (sheet .entry))) roads (numbersOf (wordsOf (now (distances .entry)))) lower upper centre (now (x .exit)) r ⌝ }
 {
+    mark_ball(inside, distances, centre, upper);
     mask(left, x, distances, centre, places, 0, upper);
     mask(right, ring, distances, centre, places, lower, upper);
-    settle(x, ring, old, both, places, sheet, roads)
+    clear_outside(inside, old, both);
+    settle(x, ring, old, both, inside, sheet, roads)
 }
 
 // The surrounds about all centres, and the greatest rounds of one.
@@ -71,6 +77,7 @@ fn surround_centres(
     let mut ring: [u32; ROW] = [0; ROW];
     let mut old: [u32; ROW] = [0; ROW];
     let mut both: [u32; ROW] = [0; ROW];
+    let mut inside: [bool; MOST_PLACES] = [false; MOST_PLACES];
     let mut most: u64 = 0;
     for centre in 0..places {
         let rounds = surround_centre(
@@ -87,6 +94,7 @@ fn surround_centres(
             &mut ring,
             &mut old,
             &mut both,
+            &mut inside[..places],
         );
         copy_strip(&x, out, centre);
         most = greater_of(most, rounds);

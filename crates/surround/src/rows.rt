@@ -10,6 +10,7 @@ ghost use Rattle.values.specs.Chain.{chainLattice};
 ghost use Rattle.values.specs.Signals.{inTable};
 ghost use Rattle.surround.specs.Lanes.{lanes, laneOf};
 ghost use Rattle.surround.specs.Strips.{Written};
+ghost use Rattle.surround.specs.Steps.{Marked, LowOutside};
 ghost use Rattle.surround.specs.Blocks.{RowOf, laneSignal};
 use crate::LANES;
 use crate::strips::copy_strip;
@@ -53,7 +54,14 @@ fn load_strip(
 }
 
 // Decodes a signal at the samples of a block, once for all centres.
-pub fn load(words: &[u8], start: usize, places: usize, first: usize, count: usize, row: &mut [u32])
+pub(crate) fn load(
+    words: &[u8],
+    start: usize,
+    places: usize,
+    first: usize,
+    count: usize,
+    row: &mut [u32],
+)
     requires { ⌜ (start + (first + count) * places ≤ length (wordsOf (now words))) × (places * lanes ≤ length (now row)) ⌝ }
     ensures { λ _. ⌜ RowOf (laneSignal (wordsOf (now (words .entry))) start places first count) (now (row .exit)) places ⌝ }
 {
@@ -73,6 +81,30 @@ fn in_range(distances: &[u8], at: usize, lower: u64, upper: u64) -> bool
     distance <= upper
 }
 
+// Flags the places of the ball about a centre.
+pub(crate) fn mark_ball(inside: &mut [bool], distances: &[u8], centre: usize, upper: u64)
+    requires { ⌜ (centre < length (now inside)) × (length (now inside) * length (now inside) ≤ length (numbersOf (wordsOf (now distances)))) ⌝ }
+    ensures { λ _. ⌜ Marked (inTable (numbersOf (wordsOf (now (distances .entry)))) (length (now (inside .entry))) centre 0 upper) (now (inside .exit)) (length (now (inside .entry))) ⌝ }
+{
+    let places = inside.len();
+    for place in 0..places {
+        inside[place] = in_range(distances, centre * places + place, 0, upper);
+    }
+}
+
+// What the ball of another centre has left outside this one would be handed over.
+pub(crate) fn clear_outside(inside: &[bool], old: &mut [u32], both: &mut [u32])
+    requires { ⌜ (length (now inside) * lanes ≤ length (now old)) × (length (now inside) * lanes ≤ length (now both)) ⌝ }
+    ensures { λ _. ⌜ LowOutside (now (inside .entry)) (now (old .exit)) (length (now (inside .entry))) × LowOutside (now (inside .entry)) (now (both .exit)) (length (now (inside .entry))) ⌝ }
+{
+    for place in 0..inside.len() {
+        if !inside[place] {
+            zero_strip(old, place);
+            zero_strip(both, place);
+        }
+    }
+}
+
 fn mask_strip(from: &[u32], to: &mut [u32], place: usize, inside: bool)
     requires { ⌜ (place * lanes + lanes ≤ length (now from)) × (place * lanes + lanes ≤ length (now to)) ⌝ }
     ensures { λ _. ⌜ Written place lanes (λ lane. cond inside (laneOf (now (from .entry)) lane place) 0) (now (to .entry)) (now (to .exit)) ⌝ }
@@ -85,7 +117,7 @@ fn mask_strip(from: &[u32], to: &mut [u32], place: usize, inside: bool)
 }
 
 // Corollary 4.6: a number outside its range about the centre counts as the lowest.
-pub fn mask(
+pub(crate) fn mask(
     from: &[u32],
     to: &mut [u32],
     distances: &[u8],

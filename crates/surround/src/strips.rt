@@ -5,9 +5,10 @@ ghost use Rattle.values.specs.Chain.{chainLattice};
 ghost use Rattle.surround.specs.Lanes.{lanes, laneOf};
 ghost use Rattle.surround.specs.Strips.{Written, StripsApart};
 use crate::LANES;
+use values::greater;
 use values::lesser;
 
-pub fn zero_strip(row: &mut [u32], place: usize)
+pub(crate) fn zero_strip(row: &mut [u32], place: usize)
     requires { ⌜ place * lanes + lanes ≤ length (now row) ⌝ }
     ensures { λ _. ⌜ Written place lanes (λ _. 0) (now (row .entry)) (now (row .exit)) ⌝ }
 {
@@ -16,7 +17,7 @@ pub fn zero_strip(row: &mut [u32], place: usize)
     }
 }
 
-pub fn copy_strip(from: &[u32], to: &mut [u32], place: usize)
+pub(crate) fn copy_strip(from: &[u32], to: &mut [u32], place: usize)
     requires { ⌜ (place * lanes + lanes ≤ length (now from)) × (place * lanes + lanes ≤ length (now to)) ⌝ }
     ensures { λ _. ⌜ Written place lanes (λ lane. laneOf (now (from .entry)) lane place) (now (to .entry)) (now (to .exit)) ⌝ }
 {
@@ -26,8 +27,19 @@ pub fn copy_strip(from: &[u32], to: &mut [u32], place: usize)
     }
 }
 
+// The greater of two numbers.
+pub(crate) fn greater_strip(x: &[u32], right: &[u32], both: &mut [u32], place: usize)
+    requires { ⌜ (place * lanes + lanes ≤ length (now x)) × (place * lanes + lanes ≤ length (now right)) × (place * lanes + lanes ≤ length (now both)) ⌝ }
+    ensures { λ _. ⌜ Written place lanes (λ lane. chainLattice .join (laneOf (now (x .entry)) lane place) (laneOf (now (right .entry)) lane place)) (now (both .entry)) (now (both .exit)) ⌝ }
+{
+    for lane in 0..LANES {
+        let at = place * LANES + lane;
+        both[at] = greater(x[at], right[at]);
+    }
+}
+
 // What stands at another place comes to this one, if it is less.
-pub fn pull_strip(x: &mut [u32], both: &[u32], place: usize, other: usize)
+pub(crate) fn pull_strip(x: &mut [u32], both: &[u32], place: usize, other: usize)
     requires { ⌜ (place * lanes + lanes ≤ length (now x)) × (other * lanes + lanes ≤ length (now both)) ⌝ }
     ensures { λ _. ⌜ Written place lanes (λ lane. chainLattice .meet (laneOf (now (x .entry)) lane place) (laneOf (now (both .entry)) lane other)) (now (x .entry)) (now (x .exit)) ⌝ }
 {
@@ -37,32 +49,17 @@ pub fn pull_strip(x: &mut [u32], both: &[u32], place: usize, other: usize)
     }
 }
 
-// Whether a margin, half of a chain number, is another in one of the lanes.
-pub fn strip_fell(old: &[u32], x: &[u32], place: usize) -> bool
-    requires { ⌜ (place * lanes + lanes ≤ length (now old)) × (place * lanes + lanes ≤ length (now x)) ⌝ }
-    ensures { λ r. ⌜ StripsApart r (λ c. c / 2) (now (old .entry)) (now (x .entry)) place lanes ⌝ }
+// Whether a chain number, in whole units, is another in one of the lanes.
+pub(crate) fn strip_changed(old: &[u32], x: &[u32], place: usize, unit: u32) -> bool
+    requires { ⌜ (1 ≤ unit) × (place * lanes + lanes ≤ length (now old)) × (place * lanes + lanes ≤ length (now x)) ⌝ }
+    ensures { λ r. ⌜ StripsApart r (λ c. c / unit) (now (old .entry)) (now (x .entry)) place lanes ⌝ }
 {
-    let mut fell = false;
+    let mut changed = false;
     for lane in 0..LANES {
         let at = place * LANES + lane;
-        if old[at] / 2 != x[at] / 2 {
-            fell = true;
+        if old[at] / unit != x[at] / unit {
+            changed = true;
         }
     }
-    fell
-}
-
-// Whether a chain number is another in one of the lanes.
-pub fn strip_moved(old: &[u32], x: &[u32], place: usize) -> bool
-    requires { ⌜ (place * lanes + lanes ≤ length (now old)) × (place * lanes + lanes ≤ length (now x)) ⌝ }
-    ensures { λ r. ⌜ StripsApart r (λ c. c) (now (old .entry)) (now (x .entry)) place lanes ⌝ }
-{
-    let mut moved = false;
-    for lane in 0..LANES {
-        let at = place * LANES + lane;
-        if old[at] != x[at] {
-            moved = true;
-        }
-    }
-    moved
+    changed
 }

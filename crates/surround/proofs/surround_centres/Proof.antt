@@ -1,8 +1,11 @@
-use Prim.Native.Nat.{ℕ, _-_, _≤_}
-use mathlib.Core.Path.{_≡_, refl, subst, _∙_}
+use Prim.Native.Nat.{ℕ, _-_, _*_, _≤_}
+use mathlib.Core.Path.{_≡_, refl, sym, subst, _∙_}
 use native.Mathlib.Omega.{arith}
 use lib.ListN.{length}
+use lib.Seq.{length-take-le, length-front}
 use Rattle.words.specs.Bytes.{wordsOf, numbersOf}
+use Rattle.sheet.specs.Limits.{mostPlaces}
+use Rattle.surround.specs.Lanes.{lanes}
 use Rattle.surround.specs.Blocks.{CentresDone}
 use Rattle.surround.proofs.Centres.{centres-none, centres-more}
 use borrow.Author.Needs.{needs}
@@ -10,12 +13,12 @@ use Rattle.surround.proofs.surround_centres.Statement.{statement}
 use Rattle.surround.proofs.surround_centres.Tie as tie
 
 abbrev Inv-loop : tie.InvT-loop
-Inv-loop left right places sheet roads distances lower upper out₀ x₀ ring₀ old₀ both₀ most₀ centre₀ out x ring old both most centre =
-    (centre ≤ places) × (length out ≡ length out₀) × (length x ≡ 1024) × (length ring ≡ 1024) × (length old ≡ 1024) × (length both ≡ 1024)
-    × CentresDone left right places (wordsOf sheet) roads (numbersOf (wordsOf distances)) lower upper centre out most
+Inv-loop left right places sheet roads distances lower upper out₀ x₀ ring₀ old₀ both₀ inside₀ most₀ centre₀ out x ring old both inside most centre =
+    (centre ≤ places) × (length out ≡ length out₀) × (length x ≡ mostPlaces * lanes) × (length ring ≡ mostPlaces * lanes) × (length old ≡ mostPlaces * lanes) × (length both ≡ mostPlaces * lanes)
+    × (length inside ≡ mostPlaces) × CentresDone left right places (wordsOf sheet) roads (numbersOf (wordsOf distances)) lower upper centre out most
 
 abbrev μ-loop : tie.MeasureT-loop
-μ-loop left right places sheet roads distances lower upper out₀ x₀ ring₀ old₀ both₀ most₀ centre₀ out x ring old both most centre =
+μ-loop left right places sheet roads distances lower upper out₀ x₀ ring₀ old₀ both₀ inside₀ most₀ centre₀ out x ring old both inside most centre =
     places - centre
 
 loop-holds : tie.Need-loop-holds Inv-loop μ-loop
@@ -23,6 +26,7 @@ loop-holds c =
     let g = c .before .before .before .before .before .args in (
       search needs,
       refl,
+      search needs,
       search needs,
       search needs,
       search needs,
@@ -42,8 +46,16 @@ slice-aggregate-surround-centre-3 c = search needs
 slice-aggregate-surround-centre-4 : tie.Need-slice-aggregate-surround-centre-4 Inv-loop μ-loop
 slice-aggregate-surround-centre-4 c = search needs
 
+array-borrow-prefix-inside : tie.Need-array-borrow-prefix-inside Inv-loop μ-loop
+array-borrow-prefix-inside c = search needs
+
+slice-aggregate-surround-centre-5 : tie.Need-slice-aggregate-surround-centre-5 Inv-loop μ-loop
+slice-aggregate-surround-centre-5 c =
+    let l = length-take-le (c .before .before .before .before .before .before .before .before .before .before .before .before .args .places) (c .before .before .before .before .before .before .loop .inside) (omega (arith, c .before .before .before .before .before .before .before .before .before .before .before .before .pre .0 .few-places)) in
+    sym l
+
 surround-centre-requires : tie.Need-surround-centre-requires Inv-loop μ-loop
-surround-centre-requires c κs = (search needs, c .before .before .before .before .before .before .before .before .before .before .before .pre .0, search needs)
+surround-centre-requires c κs = (search needs, length-take-le (c .before .before .before .before .before .before .before .before .before .before .before .before .args .places) (c .before .before .before .before .before .before .loop .inside) (omega (arith, c .before .before .before .before .before .before .before .before .before .before .before .before .pre .0 .few-places)), c .before .before .before .before .before .before .before .before .before .before .before .before .pre .0, search needs)
 
 slice-aggregate-copy-strip : tie.Need-slice-aggregate-copy-strip Inv-loop μ-loop
 slice-aggregate-copy-strip c = search needs
@@ -62,13 +74,13 @@ loop-less c = search needs
 
 loop-again : tie.Need-loop-again Inv-loop μ-loop
 loop-again c =
-    let g = c .before .before .before .before .before .before .before .before .before .before .before .before .before .before .before .before .before .before .before .before .before .before .args in
-    let h = c .before .before .before .before .before .before .before .before .before .before .before .before .before .before .before .before .loop in
-    let s = c .before .before .before .before .before .before .before .before .before .before .surround-centre in
+    let g = c .before .before .before .before .before .before .before .before .before .before .before .before .before .before .before .before .before .before .before .before .before .before .before .before .args in
+    let h = c .before .before .before .before .before .before .before .before .before .before .before .before .before .before .before .before .before .before .loop in
+    let s = c .before .before .before .before .before .before .before .before .before .before .before .surround-centre in
     let w = c .before .before .before .copy-strip in
     let done = centres-more (g .left .now) (g .right .now) (g .places) (wordsOf (g .sheet .now)) (g .roads) (numbersOf (wordsOf (g .distances .now))) (g .lower) (g .upper)
-    (h .centre) (h .out) (s .last .1 .1 .1 .1 .1 .1 .1 .1 .1 .0) (w .last .1 .0) (h .most) (s .result) (h .inv .6) (s .ensures) (w .ensures) in
-    (search needs, w .kept .1 .0 ∙ h .inv .1, search needs, search needs, search needs, search needs, rw (c .greater-of .ensures) done)
+    (h .centre) (h .out) (s .last .1 .1 .1 .1 .1 .1 .1 .1 .1 .0) (w .last .1 .0) (h .most) (s .result) (h .inv .7) (s .ensures) (w .ensures) in
+    (omega (arith, c .before .before .before .before .before .before .before .before .before .before .before .before .before .before .before .before .before .loop-test .taken), w .kept .1 .0 ∙ h .inv .1, search needs, search needs, search needs, search needs, length-front (h .inside) (s .last .1 .1 .1 .1 .1 .1 .1 .1 .1 .1 .1 .1 .1 .0) (g .places) (s .kept .1 .1 .1 .1 .1 .1 .1 .1 .1 .1 .1 .1 .1 .0) ∙ h .inv .6, rw (c .greater-of .ensures) done)
 
 same-length : tie.Need-same-length Inv-loop μ-loop
 same-length c = search needs
@@ -78,7 +90,7 @@ returns c =
     let g = c .before .before .before .before .before .before .before .args in
     let h = c .before .loop in
     let e : h .centre ≡ g .places = omega arith in
-    subst (λ (k : ℕ). CentresDone (g .left .now) (g .right .now) (g .places) (wordsOf (g .sheet .now)) (g .roads) (numbersOf (wordsOf (g .distances .now))) (g .lower) (g .upper) k (h .out) (h .most)) e (h .inv .6)
+    subst (λ (k : ℕ). CentresDone (g .left .now) (g .right .now) (g .places) (wordsOf (g .sheet .now)) (g .roads) (numbersOf (wordsOf (g .distances .now))) (g .lower) (g .upper) k (h .out) (h .most)) e (h .inv .7)
 
 pub surround-centres-spec : {M : Type 1} → statement M
 surround-centres-spec =
@@ -91,6 +103,8 @@ surround-centres-spec =
     slice-aggregate-surround-centre-2
     slice-aggregate-surround-centre-3
     slice-aggregate-surround-centre-4
+    array-borrow-prefix-inside
+    slice-aggregate-surround-centre-5
     surround-centre-requires
     slice-aggregate-copy-strip
     copy-strip-requires

@@ -6,30 +6,30 @@ use lib.ListN.{length}
 use Rattle.words.specs.Bytes.{wordsOf}
 use Rattle.sheet.specs.Checked.{wordAt}
 use Rattle.sheet.specs.Layout.{roadAt, firstPlace, secondPlace}
-use Rattle.surround.specs.Lanes.{lanes}
 use Rattle.surround.specs.Steps.{Stepped, RoadPulled}
+use Rattle.surround.proofs.Outside.{stepped-low}
 use Rattle.surround.proofs.Least.{stepped-none, road-more}
 use borrow.Author.Needs.{needs}
 use Rattle.surround.proofs.iteration.step.Statement.{statement}
 use Rattle.surround.proofs.iteration.step.Tie as tie
 
 abbrev Inv-loop : tie.InvT-loop
-Inv-loop x₀ both sheet roads r₀ x r = (r ≤ roads) × (length x ≡ length x₀) × Stepped (wordsOf sheet) r both x₀ x
+Inv-loop x₀ both inside sheet roads r₀ x r = (r ≤ roads) × (length x ≡ length x₀) × Stepped (wordsOf sheet) r both x₀ x
 
 abbrev μ-loop : tie.MeasureT-loop
-μ-loop x₀ both sheet roads r₀ x r = roads - r
+μ-loop x₀ both inside sheet roads r₀ x r = roads - r
 
 loop-holds : tie.Need-loop-holds Inv-loop μ-loop
-loop-holds c = let g = c .before .before .before .args in (search needs, search needs, stepped-none (wordsOf (g .sheet .now)) (g .both .now) (g .x .now))
+loop-holds c = let g = c .before .before .before .before .args in (search needs, search needs, stepped-none (wordsOf (g .sheet .now)) (g .both .now) (g .x .now))
 
 mul-word-at : tie.Need-mul-word-at Inv-loop μ-loop
-mul-word-at c = omega (arith, c .before .before .before .before .before .pre .0 .there (c .before .loop .r) (c .loop-test .taken), words-count (c .before .before .before .before .before .args .sheet .now))
+mul-word-at c = omega (arith, c .before .before .before .before .before .before .pre .0 .there (c .before .loop .r) (c .loop-test .taken), words-count (c .before .before .before .before .before .before .args .sheet .now))
 
 add-word-at : tie.Need-add-word-at Inv-loop μ-loop
-add-word-at c = omega (arith, c .before .before .before .before .before .pre .0 .there (c .before .loop .r) (c .loop-test .taken), words-count (c .before .before .before .before .before .args .sheet .now))
+add-word-at c = omega (arith, c .before .before .before .before .before .before .pre .0 .there (c .before .loop .r) (c .loop-test .taken), words-count (c .before .before .before .before .before .before .args .sheet .now))
 
 word-at-requires : tie.Need-word-at-requires Inv-loop μ-loop
-word-at-requires c κs = c .before .before .before .before .before .pre .0 .there (c .before .loop .r) (c .loop-test .taken)
+word-at-requires c κs = c .before .before .before .before .before .before .pre .0 .there (c .before .loop .r) (c .loop-test .taken)
 
 cast-pull-road : tie.Need-cast-pull-road Inv-loop μ-loop
 cast-pull-road c = search needs
@@ -39,8 +39,8 @@ cast-pull-road-2 c = search needs
 
 pull-road-requires : tie.Need-pull-road-requires Inv-loop μ-loop
 pull-road-requires c κs =
-    let g = c .before .before .before .before .before .before .before .args in
-    let i = c .before .before .before .before .before .before .before .pre .0 in
+    let g = c .before .before .before .before .before .before .before .before .args in
+    let i = c .before .before .before .before .before .before .before .before .pre .0 in
     let r = c .before .before .before .loop .r in
     let w = c .before .word-at .result in
     let v = wordAt (wordsOf (g .sheet .now)) (roadAt r) in
@@ -48,10 +48,9 @@ pull-road-requires c κs =
     let a : w / 256 % 256 ≡ firstPlace v = omega arith in
     let b : w % 256 ≡ secondPlace v = omega arith in
     let o : w / 256 % 256 < w % 256 = omega (arith, i .order r (c .before .before .loop-test .taken)) in
-    let n : w % 256 < length (g .x .now) / lanes = omega (arith, i .inside r (c .before .before .loop-test .taken)) in
-    let x : w % 256 * lanes + lanes ≤ length (c .before .before .before .loop .x) = omega arith in
-    let y : w % 256 * lanes + lanes ≤ length (g .both .now) = omega arith in
-    (o, x, y)
+    let n : w % 256 < length (g .inside .now) = omega (arith, i .inside r (c .before .before .loop-test .taken)) in
+    let h = c .before .before .before .loop in
+    (o, n, stepped-low (h .inv .2) (c .before .before .before .before .before .before .before .before .pre .1), search needs, search needs)
 
 add-r : tie.Need-add-r Inv-loop μ-loop
 add-r c = search needs
@@ -61,9 +60,9 @@ loop-less c = search needs
 
 loop-again : tie.Need-loop-again Inv-loop μ-loop
 loop-again c =
-    let g = c .before .before .before .before .before .before .before .before .before .before .args in
+    let g = c .before .before .before .before .before .before .before .before .before .before .before .args in
     let h = c .before .before .before .before .before .before .loop in
-    let i = c .before .before .before .before .before .before .before .before .before .before .pre .0 in
+    let i = c .before .before .before .before .before .before .before .before .before .before .before .pre .0 in
     let s = wordsOf (g .sheet .now) in
     let e : c .before .before .before .before .word-at .result ≡ wordAt s (roadAt (h .r)) = c .before .before .before .before .word-at .ensures in
     let a : c .before .before .before .before .word-at .result / 256 % 256 ≡ firstPlace (wordAt s (roadAt (h .r))) = omega arith in
@@ -77,7 +76,7 @@ same-length c = search needs
 
 returns : tie.Need-returns Inv-loop μ-loop
 returns c =
-    let g = c .before .before .before .before .before .args in
+    let g = c .before .before .before .before .before .before .args in
     let h = c .before .loop in
     let e : h .r ≡ g .roads = omega arith in
     subst (λ (r : ℕ). Stepped (wordsOf (g .sheet .now)) r (g .both .now) (g .x .now) (h .x)) e (h .inv .2)

@@ -1,18 +1,15 @@
-use Prim.Native.Nat.{ℕ, _-_, _≤_}
-use mathlib.Core.Path.{_≡_, subst}
+use Prim.Native.Nat.{_-_}
 use native.Mathlib.Omega.{arith}
-use lib.ListN.{length}
 use Rattle.words.specs.Bytes.{wordsOf}
 use Rattle.surround.specs.Lanes.{lanes}
-use Rattle.surround.specs.Strips.{Written}
 use Rattle.surround.specs.Blocks.{laneSignal}
-use Rattle.surround.proofs.StripLaws.{written-more}
+use Rattle.surround.proofs.StripLaws.{Writing, writing-more, writing-all}
 use borrow.Author.Needs.{needs}
 use Rattle.surround.proofs.rows.load_strip.Statement.{statement}
 use Rattle.surround.proofs.rows.load_strip.Tie as tie
 
 abbrev Inv-loop : tie.InvT-loop
-Inv-loop words start places first count place row₀ lane₀ row lane = (lane ≤ lanes) × (length row ≡ length row₀) × Written place lane (λ l. laneSignal (wordsOf words) start places first count l place) row₀ row
+Inv-loop words start places first count place row₀ lane₀ row lane = Writing place lane (λ l. laneSignal (wordsOf words) start places first count l place) row₀ row
 
 abbrev μ-loop : tie.MeasureT-loop
 μ-loop words start places first count place row₀ lane₀ row lane = lanes - lane
@@ -42,21 +39,13 @@ loop-less : tie.Need-loop-less Inv-loop μ-loop
 loop-less c = search needs
 
 loop-again : tie.Need-loop-again Inv-loop μ-loop
-loop-again c =
-    let g = c .before .before .before .before .before .args in
-    let h = c .before .before .loop in
-    let f : ℕ → ℕ = λ l. laneSignal (wordsOf (g .words .now)) (g .start) (g .places) (g .first) (g .count) l (g .place) in
-    (search needs, search needs, written-more (g .place) (h .lane) f (g .row .now) (h .row) (c .signal-at .result) (h .inv .2) (omega arith) (omega arith) (c .signal-at .ensures))
+loop-again c = writing-more (c .before .before .loop .inv) (omega arith) (omega arith) (c .signal-at .ensures)
 
 same-length : tie.Need-same-length Inv-loop μ-loop
 same-length c = search needs
 
 returns : tie.Need-returns Inv-loop μ-loop
-returns c =
-    let g = c .before .before .before .before .args in
-    let h = c .before .loop in
-    let e : h .lane ≡ lanes = omega arith in
-    subst (λ (k : ℕ). Written (g .place) k (λ l. laneSignal (wordsOf (g .words .now)) (g .start) (g .places) (g .first) (g .count) l (g .place)) (g .row .now) (h .row)) e (h .inv .2)
+returns c = writing-all (c .before .loop .inv) (omega arith)
 
 pub load-strip-spec : {M : Type 1} → statement M
 load-strip-spec =

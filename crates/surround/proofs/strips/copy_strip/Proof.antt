@@ -1,16 +1,14 @@
-use mathlib.Core.Path.{_≡_, refl, subst}
-use Prim.Native.Nat.{ℕ, _-_, _≤_}
+use mathlib.Core.Path.{refl}
+use Prim.Native.Nat.{_-_}
 use native.Mathlib.Omega.{arith}
-use lib.ListN.{length}
 use Rattle.surround.specs.Lanes.{lanes, laneOf}
-use Rattle.surround.specs.Strips.{Written}
-use Rattle.surround.proofs.StripLaws.{written-more}
+use Rattle.surround.proofs.StripLaws.{Writing, writing-more, writing-all}
 use borrow.Author.Needs.{needs}
 use Rattle.surround.proofs.strips.copy_strip.Statement.{statement}
 use Rattle.surround.proofs.strips.copy_strip.Tie as tie
 
 abbrev Inv-loop : tie.InvT-loop
-Inv-loop from to₀ place lane₀ to lane = (lane ≤ lanes) × (length to ≡ length to₀) × Written place lane (λ l. laneOf from l place) to₀ to
+Inv-loop from to₀ place lane₀ to lane = Writing place lane (λ l. laneOf from l place) to₀ to
 
 abbrev μ-loop : tie.MeasureT-loop
 μ-loop from to₀ place lane₀ to lane = lanes - lane
@@ -43,20 +41,13 @@ loop-less : tie.Need-loop-less Inv-loop μ-loop
 loop-less c = search needs
 
 loop-again : tie.Need-loop-again Inv-loop μ-loop
-loop-again c =
-    let h = c .before .before .loop in
-    let g = c .before .before .before .args in
-    (search needs, search needs, written-more (g .place) (h .lane) (λ l. laneOf (g .from .now) l (g .place)) (g .to .now) (h .to) (laneOf (g .from .now) (h .lane) (g .place)) (h .inv .2) (omega arith) (omega arith) refl)
+loop-again c = writing-more (c .before .before .loop .inv) (omega arith) (omega arith) refl
 
 same-length : tie.Need-same-length Inv-loop μ-loop
 same-length c = search needs
 
 returns : tie.Need-returns Inv-loop μ-loop
-returns c =
-    let h = c .before .loop in
-    let g = c .before .before .args in
-    let e : h .lane ≡ lanes = omega arith in
-    subst (λ (k : ℕ). Written (g .place) k (λ l. laneOf (g .from .now) l (g .place)) (g .to .now) (h .to)) e (h .inv .2)
+returns c = writing-all (c .before .loop .inv) (omega arith)
 
 pub copy-strip-spec : {M : Type 1} → statement M
 copy-strip-spec =

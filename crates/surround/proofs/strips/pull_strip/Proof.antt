@@ -1,17 +1,15 @@
-use mathlib.Core.Path.{_≡_, ap, subst, _∙_}
-use Prim.Native.Nat.{ℕ, _-_, _≤_}
+use mathlib.Core.Path.{ap, _∙_}
+use Prim.Native.Nat.{ℕ, _-_}
 use native.Mathlib.Omega.{arith}
-use lib.ListN.{length}
 use Rattle.values.specs.Chain.{chainLattice}
 use Rattle.surround.specs.Lanes.{lanes, laneOf}
-use Rattle.surround.specs.Strips.{Written}
-use Rattle.surround.proofs.StripLaws.{written-more}
+use Rattle.surround.proofs.StripLaws.{Writing, writing-more, writing-all}
 use borrow.Author.Needs.{needs}
 use Rattle.surround.proofs.strips.pull_strip.Statement.{statement}
 use Rattle.surround.proofs.strips.pull_strip.Tie as tie
 
 abbrev Inv-loop : tie.InvT-loop
-Inv-loop x₀ both place other lane₀ x lane = (lane ≤ lanes) × (length x ≡ length x₀) × Written place lane (λ l. chainLattice .meet (laneOf x₀ l place) (laneOf both l other)) x₀ x
+Inv-loop x₀ both place other lane₀ x lane = Writing place lane (λ l. chainLattice .meet (laneOf x₀ l place) (laneOf both l other)) x₀ x
 
 abbrev μ-loop : tie.MeasureT-loop
 μ-loop x₀ both place other lane₀ x lane = lanes - lane
@@ -62,23 +60,15 @@ loop-again : tie.Need-loop-again Inv-loop μ-loop
 loop-again c =
     let h = c .before .before .before .before .loop in
     let g = c .before .before .before .before .before .before .before .args in
-    let pulled : ℕ → ℕ = λ l. chainLattice .meet (laneOf (g .x .now) l (g .place)) (laneOf (g .both .now) l (g .other)) in
-    let same : laneOf (h .x) (h .lane) (g .place) ≡ laneOf (g .x .now) (h .lane) (g .place) = h .inv .2 .kept (g .place) (h .lane) (omega arith) (λ _. omega arith) in (
-      search needs,
-      search needs,
-      written-more (g .place) (h .lane) pulled (g .x .now) (h .x) (c .lesser .result) (h .inv .2) (omega arith) (omega arith)
-          (c .lesser .ensures ∙ ap (λ (v : ℕ). chainLattice .meet v (laneOf (g .both .now) (h .lane) (g .other))) same),
-    )
+    let same = h .inv .so-far .kept (g .place) (h .lane) (omega arith) (λ _. omega arith) in
+    writing-more (h .inv) (omega arith) (omega arith)
+    (c .lesser .ensures ∙ ap (λ (v : ℕ). chainLattice .meet v (laneOf (g .both .now) (h .lane) (g .other))) same)
 
 same-length : tie.Need-same-length Inv-loop μ-loop
 same-length c = search needs
 
 returns : tie.Need-returns Inv-loop μ-loop
-returns c =
-    let h = c .before .loop in
-    let g = c .before .before .before .before .args in
-    let e : h .lane ≡ lanes = omega arith in
-    subst (λ (k : ℕ). Written (g .place) k (λ l. chainLattice .meet (laneOf (g .x .now) l (g .place)) (laneOf (g .both .now) l (g .other))) (g .x .now) (h .x)) e (h .inv .2)
+returns c = writing-all (c .before .loop .inv) (omega arith)
 
 pub pull-strip-spec : {M : Type 1} → statement M
 pull-strip-spec =

@@ -1,16 +1,14 @@
-use mathlib.Core.Path.{_≡_, refl, subst}
-use Prim.Native.Nat.{ℕ, _-_, _≤_}
+use mathlib.Core.Path.{refl}
+use Prim.Native.Nat.{_-_}
 use native.Mathlib.Omega.{arith}
-use lib.ListN.{length}
 use Rattle.surround.specs.Lanes.{lanes}
-use Rattle.surround.specs.Strips.{Written}
-use Rattle.surround.proofs.StripLaws.{written-more}
+use Rattle.surround.proofs.StripLaws.{Writing, writing-more, writing-all}
 use borrow.Author.Needs.{needs}
 use Rattle.surround.proofs.strips.zero_strip.Statement.{statement}
 use Rattle.surround.proofs.strips.zero_strip.Tie as tie
 
 abbrev Inv-loop : tie.InvT-loop
-Inv-loop row₀ place lane₀ row lane = (lane ≤ lanes) × (length row ≡ length row₀) × Written place lane (λ _. 0) row₀ row
+Inv-loop row₀ place lane₀ row lane = Writing place lane (λ _. 0) row₀ row
 
 abbrev μ-loop : tie.MeasureT-loop
 μ-loop row₀ place lane₀ row lane = lanes - lane
@@ -37,20 +35,13 @@ loop-less : tie.Need-loop-less Inv-loop μ-loop
 loop-less c = search needs
 
 loop-again : tie.Need-loop-again Inv-loop μ-loop
-loop-again c =
-    let h = c .before .loop in
-    let g = c .before .before .args in
-    (search needs, search needs, written-more (g .place) (h .lane) (λ _. 0) (g .row .now) (h .row) 0 (h .inv .2) (omega arith) (omega arith) refl)
+loop-again c = writing-more (c .before .loop .inv) (omega arith) (omega arith) refl
 
 same-length : tie.Need-same-length Inv-loop μ-loop
 same-length c = search needs
 
 returns : tie.Need-returns Inv-loop μ-loop
-returns c =
-    let h = c .before .loop in
-    let g = c .before .before .args in
-    let e : h .lane ≡ lanes = omega arith in
-    subst (λ (k : ℕ). Written (g .place) k (λ _. 0) (g .row .now) (h .row)) e (h .inv .2)
+returns c = writing-all (c .before .loop .inv) (omega arith)
 
 pub zero-strip-spec : {M : Type 1} → statement M
 zero-strip-spec =

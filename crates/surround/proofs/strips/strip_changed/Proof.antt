@@ -6,19 +6,19 @@ use Rattle.surround.specs.Lanes.{lanes}
 use Rattle.surround.specs.Strips.{StripsApart}
 use Rattle.surround.proofs.StripLaws.{strips-none, strips-same, strips-other}
 use borrow.Author.Needs.{needs}
-use Rattle.surround.proofs.strips.strip_fell.Statement.{statement}
-use Rattle.surround.proofs.strips.strip_fell.Tie as tie
+use Rattle.surround.proofs.strips.strip_changed.Statement.{statement}
+use Rattle.surround.proofs.strips.strip_changed.Tie as tie
 
 abbrev Inv-loop : tie.InvT-loop
-Inv-loop old x place fell₀ lane₀ fell lane = (lane ≤ lanes) × StripsApart fell (λ c. c / 2) old x place lane
+Inv-loop old x place unit changed₀ lane₀ changed lane = (lane ≤ lanes) × StripsApart changed (λ c. c / unit) old x place lane
 
 abbrev μ-loop : tie.MeasureT-loop
-μ-loop old x place fell₀ lane₀ fell lane = lanes - lane
+μ-loop old x place unit changed₀ lane₀ changed lane = lanes - lane
 
 loop-holds : tie.Need-loop-holds Inv-loop μ-loop
 loop-holds c =
     let g = c .args in
-    (search needs, strips-none (λ v. v / 2) (g .old .now) (g .x .now) (g .place))
+    (search needs, strips-none (λ v. v / g .unit) (g .old .now) (g .x .now) (g .place))
 
 mul-at : tie.Need-mul-at Inv-loop μ-loop
 mul-at c = search needs
@@ -32,11 +32,17 @@ mul-if1 c = search needs
 shared-slice-read-if1 : tie.Need-shared-slice-read-if1 Inv-loop μ-loop
 shared-slice-read-if1 c = search needs
 
+div-if1 : tie.Need-div-if1 Inv-loop μ-loop
+div-if1 c = search needs
+
 mul-if1-2 : tie.Need-mul-if1-2 Inv-loop μ-loop
 mul-if1-2 c = search needs
 
 shared-slice-read-if1-2 : tie.Need-shared-slice-read-if1-2 Inv-loop μ-loop
 shared-slice-read-if1-2 c = search needs
+
+div-if1-2 : tie.Need-div-if1-2 Inv-loop μ-loop
+div-if1-2 c = search needs
 
 add-lane : tie.Need-add-lane Inv-loop μ-loop
 add-lane c = search needs
@@ -50,8 +56,8 @@ loop-again c =
     let g = c .before .before .before .before .before .args in (
       search needs,
       ⊎-elim
-          (λ w. strips-other (λ v. v / 2) (g .old .now) (g .x .now) (g .place) (c .if1 .fell) (h .lane) (w .1) (w .0 .taken))
-          (λ w. strips-same (λ v. v / 2) (g .old .now) (g .x .now) (g .place) (h .fell) (c .if1 .fell) (h .lane) (h .inv .1) (w .1) (w .0 .left))
+          (λ w. strips-other (λ v. v / g .unit) (g .old .now) (g .x .now) (g .place) (c .if1 .changed) (h .lane) (w .1) (w .0 .taken))
+          (λ w. strips-same (λ v. v / g .unit) (g .old .now) (g .x .now) (g .place) (h .changed) (c .if1 .changed) (h .lane) (h .inv .1) (w .1) (w .0 .left))
           (c .if1 .came),
     )
 
@@ -60,10 +66,10 @@ returns c =
     let g = c .before .before .args in
     let h = c .before .loop in
     let e : h .lane ≡ lanes = omega arith in
-    subst (StripsApart (h .fell) (λ v. v / 2) (g .old .now) (g .x .now) (g .place)) e (h .inv .1)
+    subst (StripsApart (h .changed) (λ v. v / g .unit) (g .old .now) (g .x .now) (g .place)) e (h .inv .1)
 
-pub strip-fell-spec : {M : Type 1} → statement M
-strip-fell-spec =
+pub strip-changed-spec : {M : Type 1} → statement M
+strip-changed-spec =
     tie.close
     (tie.spec
     Inv-loop
@@ -73,8 +79,10 @@ strip-fell-spec =
     add-at
     mul-if1
     shared-slice-read-if1
+    div-if1
     mul-if1-2
     shared-slice-read-if1-2
+    div-if1-2
     add-lane
     loop-less
     loop-again

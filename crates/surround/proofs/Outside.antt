@@ -1,0 +1,143 @@
+-- Places outside a ball: all rows are lowest there and stay so, so that a round is the same whether or not it touches them.
+use mathlib.Core.Path.{_≡_, refl, sym, ap, _∙_}
+use mathlib.Core.Bool.{Bool, true, false, _&&_}
+use mathlib.Core.List.{List}
+use Prim.Native.Nat.{ℕ, _+_, _*_, _<_}
+use native.Mathlib.Decide.{ℕ-discrete}
+use native.Mathlib.Omega.{arith}
+use borrow.Author.Count.{below-more}
+use borrow.Author.Tests.{le-leb}
+use lib.Dec.{leb}
+use lib.ListN.{length, getD, set}
+use lib.Seq.{getD-set-same, getD-set-other}
+use Rattle.logic.specs.Iteration.{masked}
+use Rattle.values.specs.Chain.{chainLattice}
+use Rattle.values.specs.Signals.{inTable}
+use Rattle.surround.specs.Lanes.{lanes, laneOf}
+use Rattle.surround.specs.Strips.{Written, StripsApart}
+use Rattle.surround.specs.Steps.{Marked, LowOutside, LowRows, Joined, Stepped}
+use Rattle.surround.specs.Blocks.{RowOf}
+use Rattle.surround.proofs.StripLaws.{false-true}
+use Rattle.surround.proofs.RowLaws.{row-more}
+use Rattle.surround.proofs.Least.{meet-min}
+
+-- ---- the flags
+pub marked-none : (test : ℕ → Bool) (flags : List Bool) → Marked test flags 0
+marked-none test flags = record { flag = λ p l. absurd (omega arith) }
+
+pub marked-more : (test : ℕ → Bool) (flags : List Bool) (k : ℕ) (t : Bool) → Marked test flags k → k < length flags → t ≡ test k → Marked test (set flags k t) (k + 1)
+marked-more test flags k t m b e = record {
+  flag = below-more (λ p. getD (set flags k t) p false ≡ test p) k
+      (λ p l. getD-set-other flags k p t false (λ q. absurd (omega arith)) ∙ m .flag p l)
+      (getD-set-same flags k t false b ∙ e);
+}
+
+-- outside a ball nothing is in a range that ends with it
+outside-range : (distances : List ℕ) (n centre lower upper place : ℕ) → inTable distances n centre 0 upper place ≡ false → inTable distances n centre lower upper place ≡ false
+unfolding inTable
+outside-range distances n centre lower upper place e = ap (λ t. leb lower d && t) (sym (ap (λ t. t && leb d upper) (le-leb 0 d (omega arith))) ∙ e) ∙ never (leb lower d)
+  where
+    d : ℕ
+    d = getD distances (centre * n + place) 0
+
+    never : (t : Bool) → (t && false) ≡ false
+    never true = refl
+    never false = refl
+
+pub masked-low : (distances : List ℕ) (n centre lower upper : ℕ) (inside : List Bool) (from to : List ℕ) → Marked (inTable distances n centre 0 upper) inside n
+    → RowOf (λ lane. masked chainLattice (inTable distances n centre lower upper) (laneOf from lane)) to n → LowOutside inside to n
+unfolding masked
+masked-low distances n centre lower upper inside from to m w = record {
+  low = λ place lane b l e. w .at place lane b l ∙ simp (outside-range distances n centre lower upper place (sym (m .flag place b) ∙ e));
+}
+
+-- ---- one strip
+-- a strip that holds already what would be written
+pub written-already : {place : ℕ} {f : ℕ → ℕ} {s : List ℕ} → ((lane : ℕ) → lane < lanes → laneOf s lane place ≡ f lane) → Written place lanes f s s
+written-already e = record { written = e; kept = λ _ _ _ _. refl }
+
+pub meet-low : {a : ℕ} (b : ℕ) → a ≡ 0 → a ≡ chainLattice .meet a b
+meet-low b e = rw meet-min (omega arith)
+
+pub strips-alike : (h : ℕ → ℕ) (a b : List ℕ) (place : ℕ) → ((lane : ℕ) → lane < lanes → laneOf a lane place ≡ laneOf b lane place) → StripsApart false h a b place lanes
+strips-alike h a b place e = record { alike = λ _ lane l. ap h (e lane l); apart = λ z. absurd (false-true z) }
+
+module _ {inside : List Bool} where
+  -- a strip inside is written
+  pub low-kept : {place n : ℕ} {f : ℕ → ℕ} {s t : List ℕ} → getD inside place false ≡ true → Written place lanes f s t → LowOutside inside s n → LowOutside inside t n
+  low-kept i w s = record {
+    low = λ p lane b l e. w .kept p lane l (λ q. absurd (false-true (sym e ∙ ap (λ k. getD inside k false) q ∙ i))) ∙ s .low p lane b l e;
+  }
+
+  pub low-none : {s : List ℕ} → LowOutside inside s 0
+  low-none = record { low = λ p lane b. absurd (omega arith) }
+
+  -- one strip more is cleared, or needs none
+  pub low-more : {k : ℕ} {s t : List ℕ} → Written k lanes (λ _. 0) s t → LowOutside inside s k → LowOutside inside t (k + 1)
+  low-more {k} {s} {t} w o = record {
+    low = λ p lane b l e. below-more (λ q. getD inside q false ≡ false → laneOf t lane q ≡ 0) k
+        (λ q c z. w .kept q lane l (λ r. absurd (omega arith)) ∙ o .low q lane c l z)
+        (λ _. w .written lane l)
+        p b e;
+  }
+
+  pub low-inside : {k : ℕ} {s : List ℕ} → getD inside k false ≡ true → LowOutside inside s k → LowOutside inside s (k + 1)
+  low-inside {k} {s} i o = record {
+    low = λ p lane b l e. below-more (λ q. getD inside q false ≡ false → laneOf s lane q ≡ 0) k
+        (λ q c z. o .low q lane c l z)
+        (λ z. absurd (false-true (sym z ∙ i)))
+        p b e;
+  }
+
+  -- numbers that fall stay lowest
+  pub stepped-low : {n roads : ℕ} {sheet both x y : List ℕ} → Stepped sheet roads both x y → LowOutside inside x n → LowOutside inside y n
+  stepped-low s o = record { low = λ p lane b l e. omega (arith, s .least p lane l .below, o .low p lane b l e) }
+
+  pub pulled-low : (b : ℕ) (both : List ℕ) {a n : ℕ} {x y : List ℕ} → Written a lanes (λ lane. chainLattice .meet (laneOf x lane a) (laneOf both lane b)) x y → LowOutside inside x n → LowOutside inside y n
+  pulled-low b both {a} {n} {x} {y} w o = record { low = λ p lane c l e. at p lane l (o .low p lane c l e) (ℕ-discrete p a) }
+    where
+      at : (p lane : ℕ) → lane < lanes → laneOf x lane p ≡ 0 → Dec (p ≡ a) → laneOf y lane p ≡ 0
+      at p lane l z (yes q) =
+          let z′ : laneOf x lane a ≡ 0 = rw q at z in
+          rw (q, w .written lane l) (sym (meet-low (laneOf both lane b) z′) ∙ z′)
+      at p lane l z (no q) = w .kept p lane l (λ r. absurd (q r)) ∙ z
+
+-- ---- joining, place after place
+pub record Joining (inside : List Bool) (x right old both : List ℕ) (k : ℕ) : Type 0 where
+  pub joined : Joined x right old both k
+  pub rows : LowRows inside (length inside) x right old both
+
+pub joining-none : {inside : List Bool} {x right old both : List ℕ} → LowRows inside (length inside) x right old both → Joining inside x right old both 0
+joining-none o = record {
+  joined = record { former = λ p lane b l. absurd (omega arith); handed = λ p lane b l. absurd (omega arith) };
+  rows = o;
+}
+
+module _ {inside : List Bool} {x right old both : List ℕ} {k : ℕ} (j : Joining inside x right old both k) where
+  joined-more : {old′ both′ : List ℕ} → Written k lanes (λ lane. laneOf x lane k) old old′
+      → Written k lanes (λ lane. chainLattice .join (laneOf x lane k) (laneOf right lane k)) both both′ → Joined x right old′ both′ (k + 1)
+  joined-more {old′} {both′} v w = record {
+    former = row-more (λ lane. laneOf x lane) _ old old′ k (record { at = j .joined .former }) v (λ _ _. refl) .at;
+    handed = row-more (λ lane place. chainLattice .join (laneOf x lane place) (laneOf right lane place)) _ both both′ k (record { at = j .joined .handed }) w (λ _ _. refl) .at;
+  }
+
+  pub joining-inside : {old′ both′ : List ℕ} → getD inside k false ≡ true → Written k lanes (λ lane. laneOf x lane k) old old′
+      → Written k lanes (λ lane. chainLattice .join (laneOf x lane k) (laneOf right lane k)) both both′ → Joining inside x right old′ both′ (k + 1)
+  joining-inside i v w = record {
+    joined = joined-more v w;
+    rows = record {
+      low = j .rows .low;
+      right-low = j .rows .right-low;
+      old-low = low-kept i v (j .rows .old-low);
+      both-low = low-kept i w (j .rows .both-low);
+    };
+  }
+
+  pub joining-outside : k < length inside → getD inside k false ≡ false → Joining inside x right old both (k + 1)
+  joining-outside b e =
+      record {
+        joined = joined-more
+            (written-already (λ lane l. j .rows .old-low .low k lane b l e ∙ sym (j .rows .low .low k lane b l e)))
+            (written-already (λ lane l. j .rows .both-low .low k lane b l e ∙ sym (rw (j .rows .low .low k lane b l e, j .rows .right-low .low k lane b l e) refl)));
+        rows = j .rows;
+      }
