@@ -8,8 +8,9 @@ ghost use mathlib.Core.Path.{_≡_};
 ghost use Prim.Native.Nat.{_≤_, max};
 ghost use lib.ListN.{length};
 ghost use Rattle.words.specs.Bytes.{wordsOf, numbersOf};
-ghost use Rattle.verdicts.specs.Answer.{lineIndex, wordsNeeded};
-ghost use Rattle.engine.specs.Lines.{found, Accepting, LinesWritten};
+ghost use Rattle.verdicts.specs.Answer.{lineIndex};
+ghost use Rattle.engine.specs.Lines.{Accepting, LinesWritten};
+ghost use Rattle.engine.specs.Lent.{foundIn, neededIn};
 
 // The index after the last line, and what the lines add to the result.
 pub(crate) struct Written {
@@ -21,7 +22,7 @@ pub(crate) struct Written {
 // A word more for each line than verdicts, the head and the end.
 pub(crate) fn words_needed(sheet: &[u8], layout: Layout, distances: &[u8]) -> usize
     requires { ⌜ Accepting (wordsOf (now sheet)) layout (numbersOf (wordsOf (now distances))) ⌝ }
-    ensures { λ r. ⌜ r ≡ wordsNeeded (layout .places) (found (wordsOf (now (sheet .entry))) (length (numbersOf (wordsOf (now (distances .entry))))) .lines) ⌝ }
+    ensures { λ r. ⌜ r ≡ neededIn (now (sheet .entry)) (now (distances .entry)) ⌝ }
 {
     let mut lengths = [0u32; MOST_LINES];
     let mut at = layout.table;
@@ -47,8 +48,8 @@ pub(crate) fn write_lines(
     distances: &[u8],
     answer: &mut [u8],
 ) -> Written
-    requires { ⌜ Accepting (wordsOf (now sheet)) layout (numbersOf (wordsOf (now distances))) × (lineIndex (layout .places) (found (wordsOf (now sheet)) (length (numbersOf (wordsOf (now distances)))) .lines) (layout .lines) ≤ length (wordsOf (now answer))) ⌝ }
-    ensures { λ r. ⌜ LinesWritten (wordsOf (now (sheet .entry))) (found (wordsOf (now (sheet .entry))) (length (numbersOf (wordsOf (now (distances .entry)))))) (wordsOf (now (answer .entry))) (wordsOf (now (answer .exit))) (r .end) (r .rounds) (r .yes) ⌝ }
+    requires { ⌜ Accepting (wordsOf (now sheet)) layout (numbersOf (wordsOf (now distances))) × (lineIndex (layout .places) (foundIn (now sheet) (now distances) .lines) (layout .lines) ≤ length (wordsOf (now answer))) ⌝ }
+    ensures { λ r. ⌜ LinesWritten (wordsOf (now (sheet .entry))) (foundIn (now (sheet .entry)) (now (distances .entry))) (wordsOf (now (answer .entry))) (wordsOf (now (answer .exit))) (r .end) (r .rounds) (r .yes) ⌝ }
 {
     let mut lengths = [0u32; MOST_LINES];
     let mut starts = [0usize; MOST_LINES];
