@@ -15,7 +15,8 @@ ghost use Rattle.host.specs.Host.{resultSize, resultBytes, lentWhole, no
 // Five numbers of eight bytes.
 const RESULT_BYTES: usize = 40;
 
-const NOT_WHOLE: u64 = 16;
+// Told of lengths that are not whole.
+pub const NOT_WHOLE: u64 = 16;
 
 // Whether these lengths have whole words, whole distances and a result.
 fn lent_whole(sheet: usize, distances: usize, answer: usize, result: usize) -> bool
