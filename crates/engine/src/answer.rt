@@ -31,7 +31,7 @@ pub(crate) fn write_answer(
     answer: &mut [u8],
 ) -> Written
     requires { ⌜ Accepting (wordsOf (now sheet)) layout (numbersOf (wordsOf (now distances))) × (neededIn (now sheet) (now distances) ≤ length (wordsOf (now answer))) ⌝ }
-    ensures { λ r. ⌜ AnswerWritten (wordsOf (now (sheet .entry))) (foundIn (now (sheet .entry)) (now (distances .entry))) (wordsOf (now (answer .entry))) (wordsOf (now (answer .exit))) (r .end) (r .rounds) (r .yes) ⌝ }
+    ensures { λ r. ⌜ AnswerWritten (wordsOf (now (sheet .entry))) (foundIn (now (sheet .entry)) (now (distances .entry))) (wordsOf (now (answer .entry))) (wordsOf (now (answer .exit))) (r .end) (r .tally) ⌝ }
 {
     words::put_word(answer, 0, head_word(layout));
     let written = write_lines(sheet, layout, distances, answer);

@@ -49,8 +49,8 @@ fn answer_sheet(sheet: &[u8], layout: Layout, distances: &[u8], answer: &mut [u8
         number: 0,
         place: 0,
         words: written.end as u64 + 1,
-        rounds: written.rounds,
-        yes: written.yes,
+        rounds: written.tally.rounds,
+        yes: written.tally.yes,
     }
 }
 

@@ -2,4 +2,5 @@ pub mod Answer
 pub mod Judged
 pub mod Steady
 pub mod Writing
+pub mod Tally
 pub mod SurroundLine

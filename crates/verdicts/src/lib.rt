@@ -2,3 +2,4 @@
 pub mod point;
 pub mod row;
 pub mod surround_line;
+pub mod tally;
