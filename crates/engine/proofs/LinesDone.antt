@@ -2,7 +2,7 @@
 use mathlib.Core.Path.{_≡_, refl, sym, _∙_, ap, ap₂, subst}
 use mathlib.Core.Logic.{⊎-elim}
 use mathlib.Core.List.{List, [], _∷_}
-use Prim.Native.Nat.{ℕ, _+_, _*_, _<_, _≤_, _^_, max}
+use Prim.Native.Nat.{ℕ, _+_, _*_, _<_, _≤_, max}
 use native.Mathlib.Nat.{not-suc-le-zero, mul-le-mul}
 use native.Mathlib.Numerals.{add-one}
 use native.Mathlib.Omega.{arith}
@@ -16,7 +16,7 @@ use Rattle.logic.proofs.Tests.{below}
 use Rattle.logic.proofs.TableKeeps.{ConstantsIn}
 use Rattle.logic.proofs.Small.{InBits}
 use Rattle.sheet.specs.declared.check.Layout as Code
-use Rattle.sheet.specs.Limits.{mostLines}
+use Rattle.sheet.specs.Limits.{mostPlaces, mostSamples, mostLines}
 use Rattle.sheet.specs.Checked.{wordAt}
 use Rattle.sheet.specs.Layout.{Layout}
 use Rattle.sheet.specs.Roads.{network, recording}
@@ -86,17 +86,17 @@ module _ (s : List ℕ) (layout : Code.Layout) (distances : List ℕ) (lines : L
   constants : ConstantsIn (InBits 26) lines
   constants = good-constants (layout .signals) (layout .samples) lines (table .good)
 
-  -- no line has more than 64 * 1024 verdicts
-  pub yes-few : (k : ℕ) → k < mostLines → sumBelow (yesOfLine s layout lines) (k + 1) ≤ 2 ^ 22
-  yes-few k h = omega (arith, sum-bound (yesOfLine s layout lines) 65536 one (k + 1))
+  -- no line has more verdicts than the most samples at the most places
+  pub yes-few : (k : ℕ) → k < mostLines → sumBelow (yesOfLine s layout lines) (k + 1) ≤ mostLines * (mostSamples * mostPlaces)
+  yes-few k h = omega (arith, sum-bound (yesOfLine s layout lines) (mostSamples * mostPlaces) one (k + 1))
     where
-      one : (i : ℕ) → yesOfLine s layout lines i ≤ 65536
+      one : (i : ℕ) → yesOfLine s layout lines i ≤ mostSamples * mostPlaces
       one i =
           let n : ℕ = layout .places in
           let row : (t : ℕ) → sumBelow (λ l. count (valueAt verdicts (sheetNetwork s layout) (sheetRecording s layout) lines i t l)) n ≤ n * 1
           = λ t. sum-bound _ 1 (λ l. byte-count (valueAt verdicts (sheetNetwork s layout) (sheetRecording s layout) lines i t l) .1) n in
-          let long : lineIn lines i .length ≤ 1024 = omega (arith, good-length (layout .signals) (layout .samples) lines (table .good) i, table .sizes .samples) in
-          let wide : n * 1 ≤ 64 = omega (arith, table .sizes .places) in
+          let long : lineIn lines i .length ≤ mostSamples = omega (arith, good-length (layout .signals) (layout .samples) lines (table .good) i, table .sizes .samples) in
+          let wide : n * 1 ≤ mostPlaces = omega (arith, table .sizes .places) in
           omega (arith, sum-bound _ (n * 1) row (lineIn lines i .length), mul-le-mul long wide)
 
   module _ (answer : List ℕ) (enough : lineIndex (layout .places) lines (layout .lines) ≤ length answer)
