@@ -6,7 +6,6 @@ use Prim.Native.Nat.{ℕ, _+_, _*_, _<_, _^_}
 use native.Mathlib.Nat.{le-of-lt}
 use native.Mathlib.Omega.{arith}
 use lib.ListN.{length, getD, set, replicate, List·getD-append}
-use Rattle.words.specs.Bytes.{wordsOf, numbersOf}
 use Rattle.words.specs.Rows.{rows, padded}
 use Rattle.words.proofs.Rows.{in-table, length-rows, getD-rows}
 use Rattle.logic.specs.Network.{Network, distanceIn}
@@ -35,12 +34,13 @@ use Rattle.verdicts.proofs.LineRows.{sum-more}
 use Rattle.verdicts.proofs.WholeAnswer.{InAnswer, index-bound}
 use Rattle.verdicts.proofs.Accepted.{table, sizes}
 use Rattle.engine.specs.Lines.{found, Accepting}
+use Rattle.engine.specs.Lent.{foundIn}
 
 -- ---- the sheet
 
 -- the lines that the check has found in the bytes of a sheet
 abbrev pub linesOf : List ℕ → List ℕ → List Line
-linesOf sheet distances = found (wordsOf sheet) (length (numbersOf (wordsOf distances))) .lines
+linesOf sheet distances = foundIn sheet distances .lines
 
 pub record Table (s : List ℕ) (layout : Code.Layout) (distances : List ℕ) (lines : List Line) : Type 0 where
   pub counted : layout .lines ≡ length lines

@@ -23,6 +23,7 @@ use Rattle.verdicts.proofs.Accepted.{accepted-answered, answered-lookup}
 use Rattle.verdicts.proofs.Examples.{StarredExamples, examples-of}
 use Rattle.verdicts.proofs.Steadiness.{steadiness}
 use Rattle.engine.specs.declared.Result.{Result}
+use Rattle.engine.specs.Lent.{judgedIn}
 use Rattle.engine.specs.Result.{resultSaid}
 use Rattle.engine.proofs.judge.Reads as judge
 use Rattle.engine.proofs.judge.Kinds as kinds
@@ -50,7 +51,11 @@ answerLent c = length (wordsOf (c .given .1 .1 .0 .now))
 abbrev pub leftBy : Call → Judged
 leftBy c = record { result = resultSaid (c .result); answer = wordsOf (c .left .1 .1 .0 .now); distances = numbersOf (wordsOf (c .left .1 .0 .now)) }
 
-pub left-judged : (c : Call) → leftBy c ≡ judged (sheetOf c) (distancesLent c) (answerLent c)
+-- what is to be left, by the bytes that were lent
+abbrev pub judgedOf : Call → Judged
+judgedOf c = judgedIn (c .given .0 .now) (c .given .1 .0 .now) (c .given .1 .1 .0 .now)
+
+pub left-judged : (c : Call) → leftBy c ≡ judgedOf c
 left-judged c = same-parts (c .learnt .0) (c .learnt .1 .0) (c .learnt .1 .1)
   where
     same-parts : {j : Judged} → resultSaid (c .result) ≡ j .result → wordsOf (c .left .1 .1 .0 .now) ≡ j .answer → numbersOf (wordsOf (c .left .1 .0 .now)) ≡ j .distances → leftBy c ≡ j
@@ -68,7 +73,7 @@ starred-calls = examples-of _ (λ s distances answer P p c given.
     subst P (sym (left-judged c ∙ (λ i. judged (given .sheet i) (given .distances-lent i) (given .answer-lent i)))) p)
 
 -- ---- calls that accept
-accepts : (c : Call) → c .result .number ≡ 0 → judged (sheetOf c) (distancesLent c) (answerLent c) .result .number ≡ 0
+accepts : (c : Call) → c .result .number ≡ 0 → judgedOf c .result .number ≡ 0
 accepts c z = sym (ap (λ (j : Judged). j .result .number) (left-judged c)) ∙ z
 
 -- what the check has found

@@ -20,7 +20,8 @@ use Rattle.surround.specs.Lanes.{surroundValue, surroundRounds}
 use Rattle.surround.proofs.Greatest.{most-le, most-same}
 use Rattle.verdicts.proofs.LineRows.{sum-same}
 use Rattle.verdicts.specs.Writing.{lineValue, lineRounds, Surveyed}
-use Rattle.verdicts.specs.SurroundLine.{SurroundWritten}
+use Rattle.verdicts.specs.declared.tally.Tally.{Tally}
+use Rattle.verdicts.specs.SurroundLine.{SamplesWritten, SurroundWritten}
 use Rattle.engine.specs.Line.{firstWord, wordsUpTo, valueHere, roundsHere, LineWritten}
 use Rattle.engine.proofs.SurroundTable.{value-by-table, rounds-by-table}
 
@@ -52,32 +53,29 @@ module _ (answer : List ℕ) (to : ℕ) (line : Line) {first : List ℕ} (room :
     line-written : (value roundsOf : ℕ → ℕ → ℕ)
         → ((t l : ℕ) → l < L .places → value t l ≡ valueHere s L answer starts to (lineSaid line) t l)
         → ((t l : ℕ) → l < L .places → roundsOf t l ≡ roundsHere s L answer starts to (lineSaid line) t l)
-        → {after : List ℕ} {rounds yes : ℕ}
-        → after ≡ put first (to + 1) (rows (λ t l. chainWord (value t l)) (line .length) (L .places))
-        → yes ≡ sumBelow (λ t. sumBelow (λ l. count (chainVerdict (value t l))) (L .places)) (line .length)
-        → rounds ≡ mostBelow (λ t. mostBelow (roundsOf t) (L .places)) (line .length)
-        → LineWritten s L answer starts to (lineSaid line) after rounds yes
-    line-written value roundsOf same same-rounds written counted greatest = record {
-      written = written ∙ behind-first (rows (λ t l. chainWord (value t l)) (line .length) (L .places))
+        → {after : List ℕ} {tally : Tally} → SamplesWritten value roundsOf (L .places) first (to + 1) (line .length) after tally
+        → LineWritten s L answer starts to (lineSaid line) after tally
+    line-written value roundsOf same same-rounds done = record {
+      written = done .written ∙ behind-first (rows (λ t l. chainWord (value t l)) (line .length) (L .places))
           ∙ ap (λ v. put answer to (firstWord (lineSaid line) ∷ v)) (rows-ext _ _ (line .length) (L .places) (λ t l _ b. ap chainWord (same t l b)));
-      counted = counted ∙ sum-same _ _ (line .length) (λ t _. sum-same _ _ (L .places) (λ l b. ap (λ c. count (chainVerdict c)) (same t l b)));
-      greatest = greatest ∙ most-same _ _ (line .length) (λ t _. most-same _ _ (L .places) (λ l b. same-rounds t l b));
+      counted = done .counted ∙ sum-same _ _ (line .length) (λ t _. sum-same _ _ (L .places) (λ l b. ap (λ c. count (chainVerdict c)) (same t l b)));
+      greatest = done .greatest ∙ most-same _ _ (line .length) (λ t _. most-same _ _ (L .places) (λ l b. same-rounds t l b));
     }
 
     pub points-written : ((t l : ℕ) → lineRounds s L (wordsUpTo answer to (lineSaid line)) starts (operatorSaid (line .operator)) t l ≡ 0)
-        → {after : List ℕ} {yes : ℕ}
+        → {after : List ℕ} {many : ℕ}
         → after ≡ put first (to + 1) (rows (λ t l. chainWord (lineValue s L (take (to + 1) first) starts (operatorSaid (line .operator)) t l)) (line .length) (L .places))
-        → yes ≡ sumBelow (λ t. sumBelow (λ l. count (chainVerdict (lineValue s L (take (to + 1) first) starts (operatorSaid (line .operator)) t l))) (L .places)) (line .length)
-        → LineWritten s L answer starts to (lineSaid line) after 0 yes
+        → many ≡ sumBelow (λ t. sumBelow (λ l. count (chainVerdict (lineValue s L (take (to + 1) first) starts (operatorSaid (line .operator)) t l))) (L .places)) (line .length)
+        → LineWritten s L answer starts to (lineSaid line) after (record { rounds = 0; yes = many })
     unfolding valueHere roundsHere
     points-written none written counted = line-written _ (λ _ _. 0)
         (λ t l _. ap (λ w. lineValue s L w starts (operatorSaid (line .operator)) t l) before-verdicts)
-        (λ t l _. sym (none t l)) written counted (most-none (line .length) (L .places))
+        (λ t l _. sym (none t l)) (record { written = written; counted = counted; greatest = most-none (line .length) (L .places) })
 
     module _ {distances : List ℕ} (survey : Surveyed s L distances) {i j : ℕ} {b : Bounds} (said : line .operator ≡ Surrounded i j b) (small : b .upper < 2 ^ 28) where
-      pub surround-written : {after : List ℕ} {rounds yes : ℕ}
-          → SurroundWritten first (take (to + 1) first) (getD starts i 0) (getD starts j 0) L s distances (b .lower) (b .upper) (to + 1) (line .length) after rounds yes
-          → LineWritten s L answer starts to (lineSaid line) after rounds yes
+      pub surround-written : {after : List ℕ} {tally : Tally}
+          → SurroundWritten first (take (to + 1) first) (getD starts i 0) (getD starts j 0) L s distances (b .lower) (b .upper) (to + 1) (line .length) after tally
+          → LineWritten s L answer starts to (lineSaid line) after tally
       unfolding valueHere roundsHere
       surround-written done = line-written _ _
           (λ t l h. ap (λ w. surroundValue w (getD starts i 0) (getD starts j 0) (L .places) s (L .roads) distances (b .lower) (b .upper) t l) before-verdicts
@@ -86,4 +84,4 @@ module _ (answer : List ℕ) (to : ℕ) (line : Line) {first : List ℕ} (room :
           (λ t l h. ap (λ w. surroundRounds w (getD starts i 0) (getD starts j 0) (L .places) s (L .roads) distances (b .lower) (b .upper) t l) before-verdicts
           ∙ rounds-by-table s L distances survey _ starts i j (b .lower) (b .upper) t l small h
           ∙ ap (λ o. lineRounds s L (wordsUpTo answer to (lineSaid line)) starts (operatorSaid o) t l) (sym said))
-          (done .written) (done .counted) (done .greatest)
+          done

@@ -2,7 +2,7 @@
 use mathlib.Core.Path.{_≡_, refl, sym, _∙_, ap, ap₂, subst}
 use mathlib.Core.Logic.{⊎-elim}
 use mathlib.Core.List.{List, [], _∷_}
-use Prim.Native.Nat.{ℕ, _+_, _*_, _<_, _≤_, _^_, max}
+use Prim.Native.Nat.{ℕ, _+_, _*_, _<_, _≤_, max}
 use native.Mathlib.Nat.{not-suc-le-zero, mul-le-mul}
 use native.Mathlib.Numerals.{add-one}
 use native.Mathlib.Omega.{arith}
@@ -16,7 +16,7 @@ use Rattle.logic.proofs.Tests.{below}
 use Rattle.logic.proofs.TableKeeps.{ConstantsIn}
 use Rattle.logic.proofs.Small.{InBits}
 use Rattle.sheet.specs.declared.check.Layout as Code
-use Rattle.sheet.specs.Limits.{mostLines}
+use Rattle.sheet.specs.Limits.{mostPlaces, mostSamples, mostLines}
 use Rattle.sheet.specs.Checked.{wordAt}
 use Rattle.sheet.specs.Layout.{Layout}
 use Rattle.sheet.specs.Roads.{network, recording}
@@ -24,6 +24,8 @@ use Rattle.sheet.proofs.AcceptedLines.{sample-bits, lengthsOf, good-length, goo
 use Rattle.values.specs.Chain.{chains, Valid}
 use Rattle.values.proofs.Machine.{byte-count}
 use Rattle.values.proofs.ChainTable.{chains-valid}
+use Rattle.verdicts.specs.declared.tally.Tally.{Tally}
+use Rattle.verdicts.specs.Tally.{together}
 use Rattle.verdicts.specs.Answer.{lineIndex, lineWords}
 use Rattle.verdicts.specs.Writing.{sheetNetwork, sheetRecording, earlier, lineValue, lineRounds}
 use Rattle.verdicts.proofs.AnswerWords.{lines-size, sizes-below}
@@ -46,16 +48,16 @@ module _ (s : List ℕ) (layout : Code.Layout) (lines : List Line) where
   abbrev pub yesOfLine : ℕ → ℕ
   yesOfLine i = sumBelow (λ t. sumBelow (λ l. count (valueAt verdicts (sheetNetwork s layout) (sheetRecording s layout) lines i t l)) (layout .places)) (lineIn lines i .length)
 
-  pub record LinesDone (answer : List ℕ) (k : ℕ) (words starts : List ℕ) (to rounds yes : ℕ) : Type 0 where
+  pub record LinesDone (answer : List ℕ) (k : ℕ) (words starts : List ℕ) (to : ℕ) (tally : Tally) : Type 0 where
     -- where the signal of each line begins, and where the next line will
     pub room : length starts ≡ mostLines
     pub begins : (i : ℕ) → i < k → getD starts i 0 ≡ lineIndex (layout .places) lines i + 1
     pub ends : to ≡ lineIndex (layout .places) lines k
     pub written : words ≡ put answer 1 (concat wordsOfLine k)
-    pub greatest : rounds ≡ mostBelow roundsOfLine k
-    pub counted : yes ≡ sumBelow yesOfLine k
+    pub greatest : tally .rounds ≡ mostBelow roundsOfLine k
+    pub counted : tally .yes ≡ sumBelow yesOfLine k
 
-  pub none-done : (answer : List ℕ) → LinesDone answer 0 answer (replicate mostLines 0) 1 0 0
+  pub none-done : (answer : List ℕ) → LinesDone answer 0 answer (replicate mostLines 0) 1 (record { rounds = 0; yes = 0 })
   unfolding lineIndex concat sumBelow mostBelow
   none-done answer = record {
     room = length-replicate {A = ℕ} mostLines 0;
@@ -67,13 +69,13 @@ module _ (s : List ℕ) (layout : Code.Layout) (lines : List Line) where
   }
 
 -- all lines done is what the contract says
-pub all-done : (s : List ℕ) (layout : Code.Layout) (distances answer words starts : List ℕ) (k to rounds yes : ℕ) → Accepting s layout distances
-    → k ≡ length (found s (length distances) .lines) → LinesDone s layout (found s (length distances) .lines) answer k words starts to rounds yes
-    → LinesWritten s (found s (length distances)) answer words to rounds yes
+pub all-done : (s : List ℕ) (layout : Code.Layout) (distances answer words starts : List ℕ) (k to : ℕ) (tally : Tally) → Accepting s layout distances
+    → k ≡ length (found s (length distances) .lines) → LinesDone s layout (found s (length distances) .lines) answer k words starts to tally
+    → LinesWritten s (found s (length distances)) answer words to tally
 unfolding network recording sheetRecording greatestRounds yesCount
-all-done s layout distances answer words starts k to rounds total accepting last done =
+all-done s layout distances answer words starts k to tally accepting last done =
     let L : Layout = found s (length distances) in
-    let all = subst (λ (y : Code.Layout). LinesDone s y (L .lines) answer (length (L .lines)) words starts to rounds total) (accepting .laid) (rw last at done) in
+    let all = subst (λ (y : Code.Layout). LinesDone s y (L .lines) answer (length (L .lines)) words starts to tally) (accepting .laid) (rw last at done) in
     record { written = all .written; ends = all .ends; greatest = all .greatest; counted = all .counted }
 
 module _ (s : List ℕ) (layout : Code.Layout) (distances : List ℕ) (lines : List Line) (table : Table s layout distances lines) where
@@ -84,21 +86,21 @@ module _ (s : List ℕ) (layout : Code.Layout) (distances : List ℕ) (lines : L
   constants : ConstantsIn (InBits 26) lines
   constants = good-constants (layout .signals) (layout .samples) lines (table .good)
 
-  -- no line has more than 64 * 1024 verdicts
-  pub yes-few : (k : ℕ) → k < mostLines → sumBelow (yesOfLine s layout lines) (k + 1) ≤ 2 ^ 22
-  yes-few k h = omega (arith, sum-bound (yesOfLine s layout lines) 65536 one (k + 1))
+  -- no line has more verdicts than the most samples at the most places
+  pub yes-few : (k : ℕ) → k < mostLines → sumBelow (yesOfLine s layout lines) (k + 1) ≤ mostLines * (mostSamples * mostPlaces)
+  yes-few k h = omega (arith, sum-bound (yesOfLine s layout lines) (mostSamples * mostPlaces) one (k + 1))
     where
-      one : (i : ℕ) → yesOfLine s layout lines i ≤ 65536
+      one : (i : ℕ) → yesOfLine s layout lines i ≤ mostSamples * mostPlaces
       one i =
           let n : ℕ = layout .places in
           let row : (t : ℕ) → sumBelow (λ l. count (valueAt verdicts (sheetNetwork s layout) (sheetRecording s layout) lines i t l)) n ≤ n * 1
           = λ t. sum-bound _ 1 (λ l. byte-count (valueAt verdicts (sheetNetwork s layout) (sheetRecording s layout) lines i t l) .1) n in
-          let long : lineIn lines i .length ≤ 1024 = omega (arith, good-length (layout .signals) (layout .samples) lines (table .good) i, table .sizes .samples) in
-          let wide : n * 1 ≤ 64 = omega (arith, table .sizes .places) in
+          let long : lineIn lines i .length ≤ mostSamples = omega (arith, good-length (layout .signals) (layout .samples) lines (table .good) i, table .sizes .samples) in
+          let wide : n * 1 ≤ mostPlaces = omega (arith, table .sizes .places) in
           omega (arith, sum-bound _ (n * 1) row (lineIn lines i .length), mul-le-mul long wide)
 
   module _ (answer : List ℕ) (enough : lineIndex (layout .places) lines (layout .lines) ≤ length answer)
-      (k : ℕ) (inside : k < length lines) (words starts : List ℕ) (to rounds yes : ℕ) (done : LinesDone s layout lines answer k words starts to rounds yes) where
+      (k : ℕ) (inside : k < length lines) (words starts : List ℕ) (to : ℕ) (tally : Tally) (done : LinesDone s layout lines answer k words starts to tally) where
     abbrev n : ℕ
     n = layout .places
 
@@ -160,10 +162,10 @@ module _ (s : List ℕ) (layout : Code.Layout) (distances : List ℕ) (lines : L
         (λ l. getD-set-other starts k i (to + 1) 0 (λ e. omega arith) ∙ done .begins i l)
         (below (omega arith))
 
-    more-done : (after : List ℕ) (r y greater : ℕ) → LineWritten s layout words starts to (lineIn lines k) after r y → greater ≡ max rounds r
-        → LinesDone s layout lines answer (k + 1) after (set starts k (to + 1)) (to + (1 + lineIn lines k .length * n)) greater (yes + y)
+    more-done : (after : List ℕ) (more : Tally) → LineWritten s layout words starts to (lineIn lines k) after more
+        → LinesDone s layout lines answer (k + 1) after (set starts k (to + 1)) (to + (1 + lineIn lines k .length * n)) (together tally more)
     unfolding before valueHere roundsHere lineValue lineRounds lineWords
-    more-done after r y greater here is-greater =
+    more-done after more here =
         let N = sheetNetwork s layout in
         let x = sheetRecording s layout in
         let T : ℕ = layout .samples in
@@ -175,7 +177,7 @@ module _ (s : List ℕ) (layout : Code.Layout) (distances : List ℕ) (lines : L
           begins = begun;
           ends = omega (arith, done .ends, line-ends n T lines k inside (table .sizes) refl);
           written = here .written ∙ ap (λ (w : List ℕ). put words to (firstWord (lineIn lines k) ∷ w)) meant ∙ joined;
-          greatest = is-greater ∙ ap₂ max (done .greatest) (here .greatest ∙ most) ∙ sym (most-more (roundsOfLine s layout lines) k);
+          greatest = ap₂ max (done .greatest) (here .greatest ∙ most) ∙ sym (most-more (roundsOfLine s layout lines) k);
           counted = ap₂ _+_ (done .counted) (here .counted ∙ many) ∙ sym (sum-more (yesOfLine s layout lines) k);
         }
 
@@ -187,6 +189,6 @@ module _ (s : List ℕ) (layout : Code.Layout) (distances : List ℕ) (lines : L
       pub line-ready : LineReady s layout distances (wordsUpTo words to line) starts line
       line-ready = rw said ready
 
-      pub line-done : (after : List ℕ) (r y greater : ℕ) → LineWritten s layout words starts to line after r y → greater ≡ max rounds r
-          → LinesDone s layout lines answer (k + 1) after (set starts k (to + 1)) (to + (1 + line .length * n)) greater (yes + y)
-      line-done after r y greater here is-greater = rw said (more-done after r y greater (rw said at here) is-greater)
+      pub line-done : (after : List ℕ) (more : Tally) → LineWritten s layout words starts to line after more
+          → LinesDone s layout lines answer (k + 1) after (set starts k (to + 1)) (to + (1 + line .length * n)) (together tally more)
+      line-done after more here = rw said (more-done after more (rw said at here))

@@ -1,4 +1,5 @@
 pub mod Way
 pub mod Line
 pub mod Lines
+pub mod Lent
 pub mod Result

@@ -12,6 +12,7 @@ use Rattle.sheet.proofs.AcceptedLines.{GoodLine}
 use Rattle.values.specs.Chain.{chainWord, chainVerdict, Valid}
 use Rattle.values.specs.Signals.{signalIn}
 use Rattle.surround.specs.Steps.{RoadsIn}
+use Rattle.verdicts.specs.declared.tally.Tally.{Tally}
 use Rattle.verdicts.specs.Writing.{lineValue, lineRounds, Surveyed}
 
 -- the sheet is surveyed, and the signals of the earlier lines stand in the words, as chain numbers that can arise
@@ -40,7 +41,7 @@ module _ (s : List ℕ) (L : Layout) (answer starts : List ℕ) (to : ℕ) (line
   unfoldable pub roundsHere : ℕ → ℕ → ℕ
   roundsHere t l = lineRounds s L (wordsUpTo answer to line) starts (line .operator) t l
 
-  pub record LineWritten (after : List ℕ) (rounds yes : ℕ) : Type 0 where
+  pub record LineWritten (after : List ℕ) (tally : Tally) : Type 0 where
     pub written : after ≡ put answer to (firstWord line ∷ rows (λ t l. chainWord (valueHere t l)) (line .length) (L .places))
-    pub counted : yes ≡ sumBelow (λ t. sumBelow (λ l. count (chainVerdict (valueHere t l))) (L .places)) (line .length)
-    pub greatest : rounds ≡ mostBelow (λ t. mostBelow (λ l. roundsHere t l) (L .places)) (line .length)
+    pub counted : tally .yes ≡ sumBelow (λ t. sumBelow (λ l. count (chainVerdict (valueHere t l))) (L .places)) (line .length)
+    pub greatest : tally .rounds ≡ mostBelow (λ t. mostBelow (λ l. roundsHere t l) (L .places)) (line .length)

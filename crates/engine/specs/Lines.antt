@@ -10,6 +10,7 @@ use Rattle.sheet.specs.Checked.{Checked, accepted, refused}
 use Rattle.sheet.specs.Layout.{Layout, checked}
 use Rattle.sheet.specs.Roads.{network, recording, distanceTable}
 use Rattle.sheet.specs.Checking.{layoutOf}
+use Rattle.verdicts.specs.declared.tally.Tally.{Tally}
 use Rattle.verdicts.specs.Answer.{lineIndex, lineWords, answerWords}
 
 abbrev pub foundBy : Checked Layout → Layout
@@ -28,15 +29,15 @@ pub record Accepting (s : List ℕ) (layout : Code.Layout) (distances : List ℕ
 
 -- the lines of an accepted sheet, written one after the other behind the head
 module _ (s : List ℕ) (L : Layout) (answer : List ℕ) where
-  pub record LinesWritten (after : List ℕ) (end rounds yes : ℕ) : Type 0 where
+  pub record LinesWritten (after : List ℕ) (end : ℕ) (tally : Tally) : Type 0 where
     pub written : after ≡ put answer 1 (concat (lineWords (network s L) (L .sizes .samples) (recording s L) (L .lines)) (length (L .lines)))
     pub ends : end ≡ lineIndex (L .sizes .places) (L .lines) (length (L .lines))
-    pub greatest : rounds ≡ greatestRounds (network s L) (recording s L) (L .lines)
-    pub counted : yes ≡ yesCount (network s L) (recording s L) (L .lines)
+    pub greatest : tally .rounds ≡ greatestRounds (network s L) (recording s L) (L .lines)
+    pub counted : tally .yes ≡ yesCount (network s L) (recording s L) (L .lines)
 
   -- the whole answer, zeros behind it
-  pub record AnswerWritten (after : List ℕ) (end rounds yes : ℕ) : Type 0 where
+  pub record AnswerWritten (after : List ℕ) (end : ℕ) (tally : Tally) : Type 0 where
     pub written : after ≡ padded (answerWords (network s L) (L .sizes .samples) (recording s L) (L .lines)) (length answer)
     pub ends : end ≡ lineIndex (L .sizes .places) (L .lines) (length (L .lines))
-    pub greatest : rounds ≡ greatestRounds (network s L) (recording s L) (L .lines)
-    pub counted : yes ≡ yesCount (network s L) (recording s L) (L .lines)
+    pub greatest : tally .rounds ≡ greatestRounds (network s L) (recording s L) (L .lines)
+    pub counted : tally .yes ≡ yesCount (network s L) (recording s L) (L .lines)

@@ -8,8 +8,8 @@ ghost use lib.ListN.{length};
 ghost use Rattle.words.specs.Bytes.{wordsOf, numbersOf};
 ghost use Rattle.words.specs.Word.{wordOf};
 ghost use Rattle.sheet.specs.Limits.{mostPlaces, mostLines, mostSamples};
-ghost use Rattle.verdicts.specs.Answer.{wordsNeeded};
-ghost use Rattle.engine.specs.Lines.{found, Accepting, AnswerWritten};
+ghost use Rattle.engine.specs.Lines.{Accepting, AnswerWritten};
+ghost use Rattle.engine.specs.Lent.{foundIn, neededIn};
 
 // The kinds 13 and 15, in bits 31..28.
 const HEAD: u32 = 3489660928;
@@ -30,8 +30,8 @@ pub(crate) fn write_answer(
     distances: &[u8],
     answer: &mut [u8],
 ) -> Written
-    requires { ⌜ Accepting (wordsOf (now sheet)) layout (numbersOf (wordsOf (now distances))) × (wordsNeeded (found (wordsOf (now sheet)) (length (numbersOf (wordsOf (now distances)))) .sizes .places) (found (wordsOf (now sheet)) (length (numbersOf (wordsOf (now distances)))) .lines) ≤ length (wordsOf (now answer))) ⌝ }
-    ensures { λ r. ⌜ AnswerWritten (wordsOf (now (sheet .entry))) (found (wordsOf (now (sheet .entry))) (length (numbersOf (wordsOf (now (distances .entry)))))) (wordsOf (now (answer .entry))) (wordsOf (now (answer .exit))) (r .end) (r .rounds) (r .yes) ⌝ }
+    requires { ⌜ Accepting (wordsOf (now sheet)) layout (numbersOf (wordsOf (now distances))) × (neededIn (now sheet) (now distances) ≤ length (wordsOf (now answer))) ⌝ }
+    ensures { λ r. ⌜ AnswerWritten (wordsOf (now (sheet .entry))) (foundIn (now (sheet .entry)) (now (distances .entry))) (wordsOf (now (answer .entry))) (wordsOf (now (answer .exit))) (r .end) (r .tally) ⌝ }
 {
     words::put_word(answer, 0, head_word(layout));
     let written = write_lines(sheet, layout, distances, answer);

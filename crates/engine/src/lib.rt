@@ -8,9 +8,8 @@ ghost use mathlib.Core.Path.{_≡_};
 ghost use Prim.Native.Nat.{_≤_};
 ghost use lib.ListN.{length};
 ghost use Rattle.words.specs.Bytes.{wordsOf, numbersOf};
-ghost use Rattle.verdicts.specs.Answer.{wordsNeeded};
-ghost use Rattle.verdicts.specs.Judged.{answered, judged};
-ghost use Rattle.engine.specs.Lines.{found, Accepting};
+ghost use Rattle.engine.specs.Lines.{Accepting};
+ghost use Rattle.engine.specs.Lent.{neededIn, answeredIn, judgedIn};
 ghost use Rattle.engine.specs.Result.{resultSaid};
 
 mod answer;
@@ -41,25 +40,25 @@ fn refusal(number: u64, place: usize) -> Result
 
 // Answers an accepted sheet, where the answer has room.
 fn answer_sheet(sheet: &[u8], layout: Layout, distances: &[u8], answer: &mut [u8]) -> Result
-    requires { ⌜ Accepting (wordsOf (now sheet)) layout (numbersOf (wordsOf (now distances))) × (wordsNeeded (found (wordsOf (now sheet)) (length (numbersOf (wordsOf (now distances)))) .sizes .places) (found (wordsOf (now sheet)) (length (numbersOf (wordsOf (now distances)))) .lines) ≤ length (wordsOf (now answer))) ⌝ }
-    ensures told { λ r. ⌜ resultSaid r ≡ answered (wordsOf (now (sheet .entry))) (length (numbersOf (wordsOf (now (distances .entry))))) (length (wordsOf (now (answer .entry)))) (found (wordsOf (now (sheet .entry))) (length (numbersOf (wordsOf (now (distances .entry)))))) .result ⌝ }
-    ensures said { λ _. ⌜ wordsOf (now (answer .exit)) ≡ answered (wordsOf (now (sheet .entry))) (length (numbersOf (wordsOf (now (distances .entry))))) (length (wordsOf (now (answer .entry)))) (found (wordsOf (now (sheet .entry))) (length (numbersOf (wordsOf (now (distances .entry)))))) .answer ⌝ }
+    requires { ⌜ Accepting (wordsOf (now sheet)) layout (numbersOf (wordsOf (now distances))) × (neededIn (now sheet) (now distances) ≤ length (wordsOf (now answer))) ⌝ }
+    ensures told { λ r. ⌜ resultSaid r ≡ answeredIn (now (sheet .entry)) (now (distances .entry)) (now (answer .entry)) .result ⌝ }
+    ensures said { λ _. ⌜ wordsOf (now (answer .exit)) ≡ answeredIn (now (sheet .entry)) (now (distances .entry)) (now (answer .entry)) .answer ⌝ }
 {
     let written = write_answer(sheet, layout, distances, answer);
     Result {
         number: 0,
         place: 0,
         words: written.end as u64 + 1,
-        rounds: written.rounds,
-        yes: written.yes,
+        rounds: written.tally.rounds,
+        yes: written.tally.yes,
     }
 }
 
 // Judges a sheet: leaves its distances and its whole answer in what is lent, zeros beyond; zeros alone where it refuses.
 pub fn judge(sheet: &[u8], distances: &mut [u8], answer: &mut [u8]) -> Result
-    ensures told { λ r. ⌜ resultSaid r ≡ judged (wordsOf (now (sheet .entry))) (length (numbersOf (wordsOf (now (distances .entry))))) (length (wordsOf (now (answer .entry)))) .result ⌝ }
-    ensures said { λ _. ⌜ wordsOf (now (answer .exit)) ≡ judged (wordsOf (now (sheet .entry))) (length (numbersOf (wordsOf (now (distances .entry))))) (length (wordsOf (now (answer .entry)))) .answer ⌝ }
-    ensures measured { λ _. ⌜ numbersOf (wordsOf (now (distances .exit))) ≡ judged (wordsOf (now (sheet .entry))) (length (numbersOf (wordsOf (now (distances .entry))))) (length (wordsOf (now (answer .entry)))) .distances ⌝ }
+    ensures told { λ r. ⌜ resultSaid r ≡ judgedIn (now (sheet .entry)) (now (distances .entry)) (now (answer .entry)) .result ⌝ }
+    ensures said { λ _. ⌜ wordsOf (now (answer .exit)) ≡ judgedIn (now (sheet .entry)) (now (distances .entry)) (now (answer .entry)) .answer ⌝ }
+    ensures measured { λ _. ⌜ numbersOf (wordsOf (now (distances .exit))) ≡ judgedIn (now (sheet .entry)) (now (distances .entry)) (now (answer .entry)) .distances ⌝ }
 {
     match survey(sheet, distances) {
         Check::Refused(fault, place) => {

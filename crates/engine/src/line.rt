@@ -4,8 +4,8 @@ use sheet::line::Line;
 use sheet::operator::Bounds;
 use sheet::operator::Operator;
 use verdicts::row::write_rows;
-use verdicts::surround_line::Tally;
 use verdicts::surround_line::write_surround;
+use verdicts::tally::Tally;
 ghost use mathlib.Core.Path.{_≡_};
 ghost use Prim.Native.Nat.{_+_, _*_, _≤_};
 ghost use lib.ListN.{length};
@@ -65,7 +65,7 @@ pub(crate) fn write_line(
     to: usize,
 ) -> Tally
     requires { ⌜ LineReady (wordsOf (now sheet)) layout (numbersOf (wordsOf (now distances))) (wordsUpTo (wordsOf (now answer)) to (lineSaid line)) (now starts) (lineSaid line) × (to + (1 + line .length * layout .places) ≤ length (wordsOf (now answer))) ⌝ }
-    ensures { λ r. ⌜ LineWritten (wordsOf (now (sheet .entry))) layout (wordsOf (now (answer .entry))) (now (starts .entry)) to (lineSaid line) (wordsOf (now (answer .exit))) (r .rounds) (r .yes) ⌝ }
+    ensures { λ r. ⌜ LineWritten (wordsOf (now (sheet .entry))) layout (wordsOf (now (answer .entry))) (now (starts .entry)) to (lineSaid line) (wordsOf (now (answer .exit))) r ⌝ }
 {
     let operator = line.operator;
     words::put_word(answer, to, LINE + line.length);

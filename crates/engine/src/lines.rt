@@ -4,24 +4,25 @@ use sheet::check::Layout;
 use sheet::limits::MOST_LINES;
 use sheet::line::Decoded;
 use sheet::line::decode_line;
+use verdicts::tally::Tally;
 ghost use mathlib.Core.Path.{_≡_};
-ghost use Prim.Native.Nat.{_≤_, max};
+ghost use Prim.Native.Nat.{_≤_};
 ghost use lib.ListN.{length};
 ghost use Rattle.words.specs.Bytes.{wordsOf, numbersOf};
-ghost use Rattle.verdicts.specs.Answer.{lineIndex, wordsNeeded};
-ghost use Rattle.engine.specs.Lines.{found, Accepting, LinesWritten};
+ghost use Rattle.verdicts.specs.Answer.{lineIndex};
+ghost use Rattle.engine.specs.Lines.{Accepting, LinesWritten};
+ghost use Rattle.engine.specs.Lent.{foundIn, neededIn};
 
 // The index after the last line, and what the lines add to the result.
 pub(crate) struct Written {
     pub end: usize,
-    pub rounds: u64,
-    pub yes: u64,
+    pub tally: Tally,
 }
 
 // A word more for each line than verdicts, the head and the end.
 pub(crate) fn words_needed(sheet: &[u8], layout: Layout, distances: &[u8]) -> usize
     requires { ⌜ Accepting (wordsOf (now sheet)) layout (numbersOf (wordsOf (now distances))) ⌝ }
-    ensures { λ r. ⌜ r ≡ wordsNeeded (layout .places) (found (wordsOf (now (sheet .entry))) (length (numbersOf (wordsOf (now (distances .entry))))) .lines) ⌝ }
+    ensures { λ r. ⌜ r ≡ neededIn (now (sheet .entry)) (now (distances .entry)) ⌝ }
 {
     let mut lengths = [0u32; MOST_LINES];
     let mut at = layout.table;
@@ -47,43 +48,27 @@ pub(crate) fn write_lines(
     distances: &[u8],
     answer: &mut [u8],
 ) -> Written
-    requires { ⌜ Accepting (wordsOf (now sheet)) layout (numbersOf (wordsOf (now distances))) × (lineIndex (layout .places) (found (wordsOf (now sheet)) (length (numbersOf (wordsOf (now distances)))) .lines) (layout .lines) ≤ length (wordsOf (now answer))) ⌝ }
-    ensures { λ r. ⌜ LinesWritten (wordsOf (now (sheet .entry))) (found (wordsOf (now (sheet .entry))) (length (numbersOf (wordsOf (now (distances .entry)))))) (wordsOf (now (answer .entry))) (wordsOf (now (answer .exit))) (r .end) (r .rounds) (r .yes) ⌝ }
+    requires { ⌜ Accepting (wordsOf (now sheet)) layout (numbersOf (wordsOf (now distances))) × (lineIndex (layout .places) (foundIn (now sheet) (now distances) .lines) (layout .lines) ≤ length (wordsOf (now answer))) ⌝ }
+    ensures { λ r. ⌜ LinesWritten (wordsOf (now (sheet .entry))) (foundIn (now (sheet .entry)) (now (distances .entry))) (wordsOf (now (answer .entry))) (wordsOf (now (answer .exit))) (r .end) (r .tally) ⌝ }
 {
     let mut lengths = [0u32; MOST_LINES];
     let mut starts = [0usize; MOST_LINES];
     let mut at = layout.table;
     let mut to: usize = 1;
-    let mut rounds: u64 = 0;
-    let mut yes: u64 = 0;
+    let mut tally = Tally::NONE;
     for k in 0..layout.lines {
         match decode_line(sheet, at, layout.signals, layout.samples, k, &lengths) {
             // the check has read every line already
-            Decoded::Refused(_, _) => return Written {
-                end: 0,
-                rounds,
-                yes,
-            },
+            Decoded::Refused(_, _) => return Written { end: 0, tally },
             Decoded::Line(line, next) => {
-                let tally = write_line(line, sheet, layout, distances, &starts, answer, to);
+                let here = write_line(line, sheet, layout, distances, &starts, answer, to);
                 lengths[k] = line.length;
                 starts[k] = to + 1;
                 to += 1 + line.length as usize * layout.places;
                 at = next;
-                rounds = greater_of(rounds, tally.rounds);
-                yes += tally.yes;
+                tally = tally.with(here);
             }
         }
     }
-    Written {
-        end: to,
-        rounds,
-        yes,
-    }
-}
-
-fn greater_of(a: u64, b: u64) -> u64
-    ensures { λ r. ⌜ r ≡ max a b ⌝ }
-{
-    if a < b { b } else { a }
+    Written { end: to, tally }
 }

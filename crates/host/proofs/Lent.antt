@@ -1,5 +1,4 @@
--- What the test of the lent lengths tells: where they are whole the host is left what the engine judges, in bytes, and each buffer's words pin
--- its bytes; where not, 16.
+-- What the test of the lent lengths tells: where they are whole the host is left what the engine judges, in bytes; where not, 16.
 use Prim.Native.Nat.{ℕ, _%_}
 use mathlib.Core.Path.{_≡_, refl}
 use mathlib.Core.Bool.{true, false}
@@ -7,15 +6,12 @@ use mathlib.Core.List.{List}
 use lib.ListN.{length}
 use lib.Dec.{eqb}
 use borrow.Author.Tests.{eqb-true}
-use Rattle.words.specs.Bytes.{wordsOf, numbersOf}
-use Rattle.words.proofs.Words.{length-words}
-use Rattle.words.proofs.Numbers.{length-numbers}
 use Rattle.sheet.proofs.Tests.{and-true}
-use Rattle.verdicts.specs.Judged.{judged}
-use Rattle.host.specs.Host.{lentWhole, inBytes, notWhole, hostJudged}
+use Rattle.engine.specs.Lent.{judgedIn}
+use Rattle.host.specs.Host.{resultSize, lentWhole, inBytes, notWhole, hostJudged}
 
 pub whole-lengths : (sheet distances answer result : ℕ) → lentWhole sheet distances answer result ≡ true
-    → (answer % 4 ≡ 0) × (distances % 8 ≡ 0) × (result ≡ 40)
+    → (answer % 4 ≡ 0) × (distances % 8 ≡ 0) × (result ≡ resultSize)
 unfolding lentWhole
 whole-lengths sheet distances answer result e =
     let sheets = and-true (eqb (sheet % 4) 0) _ e in
@@ -23,12 +19,11 @@ whole-lengths sheet distances answer result e =
     let others = and-true (eqb (distances % 8) 0) _ (answers .1) in
     (eqb-true _ _ (answers .0), eqb-true _ _ (others .0), eqb-true _ _ (others .1))
 
-pub judged-whole : (sheet distances answer : List ℕ) (result : ℕ) → lentWhole (length sheet) (length distances) (length answer) result ≡ true
-    → hostJudged sheet (length distances) (length answer) result ≡ inBytes (judged (wordsOf sheet) (length (numbersOf (wordsOf distances))) (length (wordsOf answer)))
-unfolding hostJudged
-judged-whole sheet distances answer result e = rw (e, length-numbers distances, length-words answer) refl
+module _ (sheet distances answer result : List ℕ) where
+  pub judged-whole : lentWhole (length sheet) (length distances) (length answer) (length result) ≡ true → hostJudged sheet distances answer result ≡ inBytes (judgedIn sheet distances answer)
+  unfolding hostJudged
+  judged-whole e = rw e refl
 
-pub refused-lengths : (sheet : List ℕ) (distances answer result : ℕ) → lentWhole (length sheet) distances answer result ≡ false
-    → hostJudged sheet distances answer result ≡ notWhole distances answer result
-unfolding hostJudged
-refused-lengths sheet distances answer result e = rw e refl
+  pub refused-lengths : lentWhole (length sheet) (length distances) (length answer) (length result) ≡ false → hostJudged sheet distances answer result ≡ notWhole distances answer result
+  unfolding hostJudged
+  refused-lengths e = rw e refl

@@ -1,5 +1,5 @@
 -- What a host written in C and the printing program are given: bytes, lowest first, and the refusal 16 before all else.
-use Prim.Native.Nat.{ℕ, _/_, _%_}
+use Prim.Native.Nat.{ℕ, _%_}
 use mathlib.Core.Bool.{Bool, cond, _&&_}
 use mathlib.Core.List.{List, [], _∷_}
 use lib.Dec.{leb, eqb}
@@ -7,13 +7,27 @@ use lib.ListN.{length, replicate}
 use Rattle.words.specs.Bytes.{wordsOf, bytesOf, halvesOf}
 use Rattle.verdicts.specs.Judged.{Result, Judged, refusal, judged}
 use Rattle.lookup.specs.Lookup.{lookedUp}
+use Rattle.engine.specs.Lent.{judgedIn}
 
 abbrev multiple : ℕ → ℕ → Bool
 multiple size bytes = eqb (bytes % size) 0
 
--- whole words in the sheet and in the answer, whole distances, and the result's 40 bytes
+-- the refusal of bytes that are not whole words, numbers or a result
+abbrev pub notWholeNumber : ℕ
+notWholeNumber = 16
+
+-- ---- the host
+
+-- the result's bytes: five numbers of eight
+abbrev pub resultSize : ℕ
+resultSize = 40
+
+abbrev pub resultBytes : Result → List ℕ
+resultBytes r = bytesOf (halvesOf (r .number ∷ r .place ∷ r .words ∷ r .rounds ∷ r .yes ∷ []))
+
+-- of the lengths: whole words in the sheet and in the answer, whole distances, and a result
 unfoldable pub lentWhole : ℕ → ℕ → ℕ → ℕ → Bool
-lentWhole sheet distances answer result = multiple 4 sheet && (multiple 4 answer && (multiple 8 distances && eqb result 40))
+lentWhole sheet distances answer result = multiple 4 sheet && (multiple 4 answer && (multiple 8 distances && eqb result resultSize))
 
 -- what `judge` returns and every byte that it leaves
 pub record HostJudged : Type 0 where
@@ -22,17 +36,16 @@ pub record HostJudged : Type 0 where
   pub distances : List ℕ
   pub result : List ℕ
 
--- the result's five numbers
-abbrev pub resultBytes : Result → List ℕ
-resultBytes r = bytesOf (halvesOf (r .number ∷ r .place ∷ r .words ∷ r .rounds ∷ r .yes ∷ []))
+abbrev zeros : List ℕ → List ℕ
+zeros lent = replicate (length lent) 0
 
--- the refusal 16: zeros, but for the number in a result of 40 bytes
-abbrev pub notWhole : ℕ → ℕ → ℕ → HostJudged
+-- lengths that are not whole leave zeros, but for the number in a result of the right size
+abbrev pub notWhole : List ℕ → List ℕ → List ℕ → HostJudged
 notWhole distances answer result = record {
-  number = 16;
-  answer = replicate answer 0;
-  distances = replicate distances 0;
-  result = cond (eqb result 40) (resultBytes (record { number = 16; place = 0; words = 0; rounds = 0; yes = 0 })) (replicate result 0);
+  number = notWholeNumber;
+  answer = zeros answer;
+  distances = zeros distances;
+  result = cond (eqb (length result) resultSize) (resultBytes (record { number = notWholeNumber; place = 0; words = 0; rounds = 0; yes = 0 })) (zeros result);
 }
 
 -- what the engine leaves
@@ -44,18 +57,28 @@ inBytes j = record {
   result = resultBytes (j .result);
 }
 
--- the sheet's bytes, and how many bytes of distances, answer and result are lent
-unfoldable pub hostJudged : List ℕ → ℕ → ℕ → ℕ → HostJudged
+-- by the bytes that are lent: of distances, answer and result only how many there are counts
+unfoldable pub hostJudged : List ℕ → List ℕ → List ℕ → List ℕ → HostJudged
 hostJudged sheet distances answer result =
-    cond (lentWhole (length sheet) distances answer result) (inBytes (judged (wordsOf sheet) (distances / 8) (answer / 4))) (notWhole distances answer result)
+    cond (lentWhole (length sheet) (length distances) (length answer) (length result)) (inBytes (judgedIn sheet distances answer)) (notWhole distances answer result)
 
 unfoldable pub hostLookedUp : List ℕ → ℕ → ℕ → ℕ → ℕ
 hostLookedUp answer line sample place = cond (multiple 4 (length answer)) (lookedUp (wordsOf answer) line sample place) 0
 
--- the printing program takes whole words, up to 32,768 bytes of them
-unfoldable pub inputTaken : ℕ → Bool
-inputTaken bytes = multiple 4 bytes && leb bytes 32768
+-- ---- the printing program
 
--- it lends 4,096 distances and 16,384 answer words
+-- the most bytes that it takes, and the distances and answer words that it lends
+abbrev pub mostInput : ℕ
+mostInput = 32768
+
+abbrev pub programDistances : ℕ
+programDistances = 4096
+
+abbrev pub programWords : ℕ
+programWords = 16384
+
+unfoldable pub inputTaken : ℕ → Bool
+inputTaken bytes = multiple 4 bytes && leb bytes mostInput
+
 unfoldable pub programJudged : List ℕ → Judged
-programJudged input = cond (inputTaken (length input)) (judged (wordsOf input) 4096 16384) (refusal 4096 16384 16 0)
+programJudged input = cond (inputTaken (length input)) (judged (wordsOf input) programDistances programWords) (refusal programDistances programWords notWholeNumber 0)

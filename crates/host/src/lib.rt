@@ -10,12 +10,13 @@ ghost use Prim.Native.Nat.{_*_};
 ghost use lib.ListN.{length};
 ghost use Rattle.words.specs.Bytes.{bytesOf, halvesOf};
 ghost use Rattle.engine.specs.Result.{resultSaid};
-ghost use Rattle.host.specs.Host.{lentWhole, resultBytes, notWhole, hostJudged, hostLookedUp};
+ghost use Rattle.host.specs.Host.{resultSize, resultBytes, lentWhole, notWhole, hostJudged, hostLookedUp};
 
 // Five numbers of eight bytes.
 const RESULT_BYTES: usize = 40;
 
-const NOT_WHOLE: u64 = 16;
+// Told of lengths that are not whole.
+pub const NOT_WHOLE: u64 = 16;
 
 // Whether these lengths have whole words, whole distances and a result.
 fn lent_whole(sheet: usize, distances: usize, answer: usize, result: usize) -> bool
@@ -44,19 +45,19 @@ fn put_numbers(s: &mut [u8], numbers: &[u64])
 }
 
 fn put_result(result: &mut [u8], told: Result)
-    requires { ⌜ length (now result) ≡ 40 ⌝ }
+    requires { ⌜ length (now result) ≡ resultSize ⌝ }
     ensures { λ _. ⌜ now (result .exit) ≡ resultBytes (resultSaid told) ⌝ }
 {
     let numbers = [told.number, told.place, told.words, told.rounds, told.yes];
     put_numbers(result, &numbers);
 }
 
-// Refuses lengths that are not whole: zeros in all that is lent, but for the number in a result of 40 bytes.
+// Refuses lengths that are not whole: zeros in all that is lent, but for the number in a result of the right size.
 fn refuse(distances: &mut [u8], answer: &mut [u8], result: &mut [u8]) -> u64
-    ensures told { λ r. ⌜ r ≡ notWhole (length (now (distances .entry))) (length (now (answer .entry))) (length (now (result .entry))) .number ⌝ }
-    ensures said { λ _. ⌜ now (answer .exit) ≡ notWhole (length (now (distances .entry))) (length (now (answer .entry))) (length (now (result .entry))) .answer ⌝ }
-    ensures measured { λ _. ⌜ now (distances .exit) ≡ notWhole (length (now (distances .entry))) (length (now (answer .entry))) (length (now (result .entry))) .distances ⌝ }
-    ensures held { λ _. ⌜ now (result .exit) ≡ notWhole (length (now (distances .entry))) (length (now (answer .entry))) (length (now (result .entry))) .result ⌝ }
+    ensures told { λ r. ⌜ r ≡ notWhole (now (distances .entry)) (now (answer .entry)) (now (result .entry)) .number ⌝ }
+    ensures said { λ _. ⌜ now (answer .exit) ≡ notWhole (now (distances .entry)) (now (answer .entry)) (now (result .entry)) .answer ⌝ }
+    ensures measured { λ _. ⌜ now (distances .exit) ≡ notWhole (now (distances .entry)) (now (answer .entry)) (now (result .entry)) .distances ⌝ }
+    ensures held { λ _. ⌜ now (result .exit) ≡ notWhole (now (distances .entry)) (now (answer .entry)) (now (result .entry)) .result ⌝ }
 {
     words::fill_zero(distances);
     words::fill_zero(answer);
@@ -85,10 +86,10 @@ pub extern "C" fn judge(
     answer: &mut [u8],
     result: &mut [u8],
 ) -> u64
-    ensures told { λ r. ⌜ r ≡ hostJudged (now (sheet .entry)) (length (now (distances .entry))) (length (now (answer .entry))) (length (now (result .entry))) .number ⌝ }
-    ensures said { λ _. ⌜ now (answer .exit) ≡ hostJudged (now (sheet .entry)) (length (now (distances .entry))) (length (now (answer .entry))) (length (now (result .entry))) .answer ⌝ }
-    ensures measured { λ _. ⌜ now (distances .exit) ≡ hostJudged (now (sheet .entry)) (length (now (distances .entry))) (length (now (answer .entry))) (length (now (result .entry))) .distances ⌝ }
-    ensures held { λ _. ⌜ now (result .exit) ≡ hostJudged (now (sheet .entry)) (length (now (distances .entry))) (length (now (answer .entry))) (length (now (result .entry))) .result ⌝ }
+    ensures told { λ r. ⌜ r ≡ hostJudged (now (sheet .entry)) (now (distances .entry)) (now (answer .entry)) (now (result .entry)) .number ⌝ }
+    ensures said { λ _. ⌜ now (answer .exit) ≡ hostJudged (now (sheet .entry)) (now (distances .entry)) (now (answer .entry)) (now (result .entry)) .answer ⌝ }
+    ensures measured { λ _. ⌜ now (distances .exit) ≡ hostJudged (now (sheet .entry)) (now (distances .entry)) (now (answer .entry)) (now (result .entry)) .distances ⌝ }
+    ensures held { λ _. ⌜ now (result .exit) ≡ hostJudged (now (sheet .entry)) (now (distances .entry)) (now (answer .entry)) (now (result .entry)) .result ⌝ }
 {
     if !lent_whole(sheet.len(), distances.len(), answer.len(), result.len()) {
         return refuse(distances, answer, result);

@@ -9,6 +9,7 @@
 // where it is refused:
 //     refused NUMBER PLACE
 use engine::Result;
+use host::NOT_WHOLE;
 use libc::STDIN_FILENO;
 use libc::STDOUT_FILENO;
 ghost use mathlib.Core.Path.{_≡_};
@@ -16,9 +17,14 @@ ghost use Prim.Native.Nat.{_+_, _*_, _^_, _≤_};
 ghost use lib.ListN.{length};
 ghost use Rattle.words.specs.Bytes.{wordsOf, numbersOf};
 ghost use Rattle.engine.specs.Result.{resultSaid};
-ghost use Rattle.host.specs.Host.{inputTaken, programJudged};
+ghost use Rattle.host.specs.Host.{programDistances, programWords, inputTaken, programJudged};
 
-const MOST_BYTES: usize = 32768;
+// What is taken, and what is lent: 4,096 distances and 16,384 answer words.
+const INPUT_BYTES: usize = 32768;
+
+const DISTANCES_BYTES: usize = 32768;
+
+const ANSWER_BYTES: usize = 65536;
 
 fn print_number(x: u64) {
     io::write_all(STDOUT_FILENO, b" ");
@@ -120,12 +126,12 @@ fn input_taken(bytes: usize) -> bool
     if bytes % 4 != 0 {
         return false;
     }
-    bytes <= MOST_BYTES
+    bytes <= INPUT_BYTES
 }
 
 // Judges the input, where it is taken.
 fn judge_input(input: &[u8], distances: &mut [u8], answer: &mut [u8]) -> Result
-    requires { ⌜ (length (now distances) ≡ 32768) × (length (now answer) ≡ 65536) ⌝ }
+    requires { ⌜ (length (now distances) ≡ programDistances * 8) × (length (now answer) ≡ programWords * 4) ⌝ }
     ensures told { λ r. ⌜ resultSaid r ≡ programJudged (now (input .entry)) .result ⌝ }
     ensures said { λ _. ⌜ wordsOf (now (answer .exit)) ≡ programJudged (now (input .entry)) .answer ⌝ }
     ensures measured { λ _. ⌜ numbersOf (wordsOf (now (distances .exit))) ≡ programJudged (now (input .entry)) .distances ⌝ }
@@ -134,7 +140,7 @@ fn judge_input(input: &[u8], distances: &mut [u8], answer: &mut [u8]) -> Result
         words::fill_zero(distances);
         words::fill_zero(answer);
         return Result {
-            number: 16,
+            number: NOT_WHOLE,
             place: 0,
             words: 0,
             rounds: 0,
@@ -144,10 +150,9 @@ fn judge_input(input: &[u8], distances: &mut [u8], answer: &mut [u8]) -> Result
     engine::judge(input, distances, answer)
 }
 
-// 4,096 distances and 16,384 answer words are lent.
 fn print_judged(input: &[u8]) {
-    let mut distances = [0u8; 32768];
-    let mut answer = [0u8; 65536];
+    let mut distances = [0u8; DISTANCES_BYTES];
+    let mut answer = [0u8; ANSWER_BYTES];
     let result = judge_input(input, &mut distances, &mut answer);
     if result.number == 0 {
         print_accepted(result);

@@ -15,6 +15,8 @@ use Rattle.values.proofs.Machine.{byte-count}
 use Rattle.surround.specs.Lanes.{lanes, laneOf, surroundValue, surroundRounds, blockRounds}
 use Rattle.surround.specs.Blocks.{BlockReady, BlockDone}
 use Rattle.surround.proofs.Greatest.{most-le, le-most}
+use Rattle.verdicts.specs.declared.tally.Tally.{Tally}
+use Rattle.verdicts.specs.Tally.{together}
 use Rattle.verdicts.specs.SurroundLine.{LanesBounded, SurroundReady, SamplesWritten}
 use Rattle.verdicts.proofs.LineRows.{sum-bound, sum-same}
 use Rattle.verdicts.proofs.Points.{surround-bound}
@@ -37,14 +39,14 @@ most-parts f a zero = rw (add-zero a) (omega arith)
 most-parts f a (suc b) = rw (add-suc a b) (omega (arith, most-parts f a b))
 
 module _ (value roundsAt : ℕ → ℕ → ℕ) (n : ℕ) (answer : List ℕ) (begin : ℕ) where
-  pub no-samples : SamplesWritten value roundsAt n answer begin 0 answer 0 0
+  pub no-samples : SamplesWritten value roundsAt n answer begin 0 answer (record { rounds = 0; yes = 0 })
   unfolding concat sumBelow mostBelow
   no-samples = record { written = sym (put-nil answer begin); counted = refl; greatest = refl }
 
-  pub more-samples : (a b : ℕ) (middle after : List ℕ) (r s y z : ℕ) → begin ≤ length answer → SamplesWritten value roundsAt n answer begin a middle r y
-      → SamplesWritten (λ t. value (a + t)) (λ t. roundsAt (a + t)) n middle (begin + a * n) b after s z
-      → SamplesWritten value roundsAt n answer begin (a + b) after (max r s) (y + z)
-  more-samples a b middle after r s y z h front back = record {
+  pub more-samples : (a b : ℕ) (middle after : List ℕ) (first more : Tally) → begin ≤ length answer → SamplesWritten value roundsAt n answer begin a middle first
+      → SamplesWritten (λ t. value (a + t)) (λ t. roundsAt (a + t)) n middle (begin + a * n) b after more
+      → SamplesWritten value roundsAt n answer begin (a + b) after (together first more)
+  more-samples a b middle after first more h front back = record {
     written = back .written ∙ ap (λ w. put w (begin + a * n) (rows (λ t. words (a + t)) b n)) (front .written) ∙ put-after;
     counted = ap₂ _+_ (front .counted) (back .counted) ∙ sym (sum-parts _ a b);
     greatest = ap₂ max (front .greatest) (back .greatest) ∙ sym (most-parts _ a b);
@@ -60,8 +62,8 @@ module _ (value roundsAt : ℕ → ℕ → ℕ) (n : ℕ) (answer : List ℕ) (b
 pub yes-bound : (value : ℕ → ℕ → ℕ) (n samples : ℕ) → sumBelow (λ t. sumBelow (λ l. count (chainVerdict (value t l))) n) samples ≤ samples * n
 yes-bound value n samples = sum-bound _ n (λ t. omega (arith, sum-bound _ 1 (λ l. byte-count (chainVerdict (value t l)) .1) n)) samples
 
-pub few-yes : {value roundsAt : ℕ → ℕ → ℕ} {n : ℕ} {answer : List ℕ} {begin samples : ℕ} {after : List ℕ} {r y : ℕ}
-    → SamplesWritten value roundsAt n answer begin samples after r y → y ≤ samples * n
+pub few-yes : {value roundsAt : ℕ → ℕ → ℕ} {n : ℕ} {answer : List ℕ} {begin samples : ℕ} {after : List ℕ} {tally : Tally}
+    → SamplesWritten value roundsAt n answer begin samples after tally → tally .yes ≤ samples * n
 few-yes {value} w = rw (w .counted) (yes-bound value _ _)
 
 -- ---- a block
@@ -116,7 +118,7 @@ module _ {words : List ℕ} {left right n : ℕ} {sheet : List ℕ} {roads : ℕ
   pub block-written : (answer : List ℕ) (to : ℕ) (after : List ℕ) (y : ℕ) → BlockDone words left right n sheet roads distances first size lower upper out r
       → after ≡ put answer to (rows (λ lane l. chainWord (laneOf out lane l)) size n) → y ≡ sumBelow (λ lane. sumBelow (λ l. count (chainVerdict (laneOf out lane l))) n) size
       → SamplesWritten (λ t. surroundValue words left right n sheet roads distances lower upper (first + t)) (λ t. surroundRounds words left right n sheet roads distances lower upper (first + t))
-      n answer to size after r y
+      n answer to size after (record { rounds = r; yes = y })
   unfolding blockRounds
   block-written answer to after y done w c = record {
     written = w ∙ ap (put answer to) (rows-ext _ _ size n (λ lane l a b. ap chainWord (done .values l lane b a)));

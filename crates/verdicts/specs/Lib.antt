@@ -3,4 +3,5 @@ pub mod Judged
 pub mod Steady
 pub mod Writing
 pub mod Sample
+pub mod Tally
 pub mod SurroundLine

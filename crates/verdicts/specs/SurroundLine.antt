@@ -11,6 +11,7 @@ use Rattle.values.specs.Chain.{highest, chainWord, chainVerdict, Valid}
 use Rattle.values.specs.Signals.{signalIn}
 use Rattle.surround.specs.Lanes.{lanes, laneOf, surroundValue, surroundRounds}
 use Rattle.surround.specs.Steps.{RoadsIn}
+use Rattle.verdicts.specs.declared.tally.Tally.{Tally}
 
 -- a row has room for the places, and its first lanes hold chain numbers
 pub record LanesBounded (row : List ℕ) (places samples : ℕ) : Type 0 where
@@ -32,10 +33,10 @@ pub record SurroundReady (words : List ℕ) (left right : ℕ) (L : Layout) (she
 
 -- samples of n places, by the chain number and the rounds of each point, are put into the answer from index `begin` on; the greatest rounds and
 -- the yes verdicts are told
-pub record SamplesWritten (value roundsAt : ℕ → ℕ → ℕ) (n : ℕ) (answer : List ℕ) (begin samples : ℕ) (after : List ℕ) (rounds yes : ℕ) : Type 0 where
+pub record SamplesWritten (value roundsAt : ℕ → ℕ → ℕ) (n : ℕ) (answer : List ℕ) (begin samples : ℕ) (after : List ℕ) (tally : Tally) : Type 0 where
   pub written : after ≡ put answer begin (rows (λ t l. chainWord (value t l)) samples n)
-  pub counted : yes ≡ sumBelow (λ t. sumBelow (λ l. count (chainVerdict (value t l))) n) samples
-  pub greatest : rounds ≡ mostBelow (λ t. mostBelow (roundsAt t) n) samples
+  pub counted : tally .yes ≡ sumBelow (λ t. sumBelow (λ l. count (chainVerdict (value t l))) n) samples
+  pub greatest : tally .rounds ≡ mostBelow (λ t. mostBelow (roundsAt t) n) samples
 
 module _ (answer words : List ℕ) (left right : ℕ) (L : Layout) (sheet distances : List ℕ) (lower upper begin : ℕ) where
   abbrev surroundAtPoint : ℕ → ℕ → ℕ
@@ -45,8 +46,8 @@ module _ (answer words : List ℕ) (left right : ℕ) (L : Layout) (sheet distan
   roundsAtPoint = surroundRounds words left right (L .places) sheet (L .roads) distances lower upper
 
   -- all samples of the line, and those from `first` on
-  abbrev pub SurroundWritten : ℕ → List ℕ → ℕ → ℕ → Type 0
+  abbrev pub SurroundWritten : ℕ → List ℕ → Tally → Type 0
   SurroundWritten = SamplesWritten surroundAtPoint roundsAtPoint (L .places) answer begin
 
-  abbrev pub BlockWritten : ℕ → ℕ → List ℕ → ℕ → ℕ → Type 0
+  abbrev pub BlockWritten : ℕ → ℕ → List ℕ → Tally → Type 0
   BlockWritten first = SamplesWritten (λ t. surroundAtPoint (first + t)) (λ t. roundsAtPoint (first + t)) (L .places) answer (begin + first * L .places)

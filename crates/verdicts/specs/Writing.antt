@@ -11,6 +11,7 @@ use Rattle.logic.specs.Counts.{roundsAt}
 use Rattle.logic.proofs.Small.{InBits}
 use Rattle.sheet.specs.declared.check.Layout.{Layout}
 use Rattle.sheet.specs.Checked.{wordAt}
+use Rattle.sheet.specs.Limits.{mostPlaces, mostSignals, mostSamples}
 use Rattle.sheet.specs.Roads.{networkOf, distanceNumber}
 use Rattle.values.specs.Chain.{chains, chainMargin}
 use Rattle.values.specs.Signals.{signalIn}
@@ -34,9 +35,9 @@ module _ (s : List ℕ) (L : Layout) where
 
 -- what the engine has checked: the sheet's samples are there, and the distances are those of its network
 pub record Surveyed (s : List ℕ) (L : Layout) (distances : List ℕ) : Type 0 where
-  pub places : (1 ≤ L .places) × (L .places ≤ 64)
-  pub signals : L .signals ≤ 16
-  pub samples : L .samples ≤ 1024
+  pub places : (1 ≤ L .places) × (L .places ≤ mostPlaces)
+  pub signals : L .signals ≤ mostSignals
+  pub samples : L .samples ≤ mostSamples
   pub recorded : L .recording + L .signals * L .places * L .samples ≤ length s
   pub room : L .places * L .places ≤ length distances
   pub measured : (a b : ℕ) → a < L .places → b < L .places → getD distances (a * L .places + b) 0 ≡ distanceNumber (distanceIn (sheetNetwork s L) a b)

@@ -3,3 +3,4 @@ mod evaluation;
 pub mod row;
 mod sample;
 pub mod surround_line;
+pub mod tally;

@@ -1,5 +1,6 @@
 // The verdicts of a surround line: the samples of a block are settled side by side about every centre, and then written sample by sample.
 use crate::sample::write_sample;
+use crate::tally::Tally;
 use sheet::check::Layout;
 use sheet::operator::Bounds;
 use surround::LANES;
@@ -14,12 +15,6 @@ ghost use Rattle.logic.specs.Counts.{count, sumBelow};
 ghost use Rattle.values.specs.Chain.{chainWord, chainVerdict};
 ghost use Rattle.surround.specs.Lanes.{lanes, laneOf};
 ghost use Rattle.verdicts.specs.SurroundLine.{LanesBounded, SurroundReady, BlockWritten, SurroundWritten};
-
-// What a surround line adds to the result.
-pub struct Tally {
-    pub rounds: u64,
-    pub yes: u64,
-}
 
 // Writes the samples of a block, one lane after the other.
 fn write_lanes(out: &[u32], places: usize, samples: usize, answer: &mut [u8], to: usize) -> u64
@@ -50,7 +45,7 @@ fn write_block(
     size: usize,
 ) -> Tally
     requires { ⌜ SurroundReady (take begin (wordsOf (now answer))) left right layout (wordsOf (now sheet)) (numbersOf (wordsOf (now distances))) (first + size) × (1 ≤ size) × (size ≤ lanes) × (begin + (first + size) * layout .places ≤ length (wordsOf (now answer))) ⌝ }
-    ensures { λ r. ⌜ BlockWritten (wordsOf (now (answer .entry))) (take begin (wordsOf (now (answer .entry)))) left right layout (wordsOf (now (sheet .entry))) (numbersOf (wordsOf (now (distances .entry)))) (bounds .lower) (bounds .upper) begin first size (wordsOf (now (answer .exit))) (r .rounds) (r .yes) ⌝ }
+    ensures { λ r. ⌜ BlockWritten (wordsOf (now (answer .entry))) (take begin (wordsOf (now (answer .entry)))) left right layout (wordsOf (now (sheet .entry))) (numbersOf (wordsOf (now (distances .entry)))) (bounds .lower) (bounds .upper) begin first size (wordsOf (now (answer .exit))) r ⌝ }
 {
     let end = begin * 4;
     let mut out: [u32; ROW] = [0; ROW];
@@ -93,10 +88,9 @@ pub fn write_surround(
     samples: usize,
 ) -> Tally
     requires { ⌜ SurroundReady (take begin (wordsOf (now answer))) left right layout (wordsOf (now sheet)) (numbersOf (wordsOf (now distances))) samples × (begin + samples * layout .places ≤ length (wordsOf (now answer))) ⌝ }
-    ensures { λ r. ⌜ SurroundWritten (wordsOf (now (answer .entry))) (take begin (wordsOf (now (answer .entry)))) left right layout (wordsOf (now (sheet .entry))) (numbersOf (wordsOf (now (distances .entry)))) (bounds .lower) (bounds .upper) begin samples (wordsOf (now (answer .exit))) (r .rounds) (r .yes) ⌝ }
+    ensures { λ r. ⌜ SurroundWritten (wordsOf (now (answer .entry))) (take begin (wordsOf (now (answer .entry)))) left right layout (wordsOf (now (sheet .entry))) (numbersOf (wordsOf (now (distances .entry)))) (bounds .lower) (bounds .upper) begin samples (wordsOf (now (answer .exit))) r ⌝ }
 {
-    let mut rounds: u64 = 0;
-    let mut yes: u64 = 0;
+    let mut tally = Tally::NONE;
     let mut first: usize = 0;
     while first < samples {
         let size = block_size(samples - first);
@@ -112,11 +106,8 @@ pub fn write_surround(
             first,
             size,
         );
-        yes += block.yes;
-        if rounds < block.rounds {
-            rounds = block.rounds;
-        }
+        tally = tally.with(block);
         first += size;
     }
-    Tally { rounds, yes }
+    tally
 }

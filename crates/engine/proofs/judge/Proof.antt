@@ -9,9 +9,9 @@ use Rattle.words.proofs.Numbers.{same-count}
 use Rattle.sheet.specs.Faults.{faultNumber}
 use Rattle.sheet.specs.Checking.{checkSaid}
 use Rattle.sheet.proofs.Surveys.{refusing, zero-numbers}
-use Rattle.verdicts.specs.Answer.{wordsNeeded}
 use Rattle.verdicts.specs.Judged.{Result, Judged, answered, judged}
-use Rattle.engine.specs.Lines.{found, Accepting}
+use Rattle.engine.specs.Lines.{Accepting}
+use Rattle.engine.specs.Lent.{neededIn}
 use Rattle.engine.specs.Result.{resultSaid}
 use Rattle.engine.proofs.Judging.{zero-words, accepting, judged-refused, judged-answered, judged-short}
 use Rattle.engine.proofs.judge.Statement.{statement}
@@ -29,16 +29,9 @@ accepts c =
     (same-count (g .distances .now) (survey .last .1 .0) (sym (survey .kept .1 .0)))
     (sym (survey .ensures .0) ∙ ap checkSaid (c .before .before .before .before .layout .given .1)) (survey .ensures .1)
 
-abbrev Needed : tie.After-words-needed-arg → ℕ
-Needed c =
-    let L = found (wordsOf (c .before .before .before .before .before .before .before .before .before .before .before .before .before .args .sheet .now)) (length (numbersOf (wordsOf (c .before .before .before .before .before .before .before .before .survey .last .1 .0)))) in
-    wordsNeeded (L .sizes .places) (L .lines)
-
 -- the words that its answer needs
-needed : (c : tie.After-words-needed) → c .words-needed .result ≡ Needed (c .before)
-needed c =
-    let L = found (wordsOf (c .before .before .before .before .before .before .before .before .before .before .before .before .before .before .args .sheet .now)) (length (numbersOf (wordsOf (c .before .before .before .before .before .before .before .before .before .survey .last .1 .0)))) in
-    c .words-needed .ensures ∙ ap (λ l. wordsNeeded (l .places) (L .lines)) (accepts (c .before) .laid)
+abbrev Needed : tie.After-words-needed-arg → ℕ
+Needed c = neededIn (c .before .before .before .before .before .before .before .before .before .before .before .before .before .args .sheet .now) (c .before .before .before .before .before .before .before .before .survey .last .1 .0)
 
 -- the survey leaves as many distances as were lent
 lent : (c : tie.After-words-needed-arg) → length (numbersOf (wordsOf (c .before .before .before .before .before .before .before .before .survey .last .1 .0))) ≡ length (numbersOf (wordsOf (c .before .before .before .before .before .before .before .before .before .before .before .before .before .args .distances .now)))
@@ -92,7 +85,7 @@ returns c =
     let s = wordsOf (g .sheet .now) in
     let answer = length (wordsOf (g .answer .now)) in
     let here = accepts (c .before .before .before .before .before .before .before .before .before .before .before .before) in
-    let short : answer < Needed (c .before .before .before .before .before .before .before .before .before .before .before .before) = omega (arith, needed (c .before .before .before .before .before .before .before .before .before .before .before), c .before .before .before .before .before .before .before .before .before .before .if1 .taken, c .before .before .before .before .before .before .before .before .before .before .before .before .before .word-count .ensures) in
+    let short : answer < Needed (c .before .before .before .before .before .before .before .before .before .before .before .before) = omega (arith, c .before .before .before .before .before .before .before .before .before .before .before .words-needed .ensures, c .before .before .before .before .before .before .before .before .before .before .if1 .taken, c .before .before .before .before .before .before .before .before .before .before .before .before .before .word-count .ensures) in
     let left = sym (judged-short s _ answer (here .accepts) short) ∙ ap (λ k. judged s k answer) (lent (c .before .before .before .before .before .before .before .before .before .before .before .before)) in (
       ap resultSaid (c .refusal2 .ensures) ∙ ap (told 15) (c .before .word-count2 .ensures) ∙ ap (λ (j : Judged). j .result) left,
       (
@@ -103,7 +96,7 @@ returns c =
 
 -- there is room for the answer
 enough : (c : tie.Else1) → Needed (c .before .before) ≤ length (wordsOf (c .before .before .before .before .before .before .before .before .before .before .before .before .before .before .before .args .answer .now))
-enough c = omega (arith, needed (c .before), c .if1 .left, c .before .before .before .word-count .ensures)
+enough c = omega (arith, c .before .words-needed .ensures, c .if1 .left, c .before .before .before .word-count .ensures)
 
 answer-sheet-requires : tie.Need-answer-sheet-requires
 answer-sheet-requires c κs = (accepts (c .before .before .before .before), enough (c .before .before))

@@ -43,7 +43,7 @@ returns c =
     let tested = call .before .before .before .before in
     let g = tested .before .before .before .before .before .before .args in
     let short = sym (tested .before .lent-whole .ensures) ∙ not-true _ (tested .if1 .taken) in
-    rw (refused-lengths (g .sheet .now) (length (g .distances .now)) (length (g .answer .now)) (length (g .result .now)) short) (call .refuse .ensures)
+    rw (refused-lengths (g .sheet .now) (g .distances .now) (g .answer .now) (g .result .now) short) (call .refuse .ensures)
 
 judge-requires : tie.Need-judge-requires
 judge-requires c κs = search needs
@@ -72,7 +72,7 @@ returns-2 c =
     let D = call .last .1 .0 in
     let words = words-bytes A (length A / 4) (λ i. answer .slice-known8 .given i .fits) (omega (arith, lengths .0, call .kept .1 .1 .0)) in
     let numbers = numbers-bytes D (length D / 8) (λ i. distances .slice-known7 .given i .fits) (omega (arith, lengths .1, call .kept .1 .0)) in
-    rw (judged-whole (g .sheet .now) (g .distances .now) (g .answer .now) (length (g .result .now)) (passed tested)) (
+    rw (judged-whole (g .sheet .now) (g .distances .now) (g .answer .now) (g .result .now) (passed tested)) (
       ap (λ (r : Result). r .number) (call .ensures .0),
       (
         sym words ∙ ap bytesOf (call .ensures .1 .0),

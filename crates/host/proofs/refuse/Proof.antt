@@ -1,4 +1,4 @@
--- Three buffers are cleared one after the other; the last of them, where it has 40 bytes, is then given the number.
+-- Three buffers are cleared one after the other; the last of them, where it has a result's size, is then given the number.
 use mathlib.Core.Path.{refl, sym, _∙_}
 use borrow.Author.Tests.{eq-eqb, ne-eqb}
 use borrow.Author.Needs.{needs}

@@ -9,12 +9,12 @@ use Rattle.words.specs.Bytes.{wordsOf, numbersOf}
 use Rattle.words.proofs.Words.{length-words, words-zeros}
 use Rattle.words.proofs.Numbers.{length-numbers}
 use Rattle.sheet.proofs.Surveys.{zero-numbers}
-use Rattle.host.specs.Host.{programJudged}
+use Rattle.host.specs.Host.{programDistances, programWords, programJudged}
 use borrow.Author.Needs.{needs}
 use Rattle.print_verdicts.proofs.judge_input.Statement.{statement}
 use Rattle.print_verdicts.proofs.judge_input.Tie as tie
 
-counts : (c : tie.Start) → (length (numbersOf (wordsOf (c .args .distances .now))) ≡ 4096) × (length (wordsOf (c .args .answer .now)) ≡ 16384)
+counts : (c : tie.Start) → (length (numbersOf (wordsOf (c .args .distances .now))) ≡ programDistances) × (length (wordsOf (c .args .answer .now)) ≡ programWords)
 counts c = omega (arith, length-numbers (c .args .distances .now), length-words (c .args .answer .now))
 
 abbrev zeros : ℕ → List ℕ

@@ -1,11 +1,11 @@
 -- The head, the lines and the end are put one after the other, and the part behind the end is lent to be cleared.
 use mathlib.Core.Path.{_≡_, sym, ap, ap₂, _∙_}
 use mathlib.Core.List.{List, [], _∷_, _++_}
-use Prim.Native.Nat.{ℕ, _+_, _-_, _*_, _^_, _<_, _≤_}
+use Prim.Native.Nat.{ℕ, _+_, _*_, _^_, _<_, _≤_}
 use native.Mathlib.Omega.{arith}
 use lib.ListN.{length, set, take, replicate, length-append, length-drop}
 use borrow.Author.Needs.{needs}
-use Rattle.words.specs.Bytes.{wordsOf, numbersOf}
+use Rattle.words.specs.Bytes.{wordsOf}
 use Rattle.words.specs.Word.{wordOf}
 use Rattle.words.specs.Rows.{concat, put}
 use Rattle.words.proofs.Parts.{tail-list, tail-back}
@@ -13,14 +13,14 @@ use Rattle.words.proofs.Words.{words-count}
 use Rattle.sheet.specs.Layout.{Layout}
 use Rattle.sheet.specs.Roads.{network, recording}
 use Rattle.verdicts.specs.Answer.{lineIndex, wordsNeeded, lineWords, headWord, answerWords}
-use Rattle.engine.specs.Lines.{found}
+use Rattle.engine.specs.Lent.{foundIn}
 use Rattle.engine.proofs.Sizes.{lines-end, limits, end-bound}
 use Rattle.engine.proofs.WholeWriting.{three-parts, zeros-behind}
 use Rattle.engine.proofs.answer.write_answer.Statement.{statement}
 use Rattle.engine.proofs.answer.write_answer.Tie as tie
 
 abbrev Found : tie.Start → Layout
-Found c = found (wordsOf (c .args .sheet .now)) (length (numbersOf (wordsOf (c .args .distances .now))))
+Found c = foundIn (c .args .sheet .now) (c .args .distances .now)
 
 abbrev End : tie.Start → ℕ
 End c = lineIndex (Found c .sizes .places) (Found c .lines) (length (Found c .lines))

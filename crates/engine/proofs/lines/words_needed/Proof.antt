@@ -1,13 +1,14 @@
 -- Each turn passes one line and adds its words.
-use mathlib.Core.Path.{_≡_, refl, sym, ap, _∙_}
+use mathlib.Core.Path.{_≡_, refl, sym, ap₂, _∙_}
 use mathlib.Core.List.{List}
-use Prim.Native.Nat.{_+_, _-_, _<_}
+use Prim.Native.Nat.{ℕ, _+_, _-_, _<_}
 use native.Mathlib.Omega.{arith}
 use lib.ListN.{length}
 use borrow.Author.Needs.{needs}
 use Rattle.words.specs.Bytes.{wordsOf, numbersOf}
 use Rattle.logic.specs.Table.{Line}
 use Rattle.logic.specs.Counts.{sumBelow}
+use Rattle.sheet.specs.declared.check.Layout.{Layout}
 use Rattle.sheet.specs.Limits.{mostLines}
 use Rattle.sheet.proofs.Walk.{Walk, walk-step}
 use Rattle.verdicts.specs.Answer.{lineIndex, wordsNeeded}
@@ -105,7 +106,7 @@ unfolding wordsNeeded
 returns-2 c =
     let start = c .before .before .before .before in
     let all : c .before .loop .k ≡ length (lines start) = omega (arith, c .loop-test .left, c .before .loop .inv .0 .passed, within start .counted) in
-    c .before .loop .inv .1 ∙ ap (λ k. 1 + lineIndex (start .args .layout .places) (lines start) k) all
+    c .before .loop .inv .1 ∙ ap₂ (λ (l : Layout) (k : ℕ). 1 + lineIndex (l .places) (lines start) k) (start .pre .laid) all
 
 pub words-needed-spec : {M : Type 1} → statement M
 words-needed-spec =

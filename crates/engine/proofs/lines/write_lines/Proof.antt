@@ -1,5 +1,5 @@
 -- Each turn passes one line and writes it behind those before.
-use mathlib.Core.Path.{_≡_, refl, sym}
+use mathlib.Core.Path.{_≡_, refl, sym, _∙_}
 use mathlib.Core.List.{List}
 use Prim.Native.Nat.{_+_, _*_, _-_, _<_}
 use native.Mathlib.Omega.{arith}
@@ -9,19 +9,20 @@ use Rattle.words.specs.Bytes.{wordsOf, numbersOf}
 use Rattle.logic.specs.Table.{Line}
 use Rattle.sheet.specs.Limits.{mostLines}
 use Rattle.sheet.proofs.Walk.{Walk, walk-step}
+use Rattle.verdicts.specs.Tally.{together}
 use Rattle.engine.proofs.AcceptedTable.{linesOf, Table, accepted-table, Passed, never-refused, line-passed, Ends, line-ends}
 use Rattle.engine.proofs.LinesDone.{LinesDone, none-done, all-done, yes-few, line-fits, line-ready, line-done}
 use Rattle.engine.proofs.lines.write_lines.Statement.{statement}
 use Rattle.engine.proofs.lines.write_lines.Tie as tie
 
 abbrev Inv-loop : tie.InvT-loop
-Inv-loop sheet layout distances answer₀ lengths₀ starts₀ at₀ to₀ rounds₀ yes₀ k₀ k-end answer lengths starts at to rounds sum k =
+Inv-loop sheet layout distances answer₀ lengths₀ starts₀ at₀ to₀ tally₀ k₀ k-end answer lengths starts at to tally k =
     Walk (wordsOf sheet) (layout .signals) (layout .samples) (linesOf sheet distances) k at lengths
     × (length answer ≡ length answer₀)
-    × LinesDone (wordsOf sheet) layout (linesOf sheet distances) (wordsOf answer₀) k (wordsOf answer) starts to rounds sum
+    × LinesDone (wordsOf sheet) layout (linesOf sheet distances) (wordsOf answer₀) k (wordsOf answer) starts to tally
 
 abbrev μ-loop : tie.MeasureT-loop
-μ-loop sheet layout distances answer₀ lengths₀ starts₀ at₀ to₀ rounds₀ yes₀ k₀ k-end answer lengths starts at to rounds sum k = layout .lines - k
+μ-loop sheet layout distances answer₀ lengths₀ starts₀ at₀ to₀ tally₀ k₀ k-end answer lengths starts at to tally k = layout .lines - k
 
 -- the lines that the check has found, and what is known of them
 abbrev lines : tie.Start Inv-loop μ-loop → List Line
@@ -86,8 +87,8 @@ write-line-requires c κs =
     let turn = c .before .before .before .before .before .before .before in
     let start = turn .before .before .before .before .before in
     let said = passed (c .before .before) .said in (
-      line-ready _ _ _ _ (within start) _ (start .pre .1) _ (more turn) _ _ _ _ _ (turn .before .loop .inv .2) _ said,
-      line-fits _ _ _ _ (within start) _ (start .pre .1) _ (more turn) _ _ _ _ _ (turn .before .loop .inv .2) _ said,
+      line-ready _ _ _ _ (within start) _ (start .pre .1) _ (more turn) _ _ _ _ (turn .before .loop .inv .2) _ said,
+      line-fits _ _ _ _ (within start) _ (start .pre .1) _ (more turn) _ _ _ _ (turn .before .loop .inv .2) _ said,
     )
 
 mul-lengths : tie.Need-mul-lengths Inv-loop μ-loop
@@ -117,24 +118,23 @@ add-to c = omega (arith, ends (c .before .before .before .before .before .before
 add-to-2 : tie.Need-add-to-2 Inv-loop μ-loop
 add-to-2 c = omega (arith, ends (c .before .before .before .before .before .before .before), c .before .before .before .before .before .before .before .before .before .before .before .before .before .loop .inv .2 .ends)
 
-greater-of-requires : tie.Need-greater-of-requires Inv-loop μ-loop
-greater-of-requires c κs = search needs
-
 -- the line is written behind those before
-done : (c : tie.After-struct-known3 Inv-loop μ-loop)
-    → LinesDone (wordsOf (c .before .before .before .before .before .before .before .before .before .before .before .before .before .before .before .before .before .before .before .args .sheet .now)) (c .before .before .before .before .before .before .before .before .before .before .before .before .before .before .before .before .before .before .before .args .layout) (lines (c .before .before .before .before .before .before .before .before .before .before .before .before .before .before .before .before .before .before .before)) (wordsOf (c .before .before .before .before .before .before .before .before .before .before .before .before .before .before .before .before .before .before .before .args .answer .now))
-    (c .before .before .before .before .before .before .before .before .before .before .before .before .before .before .before .loop .k + 1) (wordsOf (c .before .before .before .before .before .before .write-line .last .1 .1 .1 .1 .1 .0))
-    (set (c .before .before .before .before .before .before .before .before .before .before .before .before .before .before .before .loop .starts) (c .before .before .before .before .before .before .before .before .before .before .before .before .before .before .before .loop .k) (c .before .before .before .before .before .before .before .before .before .before .before .before .before .before .before .loop .to + 1))
-    (c .before .before .before .before .before .before .before .before .before .before .before .before .before .before .before .loop .to + (1 + c .before .before .before .before .before .before .before .before .before .before .line .given .0 .0 .length * c .before .before .before .before .before .before .before .before .before .before .before .before .before .before .before .before .before .before .before .args .layout .places))
-    (c .before .greater-of .result) (c .before .before .before .before .before .before .before .before .before .before .before .before .before .before .before .loop .yes + c .before .before .before .before .before .before .write-line .result .yes)
-done c =
-    let turn = c .before .before .before .before .before .before .before .before .before .before .before .before .before .before in
-    let start = turn .before .before .before .before .before in
-    line-done _ _ _ _ (within start) _ (start .pre .1) _ (more turn) _ _ _ _ _ (turn .before .loop .inv .2) _ (passed (c .before .before .before .before .before .before .before .before .before) .said)
-    _ _ _ _ (c .before .before .before .before .before .before .write-line .ensures) (c .before .greater-of .ensures)
+module _ (c : tie.After-write-line Inv-loop μ-loop) where
+  abbrev turn : tie.In-loop Inv-loop μ-loop
+  turn = c .before .before .before .before .before .before .before .before
 
-add-yes : tie.Need-add-yes Inv-loop μ-loop
-add-yes c = omega (arith, done c .counted, yes-few _ _ _ _ (within (c .before .before .before .before .before .before .before .before .before .before .before .before .before .before .before .before .before .before .before)) _ (few (c .before .before .before .before .before .before .before .before .before .before .before .before .before .before)))
+  abbrev start : tie.Start Inv-loop μ-loop
+  start = turn .before .before .before .before .before
+
+  done : LinesDone (wordsOf (start .args .sheet .now)) (start .args .layout) (lines start) (wordsOf (start .args .answer .now)) (turn .before .loop .k + 1)
+      (wordsOf (c .write-line .last .1 .1 .1 .1 .1 .0)) (set (turn .before .loop .starts) (turn .before .loop .k) (turn .before .loop .to + 1))
+      (turn .before .loop .to + (1 + c .before .before .before .before .line .given .0 .0 .length * start .args .layout .places)) (together (turn .before .loop .tally) (c .write-line .result))
+  done = line-done _ _ _ _ (within start) _ (start .pre .1) _ (more turn) _ _ _ _ (turn .before .loop .inv .2) _ (passed (c .before .before .before) .said) _ _ (c .write-line .ensures)
+
+with-requires : tie.Need-with-requires Inv-loop μ-loop
+with-requires c κs =
+    let line = c .before .before .before .before in
+    omega (arith, done line .counted, yes-few _ _ _ _ (within (start line)) _ (few (turn line)))
 
 add-k : tie.Need-add-k Inv-loop μ-loop
 add-k c = search needs
@@ -143,7 +143,9 @@ loop-less : tie.Need-loop-less Inv-loop μ-loop
 loop-less c = search needs
 
 loop-again : tie.Need-loop-again Inv-loop μ-loop
-loop-again c = (passed (c .before .before .before .before .before .before .before .before .before) .walk, search needs, done c)
+loop-again c =
+    let line = c .before .before .before .before .before in
+    (passed (line .before .before .before) .walk, line .write-line .kept .1 .1 .1 .1 .1 .0 ∙ turn line .before .loop .inv .1, rw (c .with .ensures) (done line))
 
 same-length-2 : tie.Need-same-length-2 Inv-loop μ-loop
 same-length-2 c = search needs
@@ -152,7 +154,7 @@ returns-2 : tie.Need-returns-2 Inv-loop μ-loop
 returns-2 c =
     let start = c .before .before .before .before .before in
     let all : c .before .loop .k ≡ length (lines start) = omega (arith, c .loop-test .left, c .before .loop .inv .0 .passed, within start .counted) in
-    all-done _ _ _ _ _ _ _ _ _ _ (start .pre .0) all (c .before .loop .inv .2)
+    all-done _ _ _ _ _ _ _ _ _ (start .pre .0) all (c .before .loop .inv .2)
 
 pub write-lines-spec : {M : Type 1} → statement M
 write-lines-spec =
@@ -178,8 +180,7 @@ write-lines-spec =
     mul-to
     add-to
     add-to-2
-    greater-of-requires
-    add-yes
+    with-requires
     add-k
     loop-less
     loop-again

@@ -77,7 +77,7 @@ slice-aggregate-write-lanes c = search needs
 write-lanes-requires : tie.Need-write-lanes-requires
 write-lanes-requires c κs =
     let start = c .before .before .before .before .before .before .before .before .before .before .before .before in
-    (lanes-bounded (ready start) (done (c .before .before .before .before)) (search needs), room start)
+    (lanes-bounded (ready start) (done (c .before .before .before .before)) (search needs), omega (arith, room start))
 
 same-length : tie.Need-same-length
 same-length c = search needs

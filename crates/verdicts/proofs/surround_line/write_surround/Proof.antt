@@ -1,8 +1,7 @@
 -- Each turn puts the samples of one block more after those before it. The words before the line, which the block reads, stay as they are.
 use mathlib.Core.Path.{_≡_, sym, ap, subst, _∙_}
 use mathlib.Core.List.{List}
-use mathlib.Core.Logic.{⊎-elim}
-use Prim.Native.Nat.{ℕ, _+_, _-_, _*_, _≤_, max}
+use Prim.Native.Nat.{ℕ, _+_, _-_, _*_, _≤_}
 use native.Mathlib.Nat.{mul-le-mul, mul-le-mul-right}
 use native.Mathlib.Omega.{arith}
 use lib.ListN.{length, take}
@@ -10,18 +9,20 @@ use borrow.Author.Needs.{needs}
 use Rattle.words.specs.Bytes.{wordsOf, numbersOf}
 use Rattle.words.proofs.Puts.{take-put}
 use Rattle.words.proofs.Words.{words-count}
+use Rattle.verdicts.specs.declared.tally.Tally.{Tally}
+use Rattle.verdicts.specs.Tally.{together}
 use Rattle.verdicts.specs.SurroundLine.{SurroundReady, BlockWritten, SurroundWritten}
 use Rattle.verdicts.proofs.Blocks.{no-samples, more-samples, few-yes, fewer-ready}
 use Rattle.verdicts.proofs.surround_line.write_surround.Statement.{statement}
 use Rattle.verdicts.proofs.surround_line.write_surround.Tie as tie
 
 abbrev Inv-loop : tie.InvT-loop
-Inv-loop left right bounds sheet layout distances answer₀ begin samples rounds₀ yes₀ first₀ answer rounds sum first =
+Inv-loop left right bounds sheet layout distances answer₀ begin samples tally₀ first₀ answer tally first =
     (first ≤ samples) × (length answer ≡ length answer₀)
-    × SurroundWritten (wordsOf answer₀) (take begin (wordsOf answer₀)) left right layout (wordsOf sheet) (numbersOf (wordsOf distances)) (bounds .lower) (bounds .upper) begin first (wordsOf answer) rounds sum
+    × SurroundWritten (wordsOf answer₀) (take begin (wordsOf answer₀)) left right layout (wordsOf sheet) (numbersOf (wordsOf distances)) (bounds .lower) (bounds .upper) begin first (wordsOf answer) tally
 
 abbrev μ-loop : tie.MeasureT-loop
-μ-loop left right bounds sheet layout distances answer₀ begin samples rounds₀ yes₀ first₀ answer rounds sum first = samples - first
+μ-loop left right bounds sheet layout distances answer₀ begin samples tally₀ first₀ answer tally first = samples - first
 
 abbrev Words : tie.Start Inv-loop μ-loop → List ℕ
 Words c = wordsOf (c .args .answer .now)
@@ -29,11 +30,11 @@ Words c = wordsOf (c .args .answer .now)
 abbrev Ready : tie.Start Inv-loop μ-loop → List ℕ → ℕ → Type 0
 Ready c words = SurroundReady words (c .args .left) (c .args .right) (c .args .layout) (wordsOf (c .args .sheet .now)) (numbersOf (wordsOf (c .args .distances .now)))
 
-abbrev Block : tie.Start Inv-loop μ-loop → List ℕ → List ℕ → ℕ → ℕ → List ℕ → ℕ → ℕ → Type 0
+abbrev Block : tie.Start Inv-loop μ-loop → List ℕ → List ℕ → ℕ → ℕ → List ℕ → Tally → Type 0
 Block c answer words = BlockWritten answer words (c .args .left) (c .args .right) (c .args .layout) (wordsOf (c .args .sheet .now)) (numbersOf (wordsOf (c .args .distances .now)))
     (c .args .bounds .lower) (c .args .bounds .upper) (c .args .begin)
 
-abbrev Line : tie.Start Inv-loop μ-loop → ℕ → List ℕ → ℕ → ℕ → Type 0
+abbrev Line : tie.Start Inv-loop μ-loop → ℕ → List ℕ → Tally → Type 0
 Line c = SurroundWritten (Words c) (take (c .args .begin) (Words c)) (c .args .left) (c .args .right) (c .args .layout) (wordsOf (c .args .sheet .now)) (numbersOf (wordsOf (c .args .distances .now)))
     (c .args .bounds .lower) (c .args .bounds .upper) (c .args .begin)
 
@@ -52,16 +53,13 @@ room c =
 
 -- the line with one block more
 longer : (c : tie.After-write-block Inv-loop μ-loop) → Line (c .before .before .before .before .before .before .before .before) (c .before .before .before .before .loop .first + c .before .before .block-size .result)
-    (wordsOf (c .write-block .last .1 .1 .1 .1 .1 .1 .0)) (max (c .before .before .before .before .loop .rounds) (c .write-block .result .rounds)) (c .before .before .before .before .loop .yes + c .write-block .result .yes)
+    (wordsOf (c .write-block .last .1 .1 .1 .1 .1 .1 .0)) (together (c .before .before .before .before .loop .tally) (c .write-block .result))
 longer c =
     let start = c .before .before .before .before .before .before .before .before in
     let loop = c .before .before .before .before .loop in
-    let block = subst (λ w. Block start (wordsOf (loop .answer)) w (loop .first) (c .before .before .block-size .result) (wordsOf (c .write-block .last .1 .1 .1 .1 .1 .1 .0)) (c .write-block .result .rounds) (c .write-block .result .yes))
+    let block = subst (λ w. Block start (wordsOf (loop .answer)) w (loop .first) (c .before .before .block-size .result) (wordsOf (c .write-block .last .1 .1 .1 .1 .1 .1 .0)) (c .write-block .result))
     (before (c .before .before .before)) (c .write-block .ensures) in
-    more-samples _ _ (start .args .layout .places) (Words start) (start .args .begin) (loop .first) (c .before .before .block-size .result) _ _ _ _ _ _ (omega (arith, start .pre .1)) (loop .inv .2) block
-
-greater : (c : tie.Joined1 Inv-loop μ-loop) → c .if1 .rounds ≡ max (c .before .before .before .before .before .before .before .before .before .loop .rounds) (c .before .before .before .before .before .write-block .result .rounds)
-greater c = ⊎-elim (λ w. omega (arith, w .0 .taken, w .1)) (λ w. omega (arith, w .0 .left, w .1)) (c .if1 .came)
+    more-samples _ _ (start .args .layout .places) (Words start) (start .args .begin) (loop .first) (c .before .before .block-size .result) _ _ _ _ (omega (arith, start .pre .1)) (loop .inv .2) block
 
 loop-holds : tie.Need-loop-holds Inv-loop μ-loop
 loop-holds c = (search needs, search needs, no-samples _ _ _ _ _)
@@ -80,9 +78,9 @@ write-block-requires c κs =
     let ready = fewer-ready (start .pre .0) (inside .0) in
     (subst (λ w. Ready start w (c .before .before .before .loop .first + size .result)) (sym (before (c .before .before))) ready, size .ensures .0, size .ensures .2, inside .1)
 
-add-yes : tie.Need-add-yes Inv-loop μ-loop
-add-yes c =
-    let block = c .before .before .before in
+with-requires : tie.Need-with-requires Inv-loop μ-loop
+with-requires c κs =
+    let block = c .before .before in
     let ready = block .before .before .before .before .before .before .before .before .pre .0 in
     omega (arith, few-yes (longer block), mul-le-mul (room (block .before .before) .0) (ready .few-places .1), ready .few)
 
@@ -93,7 +91,7 @@ loop-less : tie.Need-loop-less Inv-loop μ-loop
 loop-less c = search needs
 
 loop-again : tie.Need-loop-again Inv-loop μ-loop
-loop-again c = (search needs, search needs, rw (greater c) (longer (c .before .before .before .before .before)))
+loop-again c = (search needs, search needs, rw (c .with .ensures) (longer (c .before .before .before)))
 
 same-length : tie.Need-same-length Inv-loop μ-loop
 same-length c = search needs
@@ -103,7 +101,7 @@ returns c =
     let start = c .before .before .before .before .before in
     let loop = c .before .loop in
     let ended : loop .first ≡ start .args .samples = omega arith in
-    subst (λ (n : ℕ). Line start n (wordsOf (loop .answer)) (loop .rounds) (loop .yes)) ended (loop .inv .2)
+    subst (λ (n : ℕ). Line start n (wordsOf (loop .answer)) (loop .tally)) ended (loop .inv .2)
 
 pub write-surround-spec : {M : Type 1} → statement M
 write-surround-spec =
@@ -115,7 +113,7 @@ write-surround-spec =
     sub-block-size
     block-size-requires
     write-block-requires
-    add-yes
+    with-requires
     add-first
     loop-less
     loop-again
