@@ -1,7 +1,6 @@
 // Codes 0, 3, 4 and 8: true, not, and, or.
 use crate::signals::turn;
 use crate::signals::turned_at;
-ghost use mathlib.Core.Path.{_≡_};
 ghost use Prim.Native.Nat.{_+_, _*_, _≤_};
 ghost use lib.ListN.{length};
 ghost use Rattle.words.specs.Bytes.{wordsOf};

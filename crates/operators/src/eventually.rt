@@ -3,7 +3,7 @@ use crate::signals::turn;
 use crate::signals::turned_at;
 ghost use mathlib.Core.Path.{_≡_};
 ghost use Prim.Native.Nat.{ℕ, suc, _+_, _≤_, _<_};
-ghost use lib.ListN.{length, getD};
+ghost use lib.ListN.{length};
 ghost use Rattle.words.specs.Bytes.{wordsOf};
 ghost use Rattle.values.specs.Signals.{signalIn, turned};
 ghost use Rattle.operators.specs.Reach.{Window};

@@ -1,26 +1,16 @@
--- A line written row after row into the answer: what stands before it is kept, the next row is put after those before it, and the count of its
--- yes verdicts stays small.
-use mathlib.Core.Path.{_≡_, refl, sym, ap, ap₂, _∙_}
+-- A line written row after row into the answer: the next row is put after those before it, and the count of its yes verdicts stays small.
+use mathlib.Core.Path.{_≡_, refl, ap, ap₂}
 use mathlib.Core.List.{List}
 use Prim.Native.Nat.{ℕ, zero, suc, _+_, _*_, _<_, _≤_, max}
 use native.Mathlib.Nat.{suc-mul}
 use native.Mathlib.Numerals.{add-one}
 use native.Mathlib.Omega.{arith}
-use lib.ListN.{length, getD, take}
-use lib.Seq.{take-take}
-use Rattle.words.specs.Bytes.{wordsOf}
+use lib.ListN.{length, getD}
 use Rattle.words.specs.Rows.{row, concat, rows, put}
-use Rattle.words.proofs.Puts.{take-put, put-append}
+use Rattle.words.proofs.Puts.{put-append}
 use Rattle.words.proofs.Rows.{length-rows}
-use Rattle.words.proofs.Words.{words-take}
 use Rattle.logic.specs.Counts.{sumBelow, mostBelow}
 use Rattle.verdicts.specs.Sample.{entry}
-
--- the words before the line, read from the bytes while the line is written from index `to` on
-pub words-before : (bytes s v : List ℕ) (begin to : ℕ) → begin ≤ to → to ≤ length s → wordsOf bytes ≡ put s to v → wordsOf (take (begin * 4) bytes) ≡ take begin s
-words-before bytes s v begin to h k e =
-    words-take bytes begin ∙ ap (take begin) e ∙ sym (take-take begin to (put s to v) h)
-    ∙ ap (take begin) (take-put s to v k) ∙ take-take begin to s h
 
 pub put-row : (s : List ℕ) (begin : ℕ) (f : ℕ → ℕ → ℕ) (t m : ℕ) → begin ≤ length s → put (put s begin (rows f t m)) (begin + t * m) (row (f t) m) ≡ put s begin (rows f (t + 1) m)
 unfolding concat

@@ -3,7 +3,7 @@
 use mathlib.Core.Path.{_≡_, refl, sym, ap, _∙_}
 use mathlib.Core.Bool.{Bool, true, false, and-false, _&&_}
 use mathlib.Core.List.{List}
-use Prim.Native.Nat.{ℕ, zero, suc, _+_, _-_, _*_, _≤_, _<_, _^_, zero-le}
+use Prim.Native.Nat.{ℕ, zero, suc, _+_, _-_, _*_, _≤_, _<_, _^_}
 use native.Mathlib.Nat.{mul-comm, mul-assoc, mul-le-mul-right}
 use native.Mathlib.Omega.{arith}
 use lib.Dec.{leb}
@@ -15,14 +15,12 @@ use mir.Facts.{toZ-ofZ}
 use borrow.Author.Tests.{lt-leb}
 use Rattle.words.specs.Bytes.{wordsOf}
 use Rattle.words.proofs.Parts.{tail-list}
-use Rattle.words.proofs.Rows.{in-table}
 use Rattle.words.proofs.Words.{words-drop}
 use Rattle.logic.specs.Distance.{Distance, dist, none, inRange}
 use Rattle.logic.specs.Lattice.{greatestOver}
 use Rattle.logic.specs.Network.{distanceIn, within}
-use Rattle.logic.specs.Table.{Operator, True, AtLeast, AtMost, Not, And, Until, Somewhere, Surrounded, Or, Eventually, Always, Everywhere, Signal, untilAt, everTrue, somewhereAt}
-use Rattle.logic.proofs.Keeps.{Keeps, greatest-kept, surround-kept}
-use Rattle.logic.proofs.Margins.{meet-by, join-by}
+use Rattle.logic.specs.Table.{Operator, True, AtLeast, AtMost, Not, And, Until, Somewhere, Surrounded, Or, Eventually, Always, Everywhere, Signal, somewhereAt}
+use Rattle.logic.proofs.Keeps.{surround-kept}
 use Rattle.logic.proofs.Small.{InBits, difference-small}
 use Rattle.logic.proofs.TableKeeps.{ConstantIn, value-kept}
 use Rattle.sheet.specs.declared.check.Layout.{Layout}
@@ -32,7 +30,6 @@ use Rattle.sheet.proofs.AcceptedLines.{sample-bits}
 use Rattle.values.specs.Chain.{chains, chainLattice, chainOpposite, highest}
 use Rattle.values.specs.Signals.{signalIn, turned, inTable}
 use Rattle.values.proofs.Machine.{small-fits}
-use Rattle.values.proofs.Naturals.{leb-trans, leb-total}
 use Rattle.values.proofs.Valid.{valid-difference}
 use Rattle.operators.specs.Reach.{Window}
 use Rattle.operators.specs.Rows.{Filled, somewhereIn}

@@ -1,7 +1,7 @@
 -- The greatest of the window, by either way, turned where the dual is asked for.
-use mathlib.Core.Path.{_≡_, sym, ap, subst, _∙_}
+use mathlib.Core.Path.{_≡_, ap, subst, _∙_}
 use mathlib.Core.Logic.{⊎-elim}
-use Prim.Native.Nat.{ℕ, suc, _+_, _-_, _≤_}
+use Prim.Native.Nat.{ℕ, _+_, _-_, _≤_}
 use native.Mathlib.Omega.{arith}
 use borrow.Author.Needs.{needs}
 use Rattle.words.specs.Bytes.{wordsOf}
@@ -9,7 +9,7 @@ use Rattle.logic.specs.Table.{Signal}
 use Rattle.values.specs.Chain.{chains, highest}
 use Rattle.values.specs.Signals.{signalIn, turned}
 use Rattle.operators.specs.Reach.{Window}
-use Rattle.operators.specs.Rows.{turnedTo, ahead, eventuallyAt}
+use Rattle.operators.specs.Rows.{turnedTo, ahead}
 use Rattle.operators.proofs.Bounds.{turned-bound, ahead-bound}
 use Rattle.operators.proofs.RowLaws.{turned-number, turned-small, turned-back}
 use Rattle.operators.proofs.eventually.eventually_at.Statement.{statement}

@@ -9,7 +9,7 @@ use lib.ListN.{length}
 use mir.Syntax.{w32}
 use mir.Val.{toZ, ofZ}
 use borrow.Author.Needs.{needs}
-use Rattle.words.specs.Bytes.{wordsOf, numbersOf}
+use Rattle.words.specs.Bytes.{wordsOf}
 use Rattle.logic.specs.Table.{value}
 use Rattle.logic.proofs.Small.{InBits}
 use Rattle.sheet.specs.declared.operator.Operator.{Operator}

@@ -1,6 +1,6 @@
 -- The greater rounds are those that the test finds.
 use mathlib.Core.Path.{_≡_, ap}
-use Prim.Native.Nat.{ℕ, _+_, max}
+use Prim.Native.Nat.{ℕ}
 use native.Mathlib.Omega.{arith}
 use borrow.Author.Needs.{needs}
 use Rattle.verdicts.specs.declared.tally.Tally.{Tally}
