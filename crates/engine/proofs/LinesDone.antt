@@ -122,7 +122,7 @@ module _ (s : List ℕ) (layout : Code.Layout) (distances : List ℕ) (lines : L
     room-left : to + (1 + lineIn lines k .length * n) ≤ length words
     room-left = omega (arith, fits, length-kept, done .ends)
 
-    signal-here : (i t l : ℕ) → i < k → t < lengthsOf lines i → l < n → earlier s layout before starts i t l ≡ valueAt chains (sheetNetwork s layout) (sheetRecording s layout) lines i t l
+    signal-here : (i t l : ℕ) → i < k → t < lengthsOf lines i → l < n → earlier layout before starts i t l ≡ valueAt chains (sheetNetwork s layout) (sheetRecording s layout) lines i t l
     unfolding before
     signal-here i t l h u b =
         rw (done .begins i h, done .ends, done .written)
@@ -169,9 +169,9 @@ module _ (s : List ℕ) (layout : Code.Layout) (distances : List ℕ) (lines : L
         let N = sheetNetwork s layout in
         let x = sheetRecording s layout in
         let T : ℕ = layout .samples in
-        let meant = words-meant N T x samples lines constants (layout .signals) (table .good) k inside (earlier s layout before starts) signal-here in
-        let many = yes-meant N T x samples lines constants (layout .signals) (table .good) k inside (earlier s layout before starts) signal-here in
-        let most = rounds-meant N T x samples lines constants (layout .signals) (table .good) k inside (earlier s layout before starts) signal-here in
+        let meant = words-meant N T x samples lines constants (layout .signals) (table .good) k inside (earlier layout before starts) signal-here in
+        let many = yes-meant N T x samples lines constants (layout .signals) (table .good) k inside (earlier layout before starts) signal-here in
+        let most = rounds-meant N T x samples lines constants (layout .signals) (table .good) k inside (earlier layout before starts) signal-here in
         record {
           room = length-set starts k (to + 1) ∙ done .room;
           begins = begun;

@@ -46,11 +46,11 @@ module _ (s : List ℕ) (L : Layout) (distances : List ℕ) (survey : Surveyed s
   pub value-by-table : surroundValue words (getD starts i 0) (getD starts j 0) (L .places) s (L .roads) distances lower upper t l
       ≡ lineValue s L words starts (Surrounded i j lower upper) t l
   unfolding surroundValue lineValue value surroundAt joinedBy joined
-  value-by-table = surround-tests chainLattice (joined (sheetNetwork s L)) _ _ _ _ (range 0) (range lower) (earlier s L words starts i t) (earlier s L words starts j t) l
+  value-by-table = surround-tests chainLattice (joined (sheetNetwork s L)) _ _ _ _ (range 0) (range lower) (earlier L words starts i t) (earlier L words starts j t) l
 
   pub rounds-by-table : surroundRounds words (getD starts i 0) (getD starts j 0) (L .places) s (L .roads) distances lower upper t l
       ≡ lineRounds s L words starts (Surrounded i j lower upper) t l
   unfolding surroundRounds lineRounds roundsAt joinedBy joined
   rounds-by-table = rounds-same (joined (sheetNetwork s L)) (L .places) _ _ _ _
-      (masked-tests marginLattice (range 0) (λ k. chainMargin (earlier s L words starts i t k)))
-      (masked-tests marginLattice (range lower) (λ k. chainMargin (earlier s L words starts j t k)))
+      (masked-tests marginLattice (range 0) (λ k. chainMargin (earlier L words starts i t k)))
+      (masked-tests marginLattice (range lower) (λ k. chainMargin (earlier L words starts j t k)))

@@ -1,5 +1,5 @@
--- The value of a line at one sample and place: it is at most `highest`, what it reads is there, and the table of distances gives the ranges of
--- the network.
+-- The value of a line at one sample and place: it is at most `highest`, the samples of an atom are there, and the table of distances gives the
+-- ranges of the network.
 use mathlib.Core.Path.{_≡_, refl, sym, ap, _∙_}
 use mathlib.Core.Bool.{Bool, true, false, and-false, _&&_}
 use mathlib.Core.List.{List}
@@ -31,11 +31,10 @@ use Rattle.values.specs.Chain.{chains, chainLattice, chainOpposite, highest}
 use Rattle.values.specs.Signals.{signalIn, turned, inTable}
 use Rattle.values.proofs.Machine.{small-fits}
 use Rattle.values.proofs.Valid.{valid-difference}
-use Rattle.operators.specs.Reach.{Window}
 use Rattle.operators.specs.Rows.{Filled, somewhereIn}
 use Rattle.operators.proofs.Bounds.{signal-bound, bounded-kept}
 use Rattle.surround.specs.Lanes.{joinedBy, surroundValue}
-use Rattle.verdicts.specs.Writing.{sheetNetwork, sheetRecording, earlier, lineValue, Surveyed, Written, Readable}
+use Rattle.verdicts.specs.Writing.{sheetNetwork, sheetRecording, earlier, lineValue, Surveyed, Readable}
 
 -- ---- no value is beyond `highest`
 
@@ -71,7 +70,7 @@ module _ (s : List ℕ) (L : Layout) where
       (sheetRecording s L) (sheetRecording s L)
       (λ x u k c fit. valid-difference (sheetRecording s L x u k -ℤ c) (difference-small (sheetRecording s L x u k) c (recording-bits x u k) fit) .bounded)
       (λ x u k c fit. valid-difference (c -ℤ sheetRecording s L x u k) (difference-small c (sheetRecording s L x u k) fit (recording-bits x u k)) .bounded)
-      (earlier s L words starts) (earlier s L words starts) (λ i u k _. signal-bound words (getD starts i 0) (L .places) u k) o (readable-constant L words starts o t r) t l b
+      (earlier L words starts) (earlier L words starts) (λ i u k _. signal-bound words (getD starts i 0) (L .places) u k) o (readable-constant L words starts o t r) t l b
 
 -- ---- a sample of the recording
 
@@ -91,12 +90,6 @@ constant-kept (negsuc x) h = toZ-ofZ (small-fits (negsuc x) (omega arith))
 -- the words of the bytes from word k on
 pub words-from : (bytes : List ℕ) (k : ℕ) → k * 4 ≤ length bytes → wordsOf (take (length bytes - k * 4) (drop (k * 4) bytes)) ≡ drop k (wordsOf bytes)
 words-from bytes k h = ap wordsOf (tail-list bytes (k * 4) h) ∙ words-drop bytes k
-
--- ---- what an operator reads of an earlier line is there
-
-pub window-inside : {L : Layout} {words starts : List ℕ} {j lower upper t : ℕ} → lower ≤ upper → Written L words starts j (t + upper)
-    → Window words (getD starts j 0) (L .places) lower upper t
-window-inside h written = record { bounds = h; inside = written .inside }
 
 -- ---- ranges
 

@@ -16,6 +16,10 @@ use Rattle.sheet.specs.Roads.{networkOf, distanceNumber}
 use Rattle.values.specs.Chain.{chains, chainMargin}
 use Rattle.values.specs.Signals.{signalIn}
 
+-- the signal of an earlier line
+abbrev pub earlier : Layout → List ℕ → List ℕ → ℕ → Signal chains
+earlier L words starts j = signalIn words (getD starts j 0) (L .places)
+
 module _ (s : List ℕ) (L : Layout) where
   abbrev pub sheetNetwork : Network
   sheetNetwork = networkOf s (L .places) (L .roads)
@@ -24,14 +28,11 @@ module _ (s : List ℕ) (L : Layout) where
   sheetRecording signal t l = sampleOf (wordAt s (L .recording + ((t * L .places + l) * L .signals + signal)))
 
   module _ (words : List ℕ) (starts : List ℕ) where
-    abbrev pub earlier : ℕ → Signal chains
-    earlier j = signalIn words (getD starts j 0) (L .places)
-
     unfoldable pub lineValue : Operator → Signal chains
-    lineValue o = value chains sheetNetwork sheetRecording earlier o
+    lineValue o = value chains sheetNetwork sheetRecording (earlier L words starts) o
 
     unfoldable pub lineRounds : Operator → ℕ → ℕ → ℕ
-    lineRounds o t l = roundsAt sheetNetwork (λ j u k. chainMargin (earlier j u k)) o t l
+    lineRounds o t l = roundsAt sheetNetwork (λ j u k. chainMargin (earlier L words starts j u k)) o t l
 
 -- what the engine has checked: the sheet's samples are there, and the distances are those of its network
 pub record Surveyed (s : List ℕ) (L : Layout) (distances : List ℕ) : Type 0 where

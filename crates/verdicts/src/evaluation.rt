@@ -7,15 +7,19 @@ use operators::eventually::eventually_row;
 use operators::somewhere::somewhere_row;
 use operators::until::until_row;
 use sheet::check::Layout;
+use sheet::operator::Bounds;
 use sheet::operator::Operator;
 ghost use mathlib.Core.Path.{_≡_};
 ghost use Prim.Native.Nat.{ℕ, suc, _+_, _*_, _≤_, _<_};
 ghost use lib.ListN.{length};
 ghost use Rattle.words.specs.Bytes.{wordsOf, numbersOf};
+ghost use Rattle.logic.specs.Table.{untilAt, opposite};
 ghost use Rattle.logic.proofs.Small.{InBits};
 ghost use Rattle.sheet.specs.Decoding.{operatorSaid};
-ghost use Rattle.operators.specs.Rows.{Filled, atomValue};
-ghost use Rattle.verdicts.specs.Writing.{sheetRecording, lineValue, Surveyed, Readable};
+ghost use Rattle.sheet.specs.Limits.{mostPlaces};
+ghost use Rattle.values.specs.Chain.{chains};
+ghost use Rattle.operators.specs.Rows.{Filled, atomValue, andAt, eventuallyAt, somewhereIn};
+ghost use Rattle.verdicts.specs.Writing.{earlier, sheetRecording, lineValue, Surveyed, Written, Readable};
 
 // Codes 1 and 2: the evaluator of atoms is handed the samples' part of the sheet, which begins after the roads.
 fn recorded_row(
@@ -43,6 +47,119 @@ fn recorded_row(
     );
 }
 
+// Code 3: the signal of an earlier line.
+fn not_line(words: &[u8], starts: &[usize], layout: Layout, left: usize, t: usize, row: &mut [u32])
+    requires { ⌜ Written layout (wordsOf (now words)) (now starts) left t × (layout .places ≤ length (now row)) ⌝ }
+    ensures { λ _. ⌜ Filled (layout .places) (opposite chains (earlier layout (wordsOf (now (words .entry))) (now (starts .entry)) left) t) (now (row .exit)) ⌝ }
+{
+    turned_row(words, starts[left], layout.places, true, t, row);
+}
+
+// Codes 4 and 8: the signals of two earlier lines.
+fn and_lines(
+    words: &[u8],
+    starts: &[usize],
+    layout: Layout,
+    left: usize,
+    right: usize,
+    dual: bool,
+    t: usize,
+    row: &mut [u32],
+)
+    requires { ⌜ Written layout (wordsOf (now words)) (now starts) left t × Written layout (wordsOf (now words)) (now starts) right t × (layout .places ≤ length (now row)) ⌝ }
+    ensures { λ _. ⌜ Filled (layout .places) (andAt dual (earlier layout (wordsOf (now (words .entry))) (now (starts .entry)) left) (earlier layout (wordsOf (now (words .entry))) (now (starts .entry)) right) t) (now (row .exit)) ⌝ }
+{
+    and_row(
+        words,
+        starts[left],
+        starts[right],
+        layout.places,
+        dual,
+        t,
+        row,
+    );
+}
+
+// Code 5.
+fn until_lines(
+    words: &[u8],
+    starts: &[usize],
+    layout: Layout,
+    left: usize,
+    right: usize,
+    bounds: Bounds,
+    t: usize,
+    row: &mut [u32],
+)
+    requires { ⌜ (bounds .lower ≤ bounds .upper) × Written layout (wordsOf (now words)) (now starts) left (t + bounds .upper) × Written layout (wordsOf (now words)) (now starts) right (t + bounds .upper) × (layout .places ≤ length (now row)) ⌝ }
+    ensures { λ _. ⌜ Filled (layout .places) (untilAt chains (earlier layout (wordsOf (now (words .entry))) (now (starts .entry)) left) (earlier layout (wordsOf (now (words .entry))) (now (starts .entry)) right) (bounds .lower) (bounds .upper) t) (now (row .exit)) ⌝ }
+{
+    until_row(
+        words,
+        starts[left],
+        starts[right],
+        layout.places,
+        bounds.lower,
+        bounds.upper,
+        t,
+        row,
+    );
+}
+
+// Codes 9 and 10.
+fn eventually_line(
+    words: &[u8],
+    starts: &[usize],
+    layout: Layout,
+    left: usize,
+    bounds: Bounds,
+    dual: bool,
+    t: usize,
+    row: &mut [u32],
+)
+    requires { ⌜ (bounds .lower ≤ bounds .upper) × Written layout (wordsOf (now words)) (now starts) left (t + bounds .upper) × ((u : ℕ) → t ≡ suc u → Filled (layout .places) (eventuallyAt dual (earlier layout (wordsOf (now words)) (now starts) left) (bounds .lower) (bounds .upper) u) (now row)) × (layout .places ≤ length (now row)) ⌝ }
+    ensures { λ _. ⌜ Filled (layout .places) (eventuallyAt dual (earlier layout (wordsOf (now (words .entry))) (now (starts .entry)) left) (bounds .lower) (bounds .upper) t) (now (row .exit)) ⌝ }
+{
+    eventually_row(
+        words,
+        starts[left],
+        layout.places,
+        bounds.lower,
+        bounds.upper,
+        dual,
+        t,
+        row,
+    );
+}
+
+// Codes 6 and 11.
+fn somewhere_line(
+    words: &[u8],
+    starts: &[usize],
+    layout: Layout,
+    distances: &[u8],
+    left: usize,
+    bounds: Bounds,
+    dual: bool,
+    t: usize,
+    row: &mut [u32],
+)
+    requires { ⌜ Written layout (wordsOf (now words)) (now starts) left t × (layout .places ≤ mostPlaces) × (layout .places * layout .places ≤ length (numbersOf (wordsOf (now distances)))) × (layout .places ≤ length (now row)) ⌝ }
+    ensures { λ _. ⌜ Filled (layout .places) (somewhereIn dual (numbersOf (wordsOf (now (distances .entry)))) (layout .places) (earlier layout (wordsOf (now (words .entry))) (now (starts .entry)) left) (bounds .lower) (bounds .upper) t) (now (row .exit)) ⌝ }
+{
+    somewhere_row(
+        words,
+        starts[left],
+        layout.places,
+        distances,
+        bounds.lower,
+        bounds.upper,
+        dual,
+        t,
+        row,
+    );
+}
+
 // `words` are those written before the line; `starts` tells at which index the signal of each earlier line begins. The row holds the
 // values at the sample before, if there is one.
 pub(crate) fn value_row(
@@ -58,79 +175,49 @@ pub(crate) fn value_row(
     requires { ⌜ Surveyed (wordsOf (now sheet)) layout (numbersOf (wordsOf (now distances))) × Readable layout (wordsOf (now words)) (now starts) (operatorSaid operator) t × ((u : ℕ) → t ≡ suc u → Filled (layout .places) (lineValue (wordsOf (now sheet)) layout (wordsOf (now words)) (now starts) (operatorSaid operator) u) (now row)) × (layout .places ≤ length (now row)) ⌝ }
     ensures { λ _. ⌜ Filled (layout .places) (lineValue (wordsOf (now (sheet .entry))) layout (wordsOf (now (words .entry))) (now (starts .entry)) (operatorSaid operator) t) (now (row .exit)) ⌝ }
 {
-    let places = layout.places;
     match operator {
-        Operator::True => true_row(places, row),
+        Operator::True => true_row(layout.places, row),
         Operator::AtLeast { signal, constant } => {
             recorded_row(sheet, layout, signal, constant, true, t, row)
         }
         Operator::AtMost { signal, constant } => {
             recorded_row(sheet, layout, signal, constant, false, t, row)
         }
-        Operator::Not { left } => turned_row(words, starts[left], places, true, t, row),
+        Operator::Not { left } => not_line(words, starts, layout, left, t, row),
         Operator::And { left, right } => {
-            and_row(words, starts[left], starts[right], places, false, t, row)
+            and_lines(words, starts, layout, left, right, false, t, row)
         }
         Operator::Until {
             left,
             right,
             bounds,
-        } => until_row(
-            words,
-            starts[left],
-            starts[right],
-            places,
-            bounds.lower,
-            bounds.upper,
-            t,
-            row,
-        ),
-        Operator::Somewhere { left, bounds } => somewhere_row(
-            words,
-            starts[left],
-            places,
-            distances,
-            bounds.lower,
-            bounds.upper,
-            false,
-            t,
-            row,
-        ),
+        } => until_lines(words, starts, layout, left, right, bounds, t, row),
+        Operator::Somewhere { left, bounds } => {
+            somewhere_line(
+                words,
+                starts,
+                layout,
+                distances,
+                left,
+                bounds,
+                false,
+                t,
+                row,
+            )
+        }
         // written in blocks of samples
         Operator::Surrounded { .. } => {}
         Operator::Or { left, right } => {
-            and_row(words, starts[left], starts[right], places, true, t, row)
+            and_lines(words, starts, layout, left, right, true, t, row)
         }
-        Operator::Eventually { left, bounds } => eventually_row(
-            words,
-            starts[left],
-            places,
-            bounds.lower,
-            bounds.upper,
-            false,
-            t,
-            row,
-        ),
-        Operator::Always { left, bounds } => eventually_row(
-            words,
-            starts[left],
-            places,
-            bounds.lower,
-            bounds.upper,
-            true,
-            t,
-            row,
-        ),
-        Operator::Everywhere { left, bounds } => somewhere_row(
-            words,
-            starts[left],
-            places,
-            distances,
-            bounds.lower,
-            bounds.upper,
-            true,
-            t,
-            row,
-        ),
+        Operator::Eventually { left, bounds } => {
+            eventually_line(words, starts, layout, left, bounds, false, t, row)
+        }
+        Operator::Always { left, bounds } => {
+            eventually_line(words, starts, layout, left, bounds, true, t, row)
+        }
+        Operator::Everywhere { left, bounds } => {
+            somewhere_line(words, starts, layout, distances, left, bounds, true, t, row)
+        }
     }
 }

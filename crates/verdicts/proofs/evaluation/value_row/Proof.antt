@@ -17,7 +17,7 @@ use Rattle.sheet.specs.Decoding.{operatorSaid}
 use Rattle.values.specs.Chain.{chains}
 use Rattle.operators.specs.Rows.{Filled}
 use Rattle.verdicts.specs.Writing.{sheetRecording, lineValue, Readable}
-use Rattle.verdicts.proofs.Points.{sample-inside, constant-kept, window-inside, somewhere-same}
+use Rattle.verdicts.proofs.Points.{sample-inside, constant-kept, somewhere-same}
 use Rattle.verdicts.proofs.evaluation.value_row.Statement.{statement}
 use Rattle.verdicts.proofs.evaluation.value_row.Tie as tie
 
@@ -75,78 +75,30 @@ recorded-row-requires-2 c κs = atoms-inside (c .before .before .before .before)
 enum-known-operator-3 : tie.Need-enum-known-operator-3
 enum-known-operator-3 c = search needs
 
-mul-turned-row : tie.Need-mul-turned-row
-mul-turned-row c =
-    let line = readable (c .before .before .before) (c .before .operator3 .given .1) in omega (arith, line .line)
-
-shared-slice-read-turned-row : tie.Need-shared-slice-read-turned-row
-shared-slice-read-turned-row c = readable (c .before .before .before .before) (c .before .before .operator3 .given .1) .line
-
-turned-row-requires : tie.Need-turned-row-requires
-turned-row-requires c κs =
-    let known = c .before .before .before .before .before in
-    (readable known (c .before .before .before .operator3 .given .1) .inside, start known .pre .3)
+not-line-requires : tie.Need-not-line-requires
+not-line-requires c κs =
+    let known = c .before .before .before .before in (readable known (c .before .before .operator3 .given .1), start known .pre .3)
 
 enum-known-operator-4 : tie.Need-enum-known-operator-4
 enum-known-operator-4 c = search needs
 
-mul-and-row : tie.Need-mul-and-row
-mul-and-row c =
-    let line = readable (c .before .before .before) (c .before .operator4 .given .1) .0 in omega (arith, line .line)
-
-shared-slice-read-and-row : tie.Need-shared-slice-read-and-row
-shared-slice-read-and-row c = readable (c .before .before .before .before) (c .before .before .operator4 .given .1) .0 .line
-
-mul-and-row-2 : tie.Need-mul-and-row-2
-mul-and-row-2 c =
-    let line = readable (c .before .before .before .before) (c .before .before .operator4 .given .1) .1 in omega (arith, line .line)
-
-shared-slice-read-and-row-2 : tie.Need-shared-slice-read-and-row-2
-shared-slice-read-and-row-2 c = readable (c .before .before .before .before .before) (c .before .before .before .operator4 .given .1) .1 .line
-
-and-row-requires : tie.Need-and-row-requires
-and-row-requires c κs =
-    let known = c .before .before .before .before .before .before in
-    let (left, right) = readable known (c .before .before .before .before .operator4 .given .1) in
-    (left .inside, right .inside, start known .pre .3)
+and-lines-requires : tie.Need-and-lines-requires
+and-lines-requires c κs =
+    let known = c .before .before .before .before in let (left, right) = readable known (c .before .before .operator4 .given .1) in (left, right, start known .pre .3)
 
 enum-known-operator-5 : tie.Need-enum-known-operator-5
 enum-known-operator-5 c = search needs
 
-mul-until-row : tie.Need-mul-until-row
-mul-until-row c =
-    let line = readable (c .before .before .before) (c .before .operator5 .given .1) .1 in omega (arith, line .line)
-
-shared-slice-read-until-row : tie.Need-shared-slice-read-until-row
-shared-slice-read-until-row c = readable (c .before .before .before .before) (c .before .before .operator5 .given .1) .1 .line
-
-mul-until-row-2 : tie.Need-mul-until-row-2
-mul-until-row-2 c =
-    let line = readable (c .before .before .before .before) (c .before .before .operator5 .given .1) .2 in omega (arith, line .line)
-
-shared-slice-read-until-row-2 : tie.Need-shared-slice-read-until-row-2
-shared-slice-read-until-row-2 c = readable (c .before .before .before .before .before) (c .before .before .before .operator5 .given .1) .2 .line
-
-until-row-requires : tie.Need-until-row-requires
-until-row-requires c κs =
-    let known = c .before .before .before .before .before .before in
-    let (ordered, left, right) = readable known (c .before .before .before .before .operator5 .given .1) in
-    (window-inside ordered left, window-inside ordered right, start known .pre .3)
+until-lines-requires : tie.Need-until-lines-requires
+until-lines-requires c κs =
+    let known = c .before .before .before .before in let (ordered, left, right) = readable known (c .before .before .operator5 .given .1) in (ordered, left, right, start known .pre .3)
 
 enum-known-operator-6 : tie.Need-enum-known-operator-6
 enum-known-operator-6 c = search needs
 
-mul-somewhere-row : tie.Need-mul-somewhere-row
-mul-somewhere-row c =
-    let line = readable (c .before .before .before) (c .before .operator6 .given .1) .1 in omega (arith, line .line)
-
-shared-slice-read-somewhere-row : tie.Need-shared-slice-read-somewhere-row
-shared-slice-read-somewhere-row c = readable (c .before .before .before .before) (c .before .before .operator6 .given .1) .1 .line
-
-somewhere-row-requires : tie.Need-somewhere-row-requires
-somewhere-row-requires c κs =
-    let known = c .before .before .before .before .before in
-    (readable known (c .before .before .before .operator6 .given .1) .1 .inside, start known .pre .0 .places .1, start known .pre .0 .room, start known .pre .3)
+somewhere-line-requires : tie.Need-somewhere-line-requires
+somewhere-line-requires c κs =
+    let known = c .before .before .before .before in (readable known (c .before .before .operator6 .given .1) .1, start known .pre .0 .places .1, start known .pre .0 .room, start known .pre .3)
 
 enum-told-2 : tie.Need-enum-told-2
 enum-told-2 c = search needs
@@ -154,76 +106,38 @@ enum-told-2 c = search needs
 enum-known-operator-7 : tie.Need-enum-known-operator-7
 enum-known-operator-7 c = search needs
 
-mul-and-row-3 : tie.Need-mul-and-row-3
-mul-and-row-3 c =
-    let line = readable (c .before .before .before) (c .before .operator7 .given .1) .0 in omega (arith, line .line)
-
-shared-slice-read-and-row-3 : tie.Need-shared-slice-read-and-row-3
-shared-slice-read-and-row-3 c = readable (c .before .before .before .before) (c .before .before .operator7 .given .1) .0 .line
-
-mul-and-row-4 : tie.Need-mul-and-row-4
-mul-and-row-4 c =
-    let line = readable (c .before .before .before .before) (c .before .before .operator7 .given .1) .1 in omega (arith, line .line)
-
-shared-slice-read-and-row-4 : tie.Need-shared-slice-read-and-row-4
-shared-slice-read-and-row-4 c = readable (c .before .before .before .before .before) (c .before .before .before .operator7 .given .1) .1 .line
-
-and-row-requires-2 : tie.Need-and-row-requires-2
-and-row-requires-2 c κs =
-    let known = c .before .before .before .before .before .before in
-    let (left, right) = readable known (c .before .before .before .before .operator7 .given .1) in
-    (left .inside, right .inside, start known .pre .3)
+and-lines-requires-2 : tie.Need-and-lines-requires-2
+and-lines-requires-2 c κs =
+    let known = c .before .before .before .before in let (left, right) = readable known (c .before .before .operator7 .given .1) in (left, right, start known .pre .3)
 
 enum-known-operator-8 : tie.Need-enum-known-operator-8
 enum-known-operator-8 c = search needs
 
-mul-eventually-row : tie.Need-mul-eventually-row
-mul-eventually-row c =
-    let line = readable (c .before .before .before) (c .before .operator8 .given .1) .1 in omega (arith, line .line)
-
-shared-slice-read-eventually-row : tie.Need-shared-slice-read-eventually-row
-shared-slice-read-eventually-row c = readable (c .before .before .before .before) (c .before .before .operator8 .given .1) .1 .line
-
-eventually-row-requires : tie.Need-eventually-row-requires
+eventually-line-requires : tie.Need-eventually-line-requires
 unfolding lineValue value
-eventually-row-requires c κs =
-    let known = c .before .before .before .before .before in
-    let which = c .before .before .before .operator8 .given .1 in
+eventually-line-requires c κs =
+    let known = c .before .before .before .before in
+    let which = c .before .before .operator8 .given .1 in
     let (ordered, line) = readable known which in
-    (window-inside ordered line, start known .pre .3, former known which)
+    (ordered, line, former known which, start known .pre .3)
 
 enum-known-operator-9 : tie.Need-enum-known-operator-9
 enum-known-operator-9 c = search needs
 
-mul-eventually-row-2 : tie.Need-mul-eventually-row-2
-mul-eventually-row-2 c =
-    let line = readable (c .before .before .before) (c .before .operator9 .given .1) .1 in omega (arith, line .line)
-
-shared-slice-read-eventually-row-2 : tie.Need-shared-slice-read-eventually-row-2
-shared-slice-read-eventually-row-2 c = readable (c .before .before .before .before) (c .before .before .operator9 .given .1) .1 .line
-
-eventually-row-requires-2 : tie.Need-eventually-row-requires-2
+eventually-line-requires-2 : tie.Need-eventually-line-requires-2
 unfolding lineValue value
-eventually-row-requires-2 c κs =
-    let known = c .before .before .before .before .before in
-    let which = c .before .before .before .operator9 .given .1 in
+eventually-line-requires-2 c κs =
+    let known = c .before .before .before .before in
+    let which = c .before .before .operator9 .given .1 in
     let (ordered, line) = readable known which in
-    (window-inside ordered line, start known .pre .3, former known which)
+    (ordered, line, former known which, start known .pre .3)
 
 enum-known-operator-10 : tie.Need-enum-known-operator-10
 enum-known-operator-10 c = search needs
 
-mul-somewhere-row-2 : tie.Need-mul-somewhere-row-2
-mul-somewhere-row-2 c =
-    let line = readable (c .before .before .before) (c .before .operator10 .given .1) .1 in omega (arith, line .line)
-
-shared-slice-read-somewhere-row-2 : tie.Need-shared-slice-read-somewhere-row-2
-shared-slice-read-somewhere-row-2 c = readable (c .before .before .before .before) (c .before .before .operator10 .given .1) .1 .line
-
-somewhere-row-requires-2 : tie.Need-somewhere-row-requires-2
-somewhere-row-requires-2 c κs =
-    let known = c .before .before .before .before .before in
-    (readable known (c .before .before .before .operator10 .given .1) .1 .inside, start known .pre .0 .places .1, start known .pre .0 .room, start known .pre .3)
+somewhere-line-requires-2 : tie.Need-somewhere-line-requires-2
+somewhere-line-requires-2 c κs =
+    let known = c .before .before .before .before in (readable known (c .before .before .operator10 .given .1) .1, start known .pre .0 .places .1, start known .pre .0 .room, start known .pre .3)
 
 same-length : tie.Need-same-length
 same-length c = search needs
@@ -257,21 +171,21 @@ same-length-4 c = search needs
 
 returns-4 : tie.Need-returns-4
 unfolding lineValue value
-returns-4 c = told (c .before .before .before .before .before .before .before .before) (c .before .before .before .before .before .before .operator3 .given .1) (c .before .before .turned-row .ensures)
+returns-4 c = told (c .before .before .before .before .before .before .before) (c .before .before .before .before .before .operator3 .given .1) (c .before .before .not-line .ensures)
 
 same-length-5 : tie.Need-same-length-5
 same-length-5 c = search needs
 
 returns-5 : tie.Need-returns-5
 unfolding lineValue value
-returns-5 c = told (c .before .before .before .before .before .before .before .before .before) (c .before .before .before .before .before .before .before .operator4 .given .1) (c .before .before .and-row .ensures)
+returns-5 c = told (c .before .before .before .before .before .before .before) (c .before .before .before .before .before .operator4 .given .1) (c .before .before .and-lines .ensures)
 
 same-length-6 : tie.Need-same-length-6
 same-length-6 c = search needs
 
 returns-6 : tie.Need-returns-6
 unfolding lineValue value
-returns-6 c = told (c .before .before .before .before .before .before .before .before .before) (c .before .before .before .before .before .before .before .operator5 .given .1) (c .before .before .until-row .ensures)
+returns-6 c = told (c .before .before .before .before .before .before .before) (c .before .before .before .before .before .operator5 .given .1) (c .before .before .until-lines .ensures)
 
 same-length-7 : tie.Need-same-length-7
 same-length-7 c = search needs
@@ -279,9 +193,9 @@ same-length-7 c = search needs
 returns-7 : tie.Need-returns-7
 unfolding lineValue value
 returns-7 c =
-    let known = c .before .before .before .before .before .before .before .before in
-    let which = c .before .before .before .before .before .before .operator6 .given .1 in
-    told known which (somewhere-same _ (start known .args .layout) _ (start known .pre .0) false _ _ _ (start known .args .t) (readable known which .0) _ (c .before .before .somewhere-row .ensures))
+    let known = c .before .before .before .before .before .before .before in
+    let which = c .before .before .before .before .before .operator6 .given .1 in
+    told known which (somewhere-same _ (start known .args .layout) _ (start known .pre .0) false _ _ _ (start known .args .t) (readable known which .0) _ (c .before .before .somewhere-line .ensures))
 
 returns-8 : tie.Need-returns-8
 returns-8 c = absurd (readable (c .before .before) (c .enum-told2 .given .1))
@@ -291,21 +205,21 @@ same-length-8 c = search needs
 
 returns-9 : tie.Need-returns-9
 unfolding lineValue value
-returns-9 c = told (c .before .before .before .before .before .before .before .before .before) (c .before .before .before .before .before .before .before .operator7 .given .1) (c .before .before .and-row2 .ensures)
+returns-9 c = told (c .before .before .before .before .before .before .before) (c .before .before .before .before .before .operator7 .given .1) (c .before .before .and-lines2 .ensures)
 
 same-length-9 : tie.Need-same-length-9
 same-length-9 c = search needs
 
 returns-10 : tie.Need-returns-10
 unfolding lineValue value
-returns-10 c = told (c .before .before .before .before .before .before .before .before) (c .before .before .before .before .before .before .operator8 .given .1) (c .before .before .eventually-row .ensures)
+returns-10 c = told (c .before .before .before .before .before .before .before) (c .before .before .before .before .before .operator8 .given .1) (c .before .before .eventually-line .ensures)
 
 same-length-10 : tie.Need-same-length-10
 same-length-10 c = search needs
 
 returns-11 : tie.Need-returns-11
 unfolding lineValue value
-returns-11 c = told (c .before .before .before .before .before .before .before .before) (c .before .before .before .before .before .before .operator9 .given .1) (c .before .before .eventually-row2 .ensures)
+returns-11 c = told (c .before .before .before .before .before .before .before) (c .before .before .before .before .before .operator9 .given .1) (c .before .before .eventually-line2 .ensures)
 
 same-length-11 : tie.Need-same-length-11
 same-length-11 c = search needs
@@ -313,9 +227,9 @@ same-length-11 c = search needs
 returns-12 : tie.Need-returns-12
 unfolding lineValue value
 returns-12 c =
-    let known = c .before .before .before .before .before .before .before .before in
-    let which = c .before .before .before .before .before .before .operator10 .given .1 in
-    told known which (somewhere-same _ (start known .args .layout) _ (start known .pre .0) true _ _ _ (start known .args .t) (readable known which .0) _ (c .before .before .somewhere-row2 .ensures))
+    let known = c .before .before .before .before .before .before .before in
+    let which = c .before .before .before .before .before .operator10 .given .1 in
+    told known which (somewhere-same _ (start known .args .layout) _ (start known .pre .0) true _ _ _ (start known .args .t) (readable known which .0) _ (c .before .before .somewhere-line2 .ensures))
 
 pub value-row-spec : {M : Type 1} → statement M
 value-row-spec =
@@ -328,44 +242,22 @@ value-row-spec =
     enum-known-operator-2
     recorded-row-requires-2
     enum-known-operator-3
-    mul-turned-row
-    shared-slice-read-turned-row
-    turned-row-requires
+    not-line-requires
     enum-known-operator-4
-    mul-and-row
-    shared-slice-read-and-row
-    mul-and-row-2
-    shared-slice-read-and-row-2
-    and-row-requires
+    and-lines-requires
     enum-known-operator-5
-    mul-until-row
-    shared-slice-read-until-row
-    mul-until-row-2
-    shared-slice-read-until-row-2
-    until-row-requires
+    until-lines-requires
     enum-known-operator-6
-    mul-somewhere-row
-    shared-slice-read-somewhere-row
-    somewhere-row-requires
+    somewhere-line-requires
     enum-told-2
     enum-known-operator-7
-    mul-and-row-3
-    shared-slice-read-and-row-3
-    mul-and-row-4
-    shared-slice-read-and-row-4
-    and-row-requires-2
+    and-lines-requires-2
     enum-known-operator-8
-    mul-eventually-row
-    shared-slice-read-eventually-row
-    eventually-row-requires
+    eventually-line-requires
     enum-known-operator-9
-    mul-eventually-row-2
-    shared-slice-read-eventually-row-2
-    eventually-row-requires-2
+    eventually-line-requires-2
     enum-known-operator-10
-    mul-somewhere-row-2
-    shared-slice-read-somewhere-row-2
-    somewhere-row-requires-2
+    somewhere-line-requires-2
     same-length
     returns
     same-length-2
