@@ -17,25 +17,25 @@ ghost use Rattle.sheet.specs.Lines.{linesFrom};
 ghost use Rattle.sheet.specs.Layout.{roadAt, headChecked, roadsFrom, samplesFrom, endChecked};
 ghost use Rattle.sheet.specs.Checking.{sizesOf, headSaid, stageSaid, tableSaid, mapped, lineCount, roadChecked};
 
-pub struct Sizes {
+pub(crate) struct Sizes {
     pub places: usize,
     pub signals: usize,
     pub samples: usize,
 }
 
-pub enum Head {
+pub(crate) enum Head {
     Sizes(Sizes),
     Refused(Fault, usize),
 }
 
 // One number that a part tells: the payload of a road, the index after all roads or after the samples, the index of the end.
-pub enum Stage {
+pub(crate) enum Stage {
     Passed(usize),
     Refused(Fault, usize),
 }
 
 // How many lines there are, and the index after the last.
-pub enum Table {
+pub(crate) enum Table {
     Lines(usize, usize),
     Refused(Fault, usize),
 }
