@@ -7,3 +7,4 @@ pub mod line;
 pub mod operator;
 mod stages;
 pub mod survey;
+pub mod word;

@@ -1,32 +1,28 @@
 -- Kind, count, then the words after it: each test of the code decides one of the definition's.
 use mathlib.Core.Path.{_≡_, sym, ap, _∙_}
 use mathlib.Core.Bool.{true}
-use borrow.Author.Tests.{eq-eqb, ne-eqb}
+use borrow.Author.Tests.{eq-eqb, ne-eqb, not-true, not-false}
 use Rattle.words.specs.Word.{payloadOf}
 use Rattle.words.specs.Bytes.{wordsOf}
 use Rattle.sheet.specs.Checked.{isKind}
-use Rattle.sheet.proofs.Tests.{kind-told, other-kind, same-kind}
+use Rattle.sheet.proofs.Tests.{kind-told}
 use Rattle.lookup.specs.Lookup.{wholeEnd}
 use borrow.Author.Needs.{needs}
 use Rattle.lookup.proofs.whole_end.Statement.{statement}
 use Rattle.lookup.proofs.whole_end.Tie as tie
 
-word-or-zero-requires : tie.Need-word-or-zero-requires
-word-or-zero-requires c κs = search needs
-
-kind-requires : tie.Need-kind-requires
-kind-requires c κs = search needs
+is-kind-requires : tie.Need-is-kind-requires
+is-kind-requires c κs = search needs
 
 returns : tie.Need-returns
 unfolding wholeEnd
-returns c =
-    let g = c .before .before .before .before .args in
-    simp (other-kind (wordsOf (g .answer .now)) (g .at) (c .before .kind .ensures) (c .before .before .word-or-zero .ensures) 15 (c .if1 .taken))
+returns c = simp (sym (c .before .is-kind .ensures) ∙ not-true _ (c .if1 .taken))
 
-kind-15 : (c : tie.Else1) → isKind 15 (wordsOf (c .before .before .before .before .args .answer .now)) (c .before .before .before .before .args .at) ≡ true
-kind-15 c =
-    let g = c .before .before .before .before .args in
-    same-kind (wordsOf (g .answer .now)) (g .at) (c .before .kind .ensures) (c .before .before .word-or-zero .ensures) 14 (c .if1 .left)
+kind-15 : (c : tie.Else1) → isKind 15 (wordsOf (c .before .before .before .args .answer .now)) (c .before .before .before .args .at) ≡ true
+kind-15 c = sym (c .before .is-kind .ensures) ∙ not-false _ (c .if1 .left)
+
+word-or-zero-requires : tie.Need-word-or-zero-requires
+word-or-zero-requires c κs = search needs
 
 payload-requires : tie.Need-payload-requires
 payload-requires c κs = search needs
@@ -37,29 +33,27 @@ cast-if2 c = search needs
 returns-2 : tie.Need-returns-2
 unfolding wholeEnd
 returns-2 c =
-    let read = c .before .before in
-    simp (kind-15 read, ← read .before .before .word-or-zero .ensures, ← c .before .payload .ensures, ne-eqb _ _ (c .if2 .taken))
+    simp (kind-15 (c .before .before .before), ← c .before .before .word-or-zero .ensures, ← c .before .payload .ensures, ne-eqb _ _ (c .if2 .taken))
 
 zeros-after-requires : tie.Need-zeros-after-requires
 zeros-after-requires c κs =
-    let read = c .before .before in
-    let g = read .before .before .before .before .args in
-    kind-told 15 (wordsOf (g .answer .now)) (g .at) (kind-15 read) .0
+    let end = c .before .before .before in
+    let g = end .before .before .before .args in
+    kind-told 15 (wordsOf (g .answer .now)) (g .at) (kind-15 end) .0
 
 returns-3 : tie.Need-returns-3
 unfolding wholeEnd
 returns-3 c =
-    let read = c .before .before .before in
-    let counted = ap payloadOf (sym (read .before .before .word-or-zero .ensures)) ∙ sym (c .before .before .payload .ensures) ∙ c .before .if2 .left in
-    c .zeros-after .ensures ∙ simp (kind-15 read, eq-eqb _ _ counted)
+    let counted = ap payloadOf (sym (c .before .before .before .word-or-zero .ensures)) ∙ sym (c .before .before .payload .ensures) ∙ c .before .if2 .left in
+    c .zeros-after .ensures ∙ simp (kind-15 (c .before .before .before .before), eq-eqb _ _ counted)
 
 pub whole-end-spec : {M : Type 1} → statement M
 whole-end-spec =
     tie.close
     (tie.spec
-    word-or-zero-requires
-    kind-requires
+    is-kind-requires
     returns
+    word-or-zero-requires
     payload-requires
     cast-if2
     returns-2
