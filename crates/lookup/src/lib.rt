@@ -5,6 +5,7 @@ use sheet::limits::MOST_LINES;
 use sheet::limits::MOST_PLACES;
 use sheet::limits::MOST_SAMPLES;
 use sheet::limits::within;
+use sheet::word::is_end;
 use sheet::word::is_kind;
 ghost use mathlib.Core.Path.{_≡_};
 ghost use Prim.Native.Nat.{_+_, _*_, _<_, _^_};
@@ -160,10 +161,7 @@ fn zeros_after(answer: &[u8], at: usize) -> bool
 fn whole_end(answer: &[u8], at: usize) -> bool
     ensures { λ r. ⌜ r ≡ wholeEnd (wordsOf (now (answer .entry))) at ⌝ }
 {
-    if !is_kind(answer, at, 15) {
-        return false;
-    }
-    if words::payload(words::word_or_zero(answer, at)) as usize != at {
+    if !is_end(answer, at) {
         return false;
     }
     zeros_after(answer, at)

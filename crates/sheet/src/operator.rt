@@ -113,7 +113,7 @@ fn read_constant(s: &[u8], at: usize) -> ReadConstant
     ReadConstant::Constant(words::sample(words::word_or_zero(s, at)))
 }
 
-// Two bounds, lower at most upper; what is wrong with them is told at the place of the upper.
+// Two bounds, the lower at most the upper, which else is told at its place.
 fn ordered_bounds(lower: u32, upper: u32, place: usize) -> ReadBounds
     ensures { λ r. ⌜ boundsSaid r ≡ require (leb lower upper) 12 place (accepted (lower, upper)) ⌝ }
 {

@@ -7,6 +7,7 @@ use crate::limits::MOST_SIGNALS;
 use crate::limits::within;
 use crate::line::Decoded;
 use crate::line::decode_line;
+use crate::word::is_end;
 use crate::word::is_kind;
 use crate::word::spare_bit_zero;
 ghost use mathlib.Core.Path.{_≡_};
@@ -171,10 +172,7 @@ pub(crate) fn check_lines(s: &[u8], start: usize, signals: usize, samples: usize
 pub(crate) fn check_end(s: &[u8], at: usize) -> Stage
     ensures { λ r. ⌜ stageSaid r ≡ endChecked (wordsOf (now (s .entry))) at at ⌝ }
 {
-    if !is_kind(s, at, 15) {
-        return Stage::Refused(Fault::NotEnd, at);
-    }
-    if words::payload(words::word_or_zero(s, at)) as usize != at {
+    if !is_end(s, at) {
         return Stage::Refused(Fault::NotEnd, at);
     }
     let after = at + 1;
