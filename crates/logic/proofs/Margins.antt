@@ -22,20 +22,20 @@ module _ {A : Type 0} (le : A → A → Bool) (b t : A)
   other : (x y : A) → T (not (le x y)) → T (le y x)
   other x y h = ⊎-elim (λ k. absurd (T-not (le x y) h k)) (λ k. k) (total x y)
 
-  -- the lesser of two is one of them, below both; the greater likewise
-  pub meet-by : (P : A → Type 0) (x y : A) → (T (le x y) → P x) → (T (le y x) → P y) → P (cond (le x y) x y)
-  meet-by P x y f g = go (le x y) f (λ h. g (other x y h))
+  -- what is chosen by a comparison
+  chosen-by : (P : A → Type 0) (x y u v : A) → (T (le x y) → P u) → (T (le y x) → P v) → P (cond (le x y) u v)
+  chosen-by P x y u v f g = go (le x y) f (λ h. g (other x y h))
     where
-      go : (c : Bool) → (T c → P x) → (T (not c) → P y) → P (cond c x y)
+      go : (c : Bool) → (T c → P u) → (T (not c) → P v) → P (cond c u v)
       go true f g = f tt
       go false f g = g tt
 
+  -- the lesser of two is one of them, below both; the greater likewise
+  pub meet-by : (P : A → Type 0) (x y : A) → (T (le x y) → P x) → (T (le y x) → P y) → P (cond (le x y) x y)
+  meet-by P x y = chosen-by P x y x y
+
   pub join-by : (P : A → Type 0) (x y : A) → (T (le x y) → P y) → (T (le y x) → P x) → P (cond (le x y) y x)
-  join-by P x y f g = go (le x y) f (λ h. g (other x y h))
-    where
-      go : (c : Bool) → (T c → P y) → (T (not c) → P x) → P (cond c y x)
-      go true f g = f tt
-      go false f g = g tt
+  join-by P x y = chosen-by P x y y x
 
   -- a relation that the order may be put before and after is kept
   pub keeps : (R : A → A → Type 0) → ((x y z : A) → T (le x y) → R y z → R x z) → ((x y z : A) → R x y → T (le y z) → R x z) → R t t → R b b

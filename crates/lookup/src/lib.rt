@@ -5,6 +5,8 @@ use sheet::limits::MOST_LINES;
 use sheet::limits::MOST_PLACES;
 use sheet::limits::MOST_SAMPLES;
 use sheet::limits::within;
+use sheet::word::is_end;
+use sheet::word::is_kind;
 ghost use mathlib.Core.Path.{_≡_};
 ghost use Prim.Native.Nat.{_+_, _*_, _<_, _^_};
 ghost use lib.Dec.{ltb, eqb};
@@ -66,7 +68,7 @@ fn samples(answer: &[u8]) -> usize
 fn whole_head(answer: &[u8]) -> bool
     ensures { λ r. ⌜ r ≡ wholeHead (wordsOf (now (answer .entry))) ⌝ }
 {
-    if words::kind(words::word_or_zero(answer, 0)) != 13 {
+    if !is_kind(answer, 0, 13) {
         return false;
     }
     if !within(places(answer), MOST_PLACES) {
@@ -96,11 +98,10 @@ fn whole_line(answer: &[u8], at: usize) -> bool
     requires { ⌜ at < 2 ^ 28 ⌝ }
     ensures { λ r. ⌜ r ≡ wholeLineAt (wordsOf (now (answer .entry))) at ⌝ }
 {
-    let first = words::word_or_zero(answer, at);
-    if words::kind(first) != 14 {
+    if !is_kind(answer, at, 14) {
         return false;
     }
-    if first / 4096 % 65536 != 0 {
+    if words::word_or_zero(answer, at) / 4096 % 65536 != 0 {
         return false;
     }
     let length = length_at(answer, at);
@@ -160,11 +161,7 @@ fn zeros_after(answer: &[u8], at: usize) -> bool
 fn whole_end(answer: &[u8], at: usize) -> bool
     ensures { λ r. ⌜ r ≡ wholeEnd (wordsOf (now (answer .entry))) at ⌝ }
 {
-    let end = words::word_or_zero(answer, at);
-    if words::kind(end) != 15 {
-        return false;
-    }
-    if words::payload(end) as usize != at {
+    if !is_end(answer, at) {
         return false;
     }
     zeros_after(answer, at)

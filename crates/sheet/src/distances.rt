@@ -155,7 +155,7 @@ fn find_distances(s: &[u8], places: usize, roads: usize, table: &mut [u8])
 }
 
 // The distances of all places along a sheet's roads, row by row, and zeros in all the bytes after them, whatever these held.
-pub fn fill_distances(s: &[u8], places: usize, roads: usize, table: &mut [u8])
+pub(crate) fn fill_distances(s: &[u8], places: usize, roads: usize, table: &mut [u8])
     requires { ⌜ ((r : ℕ) → r < roads → GoodRoad (wordsOf (now s)) places r) × (places * places ≤ length (numbersOf (wordsOf (now table)))) ⌝ }
     ensures numbers { λ _. ⌜ numbersOf (wordsOf (now (table .exit))) ≡ padded (distanceTable (networkOf (wordsOf (now (s .entry))) places roads)) (length (numbersOf (wordsOf (now (table .entry))))) ⌝ }
     ensures tail { λ _. ⌜ drop (places * places * 8) (now (table .exit)) ≡ replicate (length (now (table .entry)) - places * places * 8) 0 ⌝ }

@@ -4,13 +4,13 @@ ghost use Rattle.sheet.specs.Checked.{between};
 
 pub const MOST_PLACES: usize = 64;
 
-pub const MOST_SIGNALS: usize = 16;
+pub(crate) const MOST_SIGNALS: usize = 16;
 
 pub const MOST_SAMPLES: usize = 1024;
 
 pub const MOST_LINES: usize = 64;
 
-pub const LEAST_DISTANCES: usize = 4096;
+pub(crate) const LEAST_DISTANCES: usize = 4096;
 
 // Of a size: at least 1, and at most its limit.
 pub fn within(x: usize, most: usize) -> bool

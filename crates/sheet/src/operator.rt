@@ -1,11 +1,14 @@
 // The operator of a line: its code, operands and parameters, read from the line word and the words after it.
 use crate::fault::Fault;
+use crate::word::is_kind;
+use crate::word::spare_bit_zero;
 ghost use mathlib.Core.Path.{_≡_};
 ghost use mathlib.Core.Bool.{_&&_};
 ghost use Prim.Native.Nat.{_+_, _≤_, _<_, _^_};
-ghost use lib.Dec.{ltb};
+ghost use lib.Dec.{ltb, leb};
 ghost use lib.ListN.{length};
 ghost use Rattle.words.specs.Bytes.{wordsOf};
+ghost use Rattle.sheet.specs.Checked.{accepted, require};
 ghost use Rattle.sheet.specs.Lines.{constantAt, boundsAt, operatorAt};
 ghost use Rattle.sheet.specs.Decoding.{operatorSaid, constantSaid, boundsSaid, readSaid, fieldsOf, operatorOf, plainRead, atomRead, boundedRead};
 
@@ -101,14 +104,23 @@ fn fields_of(w: u32) -> Fields
 fn read_constant(s: &[u8], at: usize) -> ReadConstant
     ensures { λ r. ⌜ constantSaid r ≡ constantAt (wordsOf (now (s .entry))) at ⌝ }
 {
-    let w = words::word_or_zero(s, at);
-    if words::kind(w) != 8 {
+    if !is_kind(s, at, 8) {
         return ReadConstant::Refused(Fault::LineParameter, at);
     }
-    if w / 134217728 % 2 != 0 {
+    if !spare_bit_zero(s, at) {
         return ReadConstant::Refused(Fault::LineParameter, at);
     }
-    ReadConstant::Constant(words::sample(w))
+    ReadConstant::Constant(words::sample(words::word_or_zero(s, at)))
+}
+
+// Two bounds, the lower at most the upper, which else is told at its place.
+fn ordered_bounds(lower: u32, upper: u32, place: usize) -> ReadBounds
+    ensures { λ r. ⌜ boundsSaid r ≡ require (leb lower upper) 12 place (accepted (lower, upper)) ⌝ }
+{
+    if upper < lower {
+        return ReadBounds::Refused(Fault::LineParameter, place);
+    }
+    ReadBounds::Bounds(Bounds { lower, upper })
 }
 
 // The lower and the upper bound of codes 5, 6, 7, 9, 10 and 11.
@@ -116,21 +128,16 @@ fn read_bounds(s: &[u8], at: usize) -> ReadBounds
     requires { ⌜ at ≤ length (wordsOf (now s)) ⌝ }
     ensures { λ r. ⌜ boundsSaid r ≡ boundsAt (wordsOf (now (s .entry))) at ⌝ }
 {
-    let first = words::word_or_zero(s, at);
-    if words::kind(first) != 6 {
+    if !is_kind(s, at, 6) {
         return ReadBounds::Refused(Fault::LineParameter, at);
     }
     let next = at + 1;
-    let second = words::word_or_zero(s, next);
-    if words::kind(second) != 7 {
+    if !is_kind(s, next, 7) {
         return ReadBounds::Refused(Fault::LineParameter, next);
     }
-    let lower = words::payload(first);
-    let upper = words::payload(second);
-    if upper < lower {
-        return ReadBounds::Refused(Fault::LineParameter, next);
-    }
-    ReadBounds::Bounds(Bounds { lower, upper })
+    let lower = words::payload(words::word_or_zero(s, at));
+    let upper = words::payload(words::word_or_zero(s, next));
+    ordered_bounds(lower, upper, next)
 }
 
 // The table of codes. A parameter that a code does not have counts for nothing.

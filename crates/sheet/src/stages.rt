@@ -7,6 +7,9 @@ use crate::limits::MOST_SIGNALS;
 use crate::limits::within;
 use crate::line::Decoded;
 use crate::line::decode_line;
+use crate::word::is_end;
+use crate::word::is_kind;
+use crate::word::spare_bit_zero;
 ghost use mathlib.Core.Path.{_≡_};
 ghost use mathlib.Core.List.{[]};
 ghost use Prim.Native.Nat.{_≤_, _<_};
@@ -17,25 +20,25 @@ ghost use Rattle.sheet.specs.Lines.{linesFrom};
 ghost use Rattle.sheet.specs.Layout.{roadAt, headChecked, roadsFrom, samplesFrom, endChecked};
 ghost use Rattle.sheet.specs.Checking.{sizesOf, headSaid, stageSaid, tableSaid, mapped, lineCount, roadChecked};
 
-pub struct Sizes {
+pub(crate) struct Sizes {
     pub places: usize,
     pub signals: usize,
     pub samples: usize,
 }
 
-pub enum Head {
+pub(crate) enum Head {
     Sizes(Sizes),
     Refused(Fault, usize),
 }
 
 // One number that a part tells: the payload of a road, the index after all roads or after the samples, the index of the end.
-pub enum Stage {
+pub(crate) enum Stage {
     Passed(usize),
     Refused(Fault, usize),
 }
 
 // How many lines there are, and the index after the last.
-pub enum Table {
+pub(crate) enum Table {
     Lines(usize, usize),
     Refused(Fault, usize),
 }
@@ -53,11 +56,10 @@ fn sizes_of(w: u32) -> Sizes
 pub(crate) fn check_head(s: &[u8]) -> Head
     ensures { λ r. ⌜ headSaid r ≡ headChecked (wordsOf (now (s .entry))) ⌝ }
 {
-    let w = words::word_or_zero(s, 0);
-    if words::kind(w) != 1 {
+    if !is_kind(s, 0, 1) {
         return Head::Refused(Fault::NotHead, 0);
     }
-    let sizes = sizes_of(w);
+    let sizes = sizes_of(words::word_or_zero(s, 0));
     if !within(sizes.places, MOST_PLACES) {
         return Head::Refused(Fault::SizeOutOfLimits, 0);
     }
@@ -91,11 +93,10 @@ fn check_road(s: &[u8], at: usize, places: usize, last: usize) -> Stage
         return Stage::Refused(Fault::RoadOrder, at);
     }
     let next = at + 1;
-    let weight = words::word_or_zero(s, next);
-    if words::kind(weight) != 3 {
+    if !is_kind(s, next, 3) {
         return Stage::Refused(Fault::RoadWeight, next);
     }
-    if words::payload(weight) == 0 {
+    if words::payload(words::word_or_zero(s, next)) == 0 {
         return Stage::Refused(Fault::RoadWeight, next);
     }
     Stage::Passed(payload)
@@ -107,7 +108,7 @@ pub(crate) fn check_roads(s: &[u8], places: usize) -> Stage
 {
     let mut at: usize = 1;
     let mut last: usize = 0;
-    while words::kind(words::word_or_zero(s, at)) == 2 {
+    while is_kind(s, at, 2) {
         match check_road(s, at, places, last) {
             Stage::Refused(fault, place) => return Stage::Refused(fault, place),
             Stage::Passed(payload) => {
@@ -126,12 +127,12 @@ pub(crate) fn check_samples(s: &[u8], start: usize, count: usize) -> Stage
     let mut at = start;
     let mut left = count;
     while 0 < left {
-        let w = words::word_or_zero(s, at);
-        let kind = words::kind(w);
-        if kind != 4 {
+        let right_kind = is_kind(s, at, 4);
+        let spare_zero = spare_bit_zero(s, at);
+        if !right_kind {
             return Stage::Refused(Fault::NotSample, at);
         }
-        if w / 134217728 % 2 != 0 {
+        if !spare_zero {
             return Stage::Refused(Fault::SampleSpareBit, at);
         }
         at += 1;
@@ -148,7 +149,7 @@ pub(crate) fn check_lines(s: &[u8], start: usize, signals: usize, samples: usize
     let mut lengths = [0u32; MOST_LINES];
     let mut lines: usize = 0;
     let mut at = start;
-    while words::kind(words::word_or_zero(s, at)) == 5 {
+    while is_kind(s, at, 5) {
         if lines == MOST_LINES {
             return Table::Refused(Fault::LineCount, at);
         }
@@ -171,11 +172,7 @@ pub(crate) fn check_lines(s: &[u8], start: usize, signals: usize, samples: usize
 pub(crate) fn check_end(s: &[u8], at: usize) -> Stage
     ensures { λ r. ⌜ stageSaid r ≡ endChecked (wordsOf (now (s .entry))) at at ⌝ }
 {
-    let w = words::word_or_zero(s, at);
-    if words::kind(w) != 15 {
-        return Stage::Refused(Fault::NotEnd, at);
-    }
-    if words::payload(w) as usize != at {
+    if !is_end(s, at) {
         return Stage::Refused(Fault::NotEnd, at);
     }
     let after = at + 1;

@@ -1,67 +1,42 @@
--- Kind, count, then the words after it: each test of the code decides one of the definition's.
-use mathlib.Core.Path.{_≡_, sym, ap, _∙_}
-use mathlib.Core.Bool.{true}
-use borrow.Author.Tests.{eq-eqb, ne-eqb}
+-- The end, then the words after it: each test of the code decides one of the definition's.
+use mathlib.Core.Path.{_≡_, refl, sym, _∙_}
+use mathlib.Core.Bool.{Bool, true, false, _&&_}
+use lib.Dec.{eqb}
+use borrow.Author.Tests.{not-true, not-false}
 use Rattle.words.specs.Word.{payloadOf}
 use Rattle.words.specs.Bytes.{wordsOf}
-use Rattle.sheet.specs.Checked.{isKind}
-use Rattle.sheet.proofs.Tests.{kind-told, other-kind, same-kind}
+use Rattle.sheet.specs.Checked.{wordAt, isKind}
+use Rattle.sheet.proofs.Tests.{and-true, kind-told}
 use Rattle.lookup.specs.Lookup.{wholeEnd}
 use borrow.Author.Needs.{needs}
 use Rattle.lookup.proofs.whole_end.Statement.{statement}
 use Rattle.lookup.proofs.whole_end.Tie as tie
 
-word-or-zero-requires : tie.Need-word-or-zero-requires
-word-or-zero-requires c κs = search needs
+is-end-requires : tie.Need-is-end-requires
+is-end-requires c κs = search needs
 
-kind-requires : tie.Need-kind-requires
-kind-requires c κs = search needs
+-- the code tests kind and count in one
+first-both : (a b c : Bool) → (a && (b && c)) ≡ ((a && b) && c)
+first-both true b c = refl
+first-both false b c = refl
 
 returns : tie.Need-returns
 unfolding wholeEnd
-returns c =
-    let g = c .before .before .before .before .args in
-    simp (other-kind (wordsOf (g .answer .now)) (g .at) (c .before .kind .ensures) (c .before .before .word-or-zero .ensures) 15 (c .if1 .taken))
+returns c = simp (first-both, sym (c .before .is-end .ensures) ∙ not-true _ (c .if1 .taken))
 
-kind-15 : (c : tie.Else1) → isKind 15 (wordsOf (c .before .before .before .before .args .answer .now)) (c .before .before .before .before .args .at) ≡ true
-kind-15 c =
-    let g = c .before .before .before .before .args in
-    same-kind (wordsOf (g .answer .now)) (g .at) (c .before .kind .ensures) (c .before .before .word-or-zero .ensures) 14 (c .if1 .left)
-
-payload-requires : tie.Need-payload-requires
-payload-requires c κs = search needs
-
-cast-if2 : tie.Need-cast-if2
-cast-if2 c = search needs
-
-returns-2 : tie.Need-returns-2
-unfolding wholeEnd
-returns-2 c =
-    let read = c .before .before in
-    simp (kind-15 read, ← read .before .before .word-or-zero .ensures, ← c .before .payload .ensures, ne-eqb _ _ (c .if2 .taken))
+end-there : (c : tie.Else1) →
+    let g = c .before .before .before .args in
+    (isKind 15 (wordsOf (g .answer .now)) (g .at) && eqb (payloadOf (wordAt (wordsOf (g .answer .now)) (g .at))) (g .at)) ≡ true
+end-there c = sym (c .before .is-end .ensures) ∙ not-false _ (c .if1 .left)
 
 zeros-after-requires : tie.Need-zeros-after-requires
 zeros-after-requires c κs =
-    let read = c .before .before in
-    let g = read .before .before .before .before .args in
-    kind-told 15 (wordsOf (g .answer .now)) (g .at) (kind-15 read) .0
+    let g = c .before .before .before .args in
+    kind-told 15 (wordsOf (g .answer .now)) (g .at) (and-true _ _ (end-there c) .0) .0
 
-returns-3 : tie.Need-returns-3
+returns-2 : tie.Need-returns-2
 unfolding wholeEnd
-returns-3 c =
-    let read = c .before .before .before in
-    let counted = ap payloadOf (sym (read .before .before .word-or-zero .ensures)) ∙ sym (c .before .before .payload .ensures) ∙ c .before .if2 .left in
-    c .zeros-after .ensures ∙ simp (kind-15 read, eq-eqb _ _ counted)
+returns-2 c = c .zeros-after .ensures ∙ simp (first-both, end-there (c .before))
 
 pub whole-end-spec : {M : Type 1} → statement M
-whole-end-spec =
-    tie.close
-    (tie.spec
-    word-or-zero-requires
-    kind-requires
-    returns
-    payload-requires
-    cast-if2
-    returns-2
-    zeros-after-requires
-    returns-3)
+whole-end-spec = tie.close (tie.spec is-end-requires returns zeros-after-requires returns-2)

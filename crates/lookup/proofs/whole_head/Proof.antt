@@ -5,24 +5,20 @@ use borrow.Author.Tests.{not-true, not-false}
 use Rattle.words.specs.Bytes.{wordsOf}
 use Rattle.sheet.specs.Limits.{mostPlaces, mostSamples, mostLines}
 use Rattle.sheet.specs.Checked.{between, isKind}
-use Rattle.sheet.proofs.Tests.{other-kind, same-kind}
 use Rattle.lookup.specs.Lookup.{headPlaces, wholeHead}
 use borrow.Author.Needs.{needs}
 use Rattle.lookup.proofs.whole_head.Statement.{statement}
 use Rattle.lookup.proofs.whole_head.Tie as tie
 
-word-or-zero-requires : tie.Need-word-or-zero-requires
-word-or-zero-requires c κs = search needs
-
-kind-requires : tie.Need-kind-requires
-kind-requires c κs = search needs
+is-kind-requires : tie.Need-is-kind-requires
+is-kind-requires c κs = search needs
 
 returns : tie.Need-returns
 unfolding wholeHead
-returns c = simp (other-kind (wordsOf (c .before .before .before .before .args .answer .now)) 0 (c .before .kind .ensures) (c .before .before .word-or-zero .ensures) 13 (c .if1 .taken))
+returns c = simp (sym (c .before .is-kind .ensures) ∙ not-true _ (c .if1 .taken))
 
-kind-13 : (c : tie.Else1) → isKind 13 (wordsOf (c .before .before .before .before .args .answer .now)) 0 ≡ true
-kind-13 c = same-kind (wordsOf (c .before .before .before .before .args .answer .now)) 0 (c .before .kind .ensures) (c .before .before .word-or-zero .ensures) 12 (c .if1 .left)
+kind-13 : (c : tie.Else1) → isKind 13 (wordsOf (c .before .before .before .args .answer .now)) 0 ≡ true
+kind-13 c = sym (c .before .is-kind .ensures) ∙ not-false _ (c .if1 .left)
 
 places-requires : tie.Need-places-requires
 places-requires c κs = search needs
@@ -30,7 +26,7 @@ places-requires c κs = search needs
 within-requires : tie.Need-within-requires
 within-requires c κs = search needs
 
-places-within : (c : tie.Else2) → between 1 mostPlaces (headPlaces (wordsOf (c .before .before .before .before .before .before .before .args .answer .now))) ≡ true
+places-within : (c : tie.Else2) → between 1 mostPlaces (headPlaces (wordsOf (c .before .before .before .before .before .before .args .answer .now))) ≡ true
 places-within c = sym (ap (between 1 mostPlaces) (c .before .before .places .ensures)) ∙ sym (c .before .within .ensures) ∙ not-false _ (c .if2 .left)
 
 returns-2 : tie.Need-returns-2
@@ -77,8 +73,7 @@ pub whole-head-spec : {M : Type 1} → statement M
 whole-head-spec =
     tie.close
     (tie.spec
-    word-or-zero-requires
-    kind-requires
+    is-kind-requires
     returns
     places-requires
     within-requires

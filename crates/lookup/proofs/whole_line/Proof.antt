@@ -8,7 +8,6 @@ use borrow.Author.Tests.{eq-eqb, ne-eqb, not-true, not-false}
 use Rattle.words.specs.Word.{bits}
 use Rattle.words.specs.Bytes.{wordsOf}
 use Rattle.sheet.specs.Checked.{between, wordAt, isKind}
-use Rattle.sheet.proofs.Tests.{other-kind, same-kind}
 use Rattle.values.specs.Said.{saidBy}
 use Rattle.lookup.specs.Lookup.{isSaid, all, headSamples, lengthAt, wholeLineAt}
 use Rattle.lookup.proofs.Walk.{line-size}
@@ -16,29 +15,25 @@ use borrow.Author.Needs.{needs}
 use Rattle.lookup.proofs.whole_line.Statement.{statement}
 use Rattle.lookup.proofs.whole_line.Tie as tie
 
-word-or-zero-requires : tie.Need-word-or-zero-requires
-word-or-zero-requires c κs = search needs
-
-kind-requires : tie.Need-kind-requires
-kind-requires c κs = search needs
+is-kind-requires : tie.Need-is-kind-requires
+is-kind-requires c κs = search needs
 
 returns : tie.Need-returns
 unfolding wholeLineAt
-returns c =
-    let g = c .before .before .before .before .args in
-    simp (other-kind (wordsOf (g .answer .now)) (g .at) (c .before .kind .ensures) (c .before .before .word-or-zero .ensures) 14 (c .if1 .taken))
+returns c = simp (sym (c .before .is-kind .ensures) ∙ not-true _ (c .if1 .taken))
 
-kind-14 : (c : tie.Else1) → isKind 14 (wordsOf (c .before .before .before .before .args .answer .now)) (c .before .before .before .before .args .at) ≡ true
-kind-14 c =
-    let g = c .before .before .before .before .args in
-    same-kind (wordsOf (g .answer .now)) (g .at) (c .before .kind .ensures) (c .before .before .word-or-zero .ensures) 13 (c .if1 .left)
+kind-14 : (c : tie.Else1) → isKind 14 (wordsOf (c .before .before .before .args .answer .now)) (c .before .before .before .args .at) ≡ true
+kind-14 c = sym (c .before .is-kind .ensures) ∙ not-false _ (c .if1 .left)
+
+word-or-zero-requires : tie.Need-word-or-zero-requires
+word-or-zero-requires c κs = search needs
 
 returns-2 : tie.Need-returns-2
 unfolding wholeLineAt
-returns-2 c = simp (kind-14 (c .before), ← c .before .before .before .word-or-zero .ensures, ne-eqb _ 0 (c .if2 .taken))
+returns-2 c = simp (kind-14 (c .before .before), ← c .before .word-or-zero .ensures, ne-eqb _ 0 (c .if2 .taken))
 
 spare-zero : (c : tie.Else2) → eqb (bits 12 16 (wordAt (wordsOf (c .before .before .before .before .before .args .answer .now)) (c .before .before .before .before .before .args .at))) 0 ≡ true
-spare-zero c = eq-eqb _ 0 (ap (bits 12 16) (sym (c .before .before .before .word-or-zero .ensures)) ∙ c .if2 .left)
+spare-zero c = eq-eqb _ 0 (ap (bits 12 16) (sym (c .before .word-or-zero .ensures)) ∙ c .if2 .left)
 
 length-told : (c : tie.After-within)
     → c .within .result ≡ between 1 (headSamples (wordsOf (c .before .before .before .before .before .before .before .before .args .answer .now))) (lengthAt (wordsOf (c .before .before .before .before .before .before .before .before .args .answer .now)) (c .before .before .before .before .before .before .before .before .args .at))
@@ -57,7 +52,7 @@ returns-3 : tie.Need-returns-3
 unfolding wholeLineAt
 returns-3 c =
     let spare = c .before .before .before .before in
-    simp (kind-14 (spare .before), spare-zero spare, sym (length-told (c .before)) ∙ not-true _ (c .if3 .taken))
+    simp (kind-14 (spare .before .before), spare-zero spare, sym (length-told (c .before)) ∙ not-true _ (c .if3 .taken))
 
 few-words : (c : tie.After-places) → c .before .before .before .before .length-at .result * c .places .result ≤ 4095 * 255
 few-words c =
@@ -84,15 +79,15 @@ returns-4 c =
     let within = c .before .before .before in
     c .whole-verdicts .ensures
     ∙ ap₂ (λ (m n : ℕ). all (λ j. isSaid (saidBy (wordAt (wordsOf (g .answer .now)) (g .at + 1 + j)))) (m * n)) (within .before .before .length-at .ensures) (c .before .places .ensures)
-    ∙ simp (kind-14 (spare .before), spare-zero spare, sym (length-told within) ∙ not-false _ (c .before .before .if3 .left))
+    ∙ simp (kind-14 (spare .before .before), spare-zero spare, sym (length-told within) ∙ not-false _ (c .before .before .if3 .left))
 
 pub whole-line-spec : {M : Type 1} → statement M
 whole-line-spec =
     tie.close
     (tie.spec
-    word-or-zero-requires
-    kind-requires
+    is-kind-requires
     returns
+    word-or-zero-requires
     returns-2
     length-at-requires
     samples-requires

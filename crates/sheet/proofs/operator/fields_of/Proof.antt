@@ -1,7 +1,5 @@
 -- The fields are read off by division and remainder.
-use mathlib.Core.Path.{_≡_, ap}
-use Prim.Native.Nat.{ℕ, _/_, _%_}
-use native.Mathlib.Omega.{arith}
+use native.Mathlib.Nat.{div-one}
 use borrow.Author.Needs.{needs}
 use Rattle.sheet.specs.Decoding.{fieldsOf}
 use Rattle.sheet.proofs.operator.fields_of.Statement.{statement}
@@ -15,10 +13,7 @@ cast-t8 c = search needs
 
 returns : tie.Need-returns
 unfolding fieldsOf
-returns c =
-    let w = c .args .w in
-    let whole : w % 1024 ≡ w / 1 % 1024 = omega arith in
-    ap (λ (right : ℕ). record { code = w / 1048576 % 256; left = w / 1024 % 1024; right = right }) whole
+returns c = simp div-one
 
 pub fields-of-spec : {M : Type 1} → statement M
 fields-of-spec = tie.close (tie.spec cast-t6 cast-t8 returns)

@@ -2,18 +2,19 @@
 use Prim.Native.Nat.{ℕ, zero, suc, _≤_, zero-le}
 use mathlib.Core.Path.{_≡_, sym, ap}
 use native.Mathlib.Omega.{arith}
-use lib.IntN.{ℤ}
 use mir.Facts.{toZ-ofZ}
-use Rattle.sheet.specs.declared.operator.Bounds.{Bounds}
-use Rattle.sheet.specs.declared.operator.Fields.{Fields}
 use Rattle.sheet.specs.Codes.{codes, codeOf}
 use Rattle.sheet.specs.Decoding.{operatorWith, operatorOf}
 use Rattle.sheet.proofs.operator.operator_of.Statement.{statement}
 use Rattle.sheet.proofs.operator.operator_of.Tie as tie
 
-by-code : (f : Fields) (c : ℤ) (b : Bounds) {code : ℕ} → f .code ≡ code
-    → operatorWith (codeOf code) (f .left) (f .right) c (b .lower) (b .upper) ≡ operatorOf f c (b .lower) (b .upper)
-by-code f c b e = sym (ap (λ (n : ℕ). operatorWith (codeOf n) (f .left) (f .right) c (b .lower) (b .upper)) e)
+by-code : (c : tie.Start) {code : ℕ} →
+    let g = c .args in
+    g .fields .code ≡ code → operatorWith (codeOf code) (g .fields .left) (g .fields .right) (g .constant) (g .bounds .lower) (g .bounds .upper)
+    ≡ operatorOf (g .fields) (g .constant) (g .bounds .lower) (g .bounds .upper)
+by-code c e =
+    let g = c .args in
+    sym (ap (λ (n : ℕ). operatorWith (codeOf n) (g .fields .left) (g .fields .right) (g .constant) (g .bounds .lower) (g .bounds .upper)) e)
 
 -- none of the numbers below a bound
 abbrev NoneBelow : ℕ → ℕ → Type 0
@@ -29,54 +30,54 @@ above p q = omega arith
 
 returns : tie.Need-returns
 unfolding codes
-returns c = by-code (c .before .args .fields) (c .before .args .constant) (c .before .args .bounds) (c .match .keys1)
+returns c = by-code (c .before) (c .match .keys1)
 
 returns-2 : tie.Need-returns-2
 unfolding codes
-returns-2 c = rw (toZ-ofZ (c .before .fits .constant)) (by-code (c .before .args .fields) (c .before .args .constant) (c .before .args .bounds) (c .match .keys2))
+returns-2 c = rw (toZ-ofZ (c .before .fits .constant)) (by-code (c .before) (c .match .keys2))
 
 returns-3 : tie.Need-returns-3
 unfolding codes
-returns-3 c = rw (toZ-ofZ (c .before .fits .constant)) (by-code (c .before .args .fields) (c .before .args .constant) (c .before .args .bounds) (c .match .keys3))
+returns-3 c = rw (toZ-ofZ (c .before .fits .constant)) (by-code (c .before) (c .match .keys3))
 
 returns-4 : tie.Need-returns-4
 unfolding codes
-returns-4 c = by-code (c .before .args .fields) (c .before .args .constant) (c .before .args .bounds) (c .match .keys4)
+returns-4 c = by-code (c .before) (c .match .keys4)
 
 returns-5 : tie.Need-returns-5
 unfolding codes
-returns-5 c = by-code (c .before .args .fields) (c .before .args .constant) (c .before .args .bounds) (c .match .keys5)
+returns-5 c = by-code (c .before) (c .match .keys5)
 
 returns-6 : tie.Need-returns-6
 unfolding codes
-returns-6 c = by-code (c .before .args .fields) (c .before .args .constant) (c .before .args .bounds) (c .match .keys6)
+returns-6 c = by-code (c .before) (c .match .keys6)
 
 returns-7 : tie.Need-returns-7
 unfolding codes
-returns-7 c = by-code (c .before .args .fields) (c .before .args .constant) (c .before .args .bounds) (c .match .keys7)
+returns-7 c = by-code (c .before) (c .match .keys7)
 
 returns-8 : tie.Need-returns-8
 unfolding codes
-returns-8 c = by-code (c .before .args .fields) (c .before .args .constant) (c .before .args .bounds) (c .match .keys8)
+returns-8 c = by-code (c .before) (c .match .keys8)
 
 returns-9 : tie.Need-returns-9
 unfolding codes
-returns-9 c = by-code (c .before .args .fields) (c .before .args .constant) (c .before .args .bounds) (c .match .keys9)
+returns-9 c = by-code (c .before) (c .match .keys9)
 
 returns-10 : tie.Need-returns-10
 unfolding codes
-returns-10 c = by-code (c .before .args .fields) (c .before .args .constant) (c .before .args .bounds) (c .match .keys10)
+returns-10 c = by-code (c .before) (c .match .keys10)
 
 returns-11 : tie.Need-returns-11
 unfolding codes
-returns-11 c = by-code (c .before .args .fields) (c .before .args .constant) (c .before .args .bounds) (c .match .keys11)
+returns-11 c = by-code (c .before) (c .match .keys11)
 
 returns-12 : tie.Need-returns-12
 unfolding codes
 returns-12 c =
     let at-least : 11 ≤ c .before .args .fields .code = none-below (c .before .args .fields .code) 11 (c .match .rest) in
     let last : c .before .args .fields .code ≡ 11 = above at-least (c .before .pre) in
-    by-code (c .before .args .fields) (c .before .args .constant) (c .before .args .bounds) last
+    by-code (c .before) last
 
 pub operator-of-spec : {M : Type 1} → statement M
 operator-of-spec =

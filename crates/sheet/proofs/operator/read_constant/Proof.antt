@@ -1,39 +1,37 @@
 -- Kind, then bit 27: each test of the code decides one of the definition's.
 use mathlib.Core.Bool.{true}
-use mathlib.Core.Path.{_≡_}
+use mathlib.Core.Path.{_≡_, sym, _∙_, ap}
 use mir.Syntax.{w32}
 use mir.Val.{SFits}
 use mir.Facts.{toZ-ofZ}
 use borrow.Author.Needs.{needs}
-use borrow.Author.Tests.{eq-eqb, ne-eqb}
+use borrow.Author.Tests.{not-true, not-false}
 use Rattle.words.specs.Bytes.{wordsOf}
 use Rattle.words.specs.Word.{sampleOf}
 use Rattle.sheet.specs.Checked.{isKind}
 use Rattle.sheet.specs.Lines.{constantAt}
-use Rattle.sheet.proofs.Tests.{other-kind, same-kind}
 use Rattle.sheet.proofs.operator.read_constant.Statement.{statement}
 use Rattle.sheet.proofs.operator.read_constant.Tie as tie
 
-word-or-zero-requires : tie.Need-word-or-zero-requires
-word-or-zero-requires c κs = search needs
-
-kind-requires : tie.Need-kind-requires
-kind-requires c κs = search needs
+is-kind-requires : tie.Need-is-kind-requires
+is-kind-requires c κs = search needs
 
 returns : tie.Need-returns
 unfolding constantAt
-returns c =
-    let g = c .before .before .before .before .args in
-    simp (other-kind (wordsOf (g .s .now)) (g .at) (c .before .kind .ensures) (c .before .before .word-or-zero .ensures) 8 (c .if1 .taken))
+returns c = simp (sym (c .before .is-kind .ensures) ∙ not-true _ (c .if1 .taken))
 
-kind-8 : (c : tie.Else1) → isKind 8 (wordsOf (c .before .before .before .before .args .s .now)) (c .before .before .before .before .args .at) ≡ true
-kind-8 c =
-    let g = c .before .before .before .before .args in
-    same-kind (wordsOf (g .s .now)) (g .at) (c .before .kind .ensures) (c .before .before .word-or-zero .ensures) 7 (c .if1 .left)
+kind-8 : (c : tie.Else1) → isKind 8 (wordsOf (c .before .before .before .args .s .now)) (c .before .before .before .args .at) ≡ true
+kind-8 c = sym (c .before .is-kind .ensures) ∙ not-false _ (c .if1 .left)
+
+spare-bit-zero-requires : tie.Need-spare-bit-zero-requires
+spare-bit-zero-requires c κs = search needs
 
 returns-2 : tie.Need-returns-2
 unfolding constantAt
-returns-2 c = simp (kind-8 (c .before), ← c .before .before .before .word-or-zero .ensures, ne-eqb _ 0 (c .if2 .taken))
+returns-2 c = simp (kind-8 (c .before .before), sym (c .before .spare-bit-zero .ensures) ∙ not-true _ (c .if2 .taken))
+
+word-or-zero-requires : tie.Need-word-or-zero-requires
+word-or-zero-requires c κs = search needs
 
 sample-requires : tie.Need-sample-requires
 sample-requires c κs = search needs
@@ -41,12 +39,20 @@ sample-requires c κs = search needs
 returns-3 : tie.Need-returns-3
 unfolding constantAt
 returns-3 c =
-    let word = c .before .before .before .before .word-or-zero in
+    let kind = c .before .before .before .before in
+    let spare = sym (c .before .before .before .spare-bit-zero .ensures) ∙ not-false _ (c .before .before .if2 .left) in
     let fits : SFits w32 (c .sample .result) = search needs in
-    let same : c .sample .result ≡ sampleOf (word .result) = c .sample .ensures in
-    rw (toZ-ofZ fits, same) (simp (kind-8 (c .before .before), ← word .ensures, eq-eqb _ 0 (c .before .if2 .left)))
+    let same = c .sample .ensures ∙ ap sampleOf (c .before .word-or-zero .ensures) in
+    rw (toZ-ofZ fits, same) (simp (kind-8 kind, spare))
 
 pub read-constant-spec : {M : Type 1} → statement M
 read-constant-spec =
     tie.close
-    (tie.spec word-or-zero-requires kind-requires returns returns-2 sample-requires returns-3)
+    (tie.spec
+    is-kind-requires
+    returns
+    spare-bit-zero-requires
+    returns-2
+    word-or-zero-requires
+    sample-requires
+    returns-3)

@@ -9,21 +9,19 @@ use Rattle.sheet.specs.Limits.{mostPlaces, mostSignals, mostSamples}
 use Rattle.sheet.specs.Checked.{accepted, require, between}
 use Rattle.sheet.specs.Layout.{Sizes, headSizes, headChecked}
 use Rattle.sheet.specs.Checking.{sizesOf, sizesSaid}
-use Rattle.sheet.proofs.Tests.{other-kind, same-kind}
 use borrow.Author.Needs.{needs}
 use Rattle.sheet.proofs.stages.check_head.Statement.{statement}
 use Rattle.sheet.proofs.stages.check_head.Tie as tie
 
-word-or-zero-requires : tie.Need-word-or-zero-requires
-word-or-zero-requires c κs = search needs
-
-kind-requires : tie.Need-kind-requires
-kind-requires c κs = search needs
+is-kind-requires : tie.Need-is-kind-requires
+is-kind-requires c κs = search needs
 
 returns : tie.Need-returns
 unfolding headChecked
-returns c =
-    simp (other-kind (wordsOf (c .before .before .before .before .args .s .now)) 0 (c .before .kind .ensures) (c .before .before .word-or-zero .ensures) 1 (c .if1 .taken))
+returns c = simp (sym (c .before .is-kind .ensures) ∙ not-true _ (c .if1 .taken))
+
+word-or-zero-requires : tie.Need-word-or-zero-requires
+word-or-zero-requires c κs = search needs
 
 sizes-of-requires : tie.Need-sizes-of-requires
 sizes-of-requires c κs = search needs
@@ -41,13 +39,13 @@ sizes c = sizesSaid (c .sizes-of .result)
 
 sizes-read : (c : tie.After-sizes-of) → sizes c ≡ headSizes (sheet c)
 unfolding headSizes sizesOf
-sizes-read c = ap sizesSaid (c .sizes-of .ensures ∙ ap sizesOf (c .before .before .before .word-or-zero .ensures))
+sizes-read c = ap sizesSaid (c .sizes-of .ensures ∙ ap sizesOf (c .before .word-or-zero .ensures))
 
 limits-next : (c : tie.After-sizes-of) → headChecked (sheet c)
     ≡ require (between 1 mostPlaces (sizes c .places) && (between 1 mostSignals (sizes c .signals) && between 1 mostSamples (sizes c .samples))) 3 0 (accepted (sizes c))
 unfolding headChecked
 limits-next c =
-    let kind = same-kind (sheet c) 0 (c .before .before .kind .ensures) (c .before .before .before .word-or-zero .ensures) 0 (c .before .if1 .left) in
+    let kind = sym (c .before .before .before .is-kind .ensures) ∙ not-false _ (c .before .before .if1 .left) in
     simp (kind, ← sizes-read c)
 
 returns-2 : tie.Need-returns-2
@@ -88,9 +86,9 @@ pub check-head-spec : {M : Type 1} → statement M
 check-head-spec =
     tie.close
     (tie.spec
-    word-or-zero-requires
-    kind-requires
+    is-kind-requires
     returns
+    word-or-zero-requires
     sizes-of-requires
     within-requires
     returns-2

@@ -9,7 +9,7 @@ use Rattle.sheet.specs.Limits.{mostLines}
 use Rattle.sheet.specs.Checked.{accepted, isKind}
 use Rattle.sheet.specs.Decoding.{decodedSaid}
 use Rattle.sheet.specs.Checking.{mapped, lineCount}
-use Rattle.sheet.proofs.Tests.{kind-told, other-kind, same-kind}
+use Rattle.sheet.proofs.Tests.{kind-told}
 use Rattle.sheet.proofs.Lines.{Lines, lines-start, none-found, all-found, too-many, line-refused, line-passed}
 use borrow.Author.Needs.{needs}
 use Rattle.sheet.proofs.stages.check_lines.Statement.{statement}
@@ -26,42 +26,39 @@ loop-holds c =
     let g = c .before .args in
     lines-start (wordsOf (g .s .now)) (g .signals) (g .samples) (g .start)
 
-word-or-zero-requires : tie.Need-word-or-zero-requires Inv-loop μ-loop
-word-or-zero-requires c κs = search needs
-
-kind-requires : tie.Need-kind-requires Inv-loop μ-loop
-kind-requires c κs = search needs
+is-kind-requires : tie.Need-is-kind-requires Inv-loop μ-loop
+is-kind-requires c κs = search needs
 
 abbrev sheet : tie.Then1 Inv-loop μ-loop → List ℕ
-sheet c = wordsOf (c .before .before .before .before .before .args .s .now)
+sheet c = wordsOf (c .before .before .before .before .args .s .now)
 
 abbrev index : tie.Then1 Inv-loop μ-loop → ℕ
-index c = c .before .before .before .loop .at
+index c = c .before .before .loop .at
 
 kind-5 : (c : tie.Then1 Inv-loop μ-loop) → isKind 5 (sheet c) (index c) ≡ true
-kind-5 c = same-kind (sheet c) (index c) (c .before .kind .ensures) (c .before .before .word-or-zero .ensures) 4 (c .if1 .taken)
+kind-5 c = sym (c .before .is-kind .ensures) ∙ c .if1 .taken
 
 returns : tie.Need-returns Inv-loop μ-loop
 returns c =
-    let g = c .before .before .before .before .before .before .args in
-    let l = c .before .before .before .before .loop in
+    let g = c .before .before .before .before .before .args in
+    let l = c .before .before .before .loop in
     sym (ap (mapped lineCount) (too-many (wordsOf (g .s .now)) (g .signals) (g .samples) (g .start) (l .inv) (kind-5 (c .before)) (c .if2 .taken)))
 
 slice-aggregate-decode-line : tie.Need-slice-aggregate-decode-line Inv-loop μ-loop
-slice-aggregate-decode-line c = sym (c .before .before .before .before .before .loop .inv .room)
+slice-aggregate-decode-line c = sym (c .before .before .before .before .loop .inv .room)
 
 decode-line-requires : tie.Need-decode-line-requires Inv-loop μ-loop
 decode-line-requires c κs =
     let turn = c .before .before in
-    (kind-told 5 (sheet turn) (index turn) (kind-5 turn) .0, c .before .before .before .before .before .before .before .pre)
+    (kind-told 5 (sheet turn) (index turn) (kind-5 turn) .0, c .before .before .before .before .before .before .pre)
 
 enum-known-fault : tie.Need-enum-known-fault Inv-loop μ-loop
 enum-known-fault c = search needs
 
 returns-2 : tie.Need-returns-2 Inv-loop μ-loop
 returns-2 c =
-    let g = c .before .before .before .before .before .before .before .before .before .before .before .args in
-    let l = c .before .before .before .before .before .before .before .before .before .loop in
+    let g = c .before .before .before .before .before .before .before .before .before .before .args in
+    let l = c .before .before .before .before .before .before .before .before .loop in
     let read = sym (c .before .before .before .decode-line .ensures) ∙ ap decodedSaid (c .before .fault .given .1) in
     let room = c .before .before .before .before .before in
     sym (ap (mapped lineCount) (line-refused (wordsOf (g .s .now)) (g .signals) (g .samples) (g .start) (l .inv) (kind-5 (room .before)) (room .if2 .left) read))
@@ -69,8 +66,8 @@ returns-2 c =
 enum-known-line : tie.Need-enum-known-line Inv-loop μ-loop
 enum-known-line c = search needs
 
-below : (c : tie.After-known-told2 Inv-loop μ-loop) → c .before .before .before .before .before .before .before .before .before .loop .lines < mostLines
-below c = let bounded = c .before .before .before .before .before .before .before .before .before .loop .inv .bounded in let more = c .before .before .before .before .before .if2 .left in omega arith
+below : (c : tie.After-known-told2 Inv-loop μ-loop) → c .before .before .before .before .before .before .before .before .loop .lines < mostLines
+below c = let bounded = c .before .before .before .before .before .before .before .before .loop .inv .bounded in let more = c .before .before .before .before .before .if2 .left in omega arith
 
 mul-lengths : tie.Need-mul-lengths Inv-loop μ-loop
 mul-lengths c = let few = below c in omega arith
@@ -86,27 +83,25 @@ loop-less c = let few = below c in omega arith
 
 loop-again : tie.Need-loop-again Inv-loop μ-loop
 loop-again c =
-    let g = c .before .before .before .before .before .before .before .before .before .before .before .args in
-    let l = c .before .before .before .before .before .before .before .before .before .loop in
+    let g = c .before .before .before .before .before .before .before .before .before .before .args in
+    let l = c .before .before .before .before .before .before .before .before .loop in
     let read = sym (c .before .before .before .decode-line .ensures) ∙ ap decodedSaid (c .before .line .given .1) in
     let room = c .before .before .before .before .before in
     line-passed (wordsOf (g .s .now)) (g .signals) (g .samples) (g .start) (l .inv) (kind-5 (room .before)) (room .if2 .left) read
 
-no-line : (c : tie.Else1 Inv-loop μ-loop) → isKind 5 (wordsOf (c .before .before .before .before .before .args .s .now)) (c .before .before .before .loop .at) ≡ false
-no-line c =
-    let w = wordsOf (c .before .before .before .before .before .args .s .now) in
-    other-kind w (c .before .before .before .loop .at) (c .before .kind .ensures) (c .before .before .word-or-zero .ensures) 5 (c .if1 .left)
+no-line : (c : tie.Else1 Inv-loop μ-loop) → isKind 5 (wordsOf (c .before .before .before .before .args .s .now)) (c .before .before .loop .at) ≡ false
+no-line c = sym (c .before .is-kind .ensures) ∙ c .if1 .left
 
 returns-3 : tie.Need-returns-3 Inv-loop μ-loop
 returns-3 c =
-    let g = c .before .before .before .before .before .before .args in
-    let l = c .before .before .before .before .loop in
+    let g = c .before .before .before .before .before .args in
+    let l = c .before .before .before .loop in
     sym (ap (mapped lineCount) (none-found (wordsOf (g .s .now)) (g .signals) (g .samples) (g .start) (l .inv) (no-line (c .before)) (c .if3 .taken)))
 
 returns-4 : tie.Need-returns-4 Inv-loop μ-loop
 returns-4 c =
-    let g = c .before .before .before .before .before .before .args in
-    let l = c .before .before .before .before .loop in
+    let g = c .before .before .before .before .before .args in
+    let l = c .before .before .before .loop in
     let all = all-found (wordsOf (g .s .now)) (g .signals) (g .samples) (g .start) (l .inv) (no-line (c .before)) (c .if3 .left) in
     sym (ap (mapped lineCount) all ∙ ap (λ (n : ℕ). accepted (n, l .at)) (l .inv .count))
 
@@ -117,8 +112,7 @@ check-lines-spec =
     Inv-loop
     μ-loop
     loop-holds
-    word-or-zero-requires
-    kind-requires
+    is-kind-requires
     returns
     slice-aggregate-decode-line
     decode-line-requires

@@ -1,18 +1,17 @@
 -- Spare bits, places, order, weight: each test of the code decides one of the definition's.
 use mathlib.Core.Path.{_≡_, sym, _∙_}
 use Prim.Native.Nat.{ℕ, _+_}
-use mathlib.Core.Bool.{true, _&&_}
+use mathlib.Core.Bool.{_&&_}
 use mathlib.Core.List.{List}
 use native.Mathlib.Nat.{div-one}
 use native.Mathlib.Omega.{arith}
 use lib.Dec.{ltb}
-use borrow.Author.Tests.{lt-ltb, le-ltb, eq-eqb, ne-eqb}
+use borrow.Author.Tests.{lt-ltb, le-ltb, eq-eqb, ne-eqb, not-true, not-false}
 use Rattle.words.specs.Bytes.{wordsOf}
 use Rattle.words.specs.Word.{payloadOf}
 use Rattle.words.proofs.Words.{words-count}
-use Rattle.sheet.specs.Checked.{accepted, require, wordAt, isKind}
+use Rattle.sheet.specs.Checked.{Checked, accepted, require, wordAt, isKind}
 use Rattle.sheet.specs.Checking.{roadChecked}
-use Rattle.sheet.proofs.Tests.{other-kind, same-kind}
 use borrow.Author.Needs.{needs}
 use Rattle.sheet.proofs.stages.check_road.Statement.{statement}
 use Rattle.sheet.proofs.stages.check_road.Tie as tie
@@ -43,92 +42,82 @@ payload-requires c κs = search needs
 cast-payload : tie.Need-cast-payload
 cast-payload c = search needs
 
-returns-4 : tie.Need-returns-4
-unfolding roadChecked
-returns-4 c =
-    let places = c .before .before in
-    let spare = places .before .before in
-    simp (
-      ← spare .before .word-or-zero .ensures,
-      eq-eqb _ 0 (spare .if1 .left),
-      div-one,
-      lt-ltb _ _ (places .before .if2 .left),
-      lt-ltb _ _ (places .if3 .left),
-      ← c .before .payload .ensures,
-      le-ltb _ _ (c .if4 .taken),
-    )
+-- ---- the places have passed: what is left is the order, and the weight
 
--- ---- the first word has passed
+abbrev bytes : tie.After-payload → List ℕ
+bytes c = c .before .before .before .before .before .before .args .s .now
 
-abbrev bytes : tie.Else4 → List ℕ
-bytes c = c .before .before .before .before .before .before .before .args .s .now
-
-abbrev sheet : tie.Else4 → List ℕ
+abbrev sheet : tie.After-payload → List ℕ
 sheet c = wordsOf (bytes c)
 
-abbrev index : tie.Else4 → ℕ
-index c = c .before .before .before .before .before .before .before .args .at
+abbrev index : tie.After-payload → ℕ
+index c = c .before .before .before .before .before .before .args .at
 
-abbrev places : tie.Else4 → ℕ
-places c = c .before .before .before .before .before .before .before .args .places
+abbrev places : tie.After-payload → ℕ
+places c = c .before .before .before .before .before .before .args .places
 
-abbrev last : tie.Else4 → ℕ
-last c = c .before .before .before .before .before .before .before .args .last
+abbrev last : tie.After-payload → ℕ
+last c = c .before .before .before .before .before .before .args .last
 
--- what is left is the weight
-weight-next : (c : tie.Else4) → roadChecked (sheet c) (places c) (index c) (last c)
-    ≡ require (isKind 3 (sheet c) (index c + 1) && ltb 0 (payloadOf (wordAt (sheet c) (index c + 1)))) 7 (index c + 1) (accepted (c .before .payload .result))
+abbrev weighed : tie.After-payload → Checked ℕ
+weighed c = require (isKind 3 (sheet c) (index c + 1) && ltb 0 (payloadOf (wordAt (sheet c) (index c + 1)))) 7 (index c + 1) (accepted (c .payload .result))
+
+order-next : (c : tie.After-payload) → roadChecked (sheet c) (places c) (index c) (last c) ≡ require (ltb (last c) (c .payload .result)) 6 (index c) (weighed c)
 unfolding roadChecked
-weight-next c =
-    let places = c .before .before in
-    let spare = places .before .before in
+order-next c =
+    let placed = c .before in
+    let spare = placed .before .before in
     simp (
       ← spare .before .word-or-zero .ensures,
       eq-eqb _ 0 (spare .if1 .left),
       div-one,
-      lt-ltb _ _ (places .before .if2 .left),
-      lt-ltb _ _ (places .if3 .left),
-      ← c .before .payload .ensures,
-      lt-ltb _ _ (c .if4 .left),
+      lt-ltb _ _ (placed .before .if2 .left),
+      lt-ltb _ _ (placed .if3 .left),
+      ← c .payload .ensures,
     )
 
+returns-4 : tie.Need-returns-4
+returns-4 c = sym (order-next (c .before) ∙ simp (le-ltb _ _ (c .if4 .taken)))
+
 add-next : tie.Need-add-next
-add-next c = omega (arith, words-count (bytes c))
+add-next c = omega (arith, words-count (bytes (c .before)))
+
+is-kind-requires : tie.Need-is-kind-requires
+is-kind-requires c κs = search needs
+
+-- ---- the order has passed
+
+weight-next : (c : tie.Else4) → roadChecked (sheet (c .before)) (places (c .before)) (index (c .before)) (last (c .before)) ≡ weighed (c .before)
+weight-next c = order-next (c .before) ∙ simp (lt-ltb _ _ (c .if4 .left))
+
+returns-5 : tie.Need-returns-5
+returns-5 c =
+    let other = sym (c .before .is-kind .ensures) ∙ not-true _ (c .if5 .taken) in
+    sym (weight-next (c .before .before) ∙ simp other)
 
 word-or-zero-requires-2 : tie.Need-word-or-zero-requires-2
 word-or-zero-requires-2 c κs = search needs
 
-kind-requires : tie.Need-kind-requires
-kind-requires c κs = search needs
-
-returns-5 : tie.Need-returns-5
-returns-5 c =
-    let order = c .before .before .before in
-    let other = other-kind (sheet order) (index order + 1) (c .before .kind .ensures) (c .before .before .word-or-zero2 .ensures) 3 (c .if5 .taken) in
-    sym (weight-next order ∙ simp other)
-
 payload-requires-2 : tie.Need-payload-requires-2
 payload-requires-2 c κs = search needs
 
-abbrev to-order : tie.Else5 → tie.Else4
-to-order c = c .before .before .before
+-- ---- the weight's word is there: what is left is that it is not 0
 
-kind-3 : (c : tie.Else5) → isKind 3 (sheet (to-order c)) (index (to-order c) + 1) ≡ true
-kind-3 c =
-    let order = to-order c in
-    same-kind (sheet order) (index order + 1) (c .before .kind .ensures) (c .before .before .word-or-zero2 .ensures) 2 (c .if5 .left)
+abbrev read : tie.After-payload2 → tie.After-payload
+read c = c .before .before .before .before .before
+
+positive-next : (c : tie.After-payload2) → roadChecked (sheet (read c)) (places (read c)) (index (read c)) (last (read c))
+    ≡ require (ltb 0 (c .payload2 .result)) 7 (index (read c) + 1) (accepted (read c .payload .result))
+positive-next c =
+    let there = c .before .before in
+    let kind-3 = sym (there .before .is-kind .ensures) ∙ not-false _ (there .if5 .left) in
+    weight-next (there .before .before) ∙ simp (kind-3, ← c .before .word-or-zero2 .ensures, ← c .payload2 .ensures)
 
 returns-6 : tie.Need-returns-6
-returns-6 c =
-    let weight = c .before .before in
-    let none = le-ltb 0 (c .before .payload2 .result) (omega (arith, c .if6 .taken)) in
-    sym (weight-next (to-order weight) ∙ simp (kind-3 weight, ← weight .before .before .word-or-zero2 .ensures, ← c .before .payload2 .ensures, none))
+returns-6 c = sym (positive-next (c .before) ∙ simp (le-ltb 0 (c .before .payload2 .result) (omega (arith, c .if6 .taken))))
 
 returns-7 : tie.Need-returns-7
-returns-7 c =
-    let weight = c .before .before in
-    let some = lt-ltb 0 (c .before .payload2 .result) (omega (arith, c .if6 .left)) in
-    sym (weight-next (to-order weight) ∙ simp (kind-3 weight, ← weight .before .before .word-or-zero2 .ensures, ← c .before .payload2 .ensures, some))
+returns-7 c = sym (positive-next (c .before) ∙ simp (lt-ltb 0 (c .before .payload2 .result) (omega (arith, c .if6 .left))))
 
 pub check-road-spec : {M : Type 1} → statement M
 check-road-spec =
@@ -143,9 +132,9 @@ check-road-spec =
     cast-payload
     returns-4
     add-next
-    word-or-zero-requires-2
-    kind-requires
+    is-kind-requires
     returns-5
+    word-or-zero-requires-2
     payload-requires-2
     returns-6
     returns-7)

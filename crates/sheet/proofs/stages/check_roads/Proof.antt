@@ -9,7 +9,7 @@ use Rattle.words.specs.Bytes.{wordsOf}
 use Rattle.words.proofs.Words.{words-count}
 use Rattle.sheet.specs.Checked.{accepted, isKind}
 use Rattle.sheet.specs.Checking.{stageSaid, roadChecked}
-use Rattle.sheet.proofs.Tests.{kind-told, other-kind, same-kind}
+use Rattle.sheet.proofs.Tests.{kind-told}
 use Rattle.sheet.proofs.Parts.{Roads, roads-start, road-there, road-refused, road-passed, roads-done}
 use borrow.Author.Needs.{needs}
 use Rattle.sheet.proofs.stages.check_roads.Statement.{statement}
@@ -24,28 +24,25 @@ abbrev μ-loop : tie.MeasureT-loop
 loop-holds : tie.Need-loop-holds Inv-loop μ-loop
 loop-holds c = roads-start (wordsOf (c .before .args .s .now)) (c .before .args .places)
 
-word-or-zero-requires : tie.Need-word-or-zero-requires Inv-loop μ-loop
-word-or-zero-requires c κs = search needs
-
-kind-requires : tie.Need-kind-requires Inv-loop μ-loop
-kind-requires c κs = search needs
+is-kind-requires : tie.Need-is-kind-requires Inv-loop μ-loop
+is-kind-requires c κs = search needs
 
 -- ---- there is a road
 
 abbrev bytes : tie.Then1 Inv-loop μ-loop → List ℕ
-bytes c = c .before .before .before .before .before .args .s .now
+bytes c = c .before .before .before .before .args .s .now
 
 abbrev sheet : tie.Then1 Inv-loop μ-loop → List ℕ
 sheet c = wordsOf (bytes c)
 
 abbrev places : tie.Then1 Inv-loop μ-loop → ℕ
-places c = c .before .before .before .before .before .args .places
+places c = c .before .before .before .before .args .places
 
 abbrev index : tie.Then1 Inv-loop μ-loop → ℕ
-index c = c .before .before .before .loop .at
+index c = c .before .before .loop .at
 
 kind-2 : (c : tie.Then1 Inv-loop μ-loop) → isKind 2 (sheet c) (index c) ≡ true
-kind-2 c = same-kind (sheet c) (index c) (c .before .kind .ensures) (c .before .before .word-or-zero .ensures) 1 (c .if1 .taken)
+kind-2 c = sym (c .before .is-kind .ensures) ∙ c .if1 .taken
 
 check-road-requires : tie.Need-check-road-requires Inv-loop μ-loop
 check-road-requires c κs = kind-told 2 (sheet c) (index c) (kind-2 c) .0
@@ -57,7 +54,7 @@ returns : tie.Need-returns Inv-loop μ-loop
 returns c =
     let road = c .before .before .before .before in
     let read = sym (c .before .before .before .check-road .ensures) ∙ ap stageSaid (c .before .fault .given .1) in
-    sym (road-refused (sheet road) (places road) (road .before .before .before .loop .inv) (kind-2 road) read)
+    sym (road-refused (sheet road) (places road) (road .before .before .loop .inv) (kind-2 road) read)
 
 enum-known-payload : tie.Need-enum-known-payload Inv-loop μ-loop
 enum-known-payload c = search needs
@@ -68,11 +65,11 @@ abbrev to-road : tie.After-known-told2 Inv-loop μ-loop → tie.Then1 Inv-loop �
 to-road c = c .before .before .before .before
 
 passed : (c : tie.After-known-told2 Inv-loop μ-loop)
-    → roadChecked (sheet (to-road c)) (places (to-road c)) (index (to-road c)) (c .before .before .before .before .before .before .before .loop .last) ≡ accepted (c .before .payload .given .0 .0)
+    → roadChecked (sheet (to-road c)) (places (to-road c)) (index (to-road c)) (to-road c .before .before .loop .last) ≡ accepted (c .before .payload .given .0 .0)
 passed c = sym (c .before .before .before .check-road .ensures) ∙ ap stageSaid (c .before .payload .given .1)
 
 fits : (c : tie.After-known-told2 Inv-loop μ-loop) → index (to-road c) + 1 < length (sheet (to-road c))
-fits c = road-there (sheet (to-road c)) (places (to-road c)) (index (to-road c)) (c .before .before .before .before .before .before .before .loop .last) (passed c)
+fits c = road-there (sheet (to-road c)) (places (to-road c)) (index (to-road c)) (to-road c .before .before .loop .last) (passed c)
 
 add-at : tie.Need-add-at Inv-loop μ-loop
 add-at c = let there = fits c in omega (arith, words-count (bytes (to-road c)))
@@ -83,14 +80,12 @@ loop-less c = let there = fits c in omega arith
 loop-again : tie.Need-loop-again Inv-loop μ-loop
 loop-again c =
     let road = to-road c in
-    road-passed (sheet road) (places road) (road .before .before .before .loop .inv) (kind-2 road) (passed c)
+    road-passed (sheet road) (places road) (road .before .before .loop .inv) (kind-2 road) (passed c)
 
 returns-2 : tie.Need-returns-2 Inv-loop μ-loop
 returns-2 c =
-    let w = wordsOf (c .before .before .before .before .before .args .s .now) in
-    let l = c .before .before .before .loop in
-    let other = other-kind w (l .at) (c .before .kind .ensures) (c .before .before .word-or-zero .ensures) 2 (c .if1 .left) in
-    sym (roads-done w (c .before .before .before .before .before .args .places) (l .inv) other)
+    let g = c .before .before .before .before .args in
+    sym (roads-done (wordsOf (g .s .now)) (g .places) (c .before .before .loop .inv) (sym (c .before .is-kind .ensures) ∙ c .if1 .left))
 
 pub check-roads-spec : {M : Type 1} → statement M
 check-roads-spec =
@@ -99,8 +94,7 @@ check-roads-spec =
     Inv-loop
     μ-loop
     loop-holds
-    word-or-zero-requires
-    kind-requires
+    is-kind-requires
     check-road-requires
     enum-known-fault
     returns

@@ -5,13 +5,13 @@ use mathlib.Core.Bool.{true}
 use mathlib.Core.List.{List}
 use native.Mathlib.Omega.{arith}
 use lib.Dec.{eqb}
-use borrow.Author.Tests.{eq-eqb, ne-eqb}
+use borrow.Author.Tests.{not-true, not-false}
 use Rattle.words.specs.Bytes.{wordsOf}
 use Rattle.words.specs.Word.{bits}
 use Rattle.words.proofs.Words.{words-count}
 use Rattle.sheet.specs.Checked.{require, wordAt, isKind}
 use Rattle.sheet.specs.Layout.{samplesFrom}
-use Rattle.sheet.proofs.Tests.{kind-told, other-kind, same-kind}
+use Rattle.sheet.proofs.Tests.{kind-told}
 use Rattle.sheet.proofs.Parts.{sample-more}
 use borrow.Author.Needs.{needs}
 use Rattle.sheet.proofs.stages.check_samples.Statement.{statement}
@@ -26,11 +26,11 @@ abbrev μ-loop : tie.MeasureT-loop
 loop-holds : tie.Need-loop-holds Inv-loop μ-loop
 loop-holds c = refl
 
-word-or-zero-requires : tie.Need-word-or-zero-requires Inv-loop μ-loop
-word-or-zero-requires c κs = search needs
+is-kind-requires : tie.Need-is-kind-requires Inv-loop μ-loop
+is-kind-requires c κs = search needs
 
-kind-requires : tie.Need-kind-requires Inv-loop μ-loop
-kind-requires c κs = search needs
+spare-bit-zero-requires : tie.Need-spare-bit-zero-requires Inv-loop μ-loop
+spare-bit-zero-requires c κs = search needs
 
 -- ---- there is a sample to check
 
@@ -50,9 +50,8 @@ sample-next c = c .before .loop .inv ∙ sample-more (sheet c) (c .before .loop 
 
 returns : tie.Need-returns Inv-loop μ-loop
 returns c =
-    let turn = c .before .before .before in
-    let other = other-kind (sheet turn) (index turn) (c .before .kind .ensures) (c .before .before .word-or-zero .ensures) 4 (c .if1 .taken) in
-    sym (sample-next turn ∙ simp other)
+    let other = sym (c .before .before .is-kind .ensures) ∙ not-true _ (c .if1 .taken) in
+    sym (sample-next (c .before .before .before) ∙ simp other)
 
 -- ---- its kind has passed
 
@@ -60,12 +59,12 @@ abbrev to-turn : tie.Else1 Inv-loop μ-loop → tie.In-loop Inv-loop μ-loop
 to-turn c = c .before .before .before
 
 kind-4 : (c : tie.Else1 Inv-loop μ-loop) → isKind 4 (sheet (to-turn c)) (index (to-turn c)) ≡ true
-kind-4 c = same-kind (sheet (to-turn c)) (index (to-turn c)) (c .before .kind .ensures) (c .before .before .word-or-zero .ensures) 3 (c .if1 .left)
+kind-4 c = sym (c .before .before .is-kind .ensures) ∙ not-false _ (c .if1 .left)
 
 returns-2 : tie.Need-returns-2 Inv-loop μ-loop
 returns-2 c =
-    let read = c .before in
-    sym (sample-next (to-turn read) ∙ simp (kind-4 read, ← read .before .before .word-or-zero .ensures, ne-eqb _ 0 (c .if2 .taken)))
+    let set = sym (c .before .before .spare-bit-zero .ensures) ∙ not-true _ (c .if2 .taken) in
+    sym (sample-next (to-turn (c .before)) ∙ simp (kind-4 (c .before), set))
 
 add-at : tie.Need-add-at Inv-loop μ-loop
 add-at c = let there = kind-told 4 (sheet (to-turn (c .before))) (index (to-turn (c .before))) (kind-4 (c .before)) in omega (arith, words-count (bytes (to-turn (c .before))))
@@ -78,8 +77,8 @@ loop-less c = search needs
 
 loop-again : tie.Need-loop-again Inv-loop μ-loop
 loop-again c =
-    let read = c .before in
-    sample-next (to-turn read) ∙ simp (kind-4 read, ← read .before .before .word-or-zero .ensures, eq-eqb _ 0 (c .if2 .left))
+    let clear = sym (c .before .before .spare-bit-zero .ensures) ∙ not-false _ (c .if2 .left) in
+    sample-next (to-turn (c .before)) ∙ simp (kind-4 (c .before), clear)
 
 returns-3 : tie.Need-returns-3 Inv-loop μ-loop
 unfolding samplesFrom
@@ -95,8 +94,8 @@ check-samples-spec =
     Inv-loop
     μ-loop
     loop-holds
-    word-or-zero-requires
-    kind-requires
+    is-kind-requires
+    spare-bit-zero-requires
     returns
     returns-2
     add-at

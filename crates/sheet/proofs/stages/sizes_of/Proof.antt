@@ -1,7 +1,5 @@
 -- The sizes are read off by division and remainder.
-use mathlib.Core.Path.{_≡_, ap}
-use Prim.Native.Nat.{ℕ, _/_, _%_}
-use native.Mathlib.Omega.{arith}
+use native.Mathlib.Nat.{div-one}
 use Rattle.sheet.specs.Checking.{sizesOf}
 use borrow.Author.Needs.{needs}
 use Rattle.sheet.proofs.stages.sizes_of.Statement.{statement}
@@ -18,10 +16,7 @@ cast-t9 c = search needs
 
 returns : tie.Need-returns
 unfolding sizesOf
-returns c =
-    let w = c .args .w in
-    let whole : w % 4096 ≡ w / 1 % 4096 = omega arith in
-    ap (λ (samples : ℕ). record { places = w / 1048576 % 256; signals = w / 4096 % 256; samples = samples }) whole
+returns c = simp div-one
 
 pub sizes-of-spec : {M : Type 1} → statement M
 sizes-of-spec = tie.close (tie.spec cast-t4 cast-t7 cast-t9 returns)

@@ -1,6 +1,6 @@
 -- `survey` meets its contract: the check's outcome decides what is left in the table.
 use Prim.Native.Nat.{ℕ}
-use mathlib.Core.Path.{sym, ap, _∙_}
+use mathlib.Core.Path.{_≡_, sym, ap, _∙_}
 use lib.ListN.{length}
 use borrow.Author.Needs.{needs}
 use Rattle.words.specs.Bytes.{wordsOf, numbersOf}
@@ -17,6 +17,10 @@ number-count-requires c κs = search needs
 check-sheet-requires : tie.Need-check-sheet-requires
 check-sheet-requires c κs = search needs
 
+-- the outcome of the check, by the room that was counted
+decided : (c : tie.After-check-sheet) → checkSaid (c .check-sheet .result) ≡ mapped layoutOf (checked (wordsOf (c .before .before .before .before .before .args .s .now)) (length (numbersOf (wordsOf (c .before .before .before .before .before .args .distances .now)))))
+decided c = c .check-sheet .ensures ∙ ap (λ (d : ℕ). mapped layoutOf (checked (wordsOf (c .before .before .before .before .before .args .s .now)) d)) (c .before .number-count .ensures)
+
 enum-known-fault : tie.Need-enum-known-fault
 enum-known-fault c = search needs
 
@@ -28,28 +32,24 @@ enum-known-layout c = search needs
 
 fill-distances-requires : tie.Need-fill-distances-requires
 fill-distances-requires c κs =
-    let g = c .before .before .before .before .before .before .before .before .before .args in
-    let check = c .before .before .before .before .check-sheet in
-    let count = c .before .before .before .before .before .number-count in
-    let s = wordsOf (g .s .now) in
-    let said = sym (ap checkSaid (c .before .before .layout .given .1)) ∙ check .ensures ∙ ap (λ (d : ℕ). mapped layoutOf (checked s d)) (count .ensures) in
-    accepting s (length (numbersOf (wordsOf (g .distances .now)))) (c .before .before .layout .given .0 .0) (sym said) .roads
+    let check = c .before .before .before .before in
+    let g = check .before .before .before .before .before .args in
+    let layout = c .before .before .layout .given in
+    let said = sym (ap checkSaid (layout .1)) ∙ decided check in
+    accepting (wordsOf (g .s .now)) (length (numbersOf (wordsOf (g .distances .now)))) (layout .0 .0) (sym said) .roads
 
 same-length : tie.Need-same-length
 same-length c = search needs
 
 returns : tie.Need-returns
 returns c =
-    let g = c .before .before .before .before .before .before .before .before .before .before .before .before .args in
+    let check = c .before .before .before .before .before .before .before in
+    let g = check .before .before .before .before .before .args in
     let fault = c .before .before .before .before .before .fault .given in
-    let check = c .before .before .before .before .before .before .before .check-sheet in
-    let count = c .before .before .before .before .before .before .before .before .number-count in
-    let s = wordsOf (g .s .now) in
-    let room = length (numbersOf (wordsOf (g .distances .now))) in
-    let said = sym (ap checkSaid (fault .1)) ∙ check .ensures ∙ ap (λ (d : ℕ). mapped layoutOf (checked s d)) (count .ensures) in (
+    let said = sym (ap checkSaid (fault .1)) ∙ decided check in (
       said,
       ap (λ b. numbersOf (wordsOf b)) (c .before .before .fill-zero .ensures) ∙ zero-numbers (g .distances .now)
-          ∙ sym (refusing s room (faultNumber (fault .0 .0)) (fault .0 .1 .0) (sym said)),
+          ∙ sym (refusing (wordsOf (g .s .now)) (length (numbersOf (wordsOf (g .distances .now)))) (faultNumber (fault .0 .0)) (fault .0 .1 .0) (sym said)),
     )
 
 same-length-2 : tie.Need-same-length-2
@@ -57,14 +57,11 @@ same-length-2 c = search needs
 
 returns-2 : tie.Need-returns-2
 returns-2 c =
-    let g = c .before .before .before .before .before .before .before .before .before .before .before .before .args in
+    let check = c .before .before .before .before .before .before .before in
+    let g = check .before .before .before .before .before .args in
     let layout = c .before .before .before .before .before .layout .given in
-    let check = c .before .before .before .before .before .before .before .check-sheet in
-    let count = c .before .before .before .before .before .before .before .before .number-count in
-    let s = wordsOf (g .s .now) in
-    let room = length (numbersOf (wordsOf (g .distances .now))) in
-    let said = sym (ap checkSaid (layout .1)) ∙ check .ensures ∙ ap (λ (d : ℕ). mapped layoutOf (checked s d)) (count .ensures) in
-    (said, c .before .before .fill-distances .ensures .0 ∙ sym (accepting s room (layout .0 .0) (sym said) .left))
+    let said = sym (ap checkSaid (layout .1)) ∙ decided check in
+    (said, c .before .before .fill-distances .ensures .0 ∙ sym (accepting (wordsOf (g .s .now)) (length (numbersOf (wordsOf (g .distances .now)))) (layout .0 .0) (sym said) .left))
 
 pub survey-spec : {M : Type 1} → statement M
 survey-spec =
