@@ -33,7 +33,7 @@ pub enum Check {
 }
 
 // Checks a sheet front to back, given how many distances are lent.
-pub(crate) fn check_sheet(s: &[u8], distances: usize) -> Check
+pub fn check_sheet(s: &[u8], distances: usize) -> Check
     ensures { λ r. ⌜ checkSaid r ≡ mapped layoutOf (checked (wordsOf (now (s .entry))) distances) ⌝ }
 {
     if distances < LEAST_DISTANCES {

@@ -7,16 +7,16 @@ ghost use Rattle.logic.proofs.Small.{InBits};
 ghost use Rattle.values.specs.Chain.{marginCode, marginAt, highest, chainOf, chainVerdict, chainLattice, chainOpposite, chainDifference, chainWord, wordChain};
 
 // A margin by its place in the order of margins: 0 is minus infinity, 2^27 + z the number z, 2^28 plus infinity.
-struct Margin {
-    code: u32,
+pub struct Margin {
+    pub code: u32,
 }
 
 impl Margin {
-    const PLUS_INFINITY: Margin = Margin { code: 268435456 };
+    pub const PLUS_INFINITY: Margin = Margin { code: 268435456 };
 
-    const MINUS_INFINITY: Margin = Margin { code: 0 };
+    pub const MINUS_INFINITY: Margin = Margin { code: 0 };
 
-    fn finite(x: i32) -> Margin
+    pub fn finite(x: i32) -> Margin
         requires { ⌜ natAbs x < 2 ^ 27 ⌝ }
         ensures { λ r. ⌜ r .code ≡ marginCode (finite x) ⌝ }
     {
@@ -25,7 +25,7 @@ impl Margin {
         }
     }
 
-    fn negate(self) -> Margin
+    pub fn negate(self) -> Margin
         requires { ⌜ self .code ≤ 2 ^ 28 ⌝ }
         ensures { λ r. ⌜ (r .code ≡ 2 ^ 28 - self .code) × (marginAt (r .code) ≡ negate (marginAt (self .code))) ⌝ }
     {
@@ -35,7 +35,7 @@ impl Margin {
     }
 }
 
-fn chain(yes: bool, margin: Margin) -> u32
+pub fn chain(yes: bool, margin: Margin) -> u32
     requires { ⌜ margin .code ≤ 2 ^ 28 ⌝ }
     ensures { λ r. ⌜ r ≡ chainOf yes (marginAt (margin .code)) ⌝ }
 {
