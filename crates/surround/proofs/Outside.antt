@@ -1,9 +1,8 @@
 -- Places outside a ball: all rows are lowest there and stay so, so that a round is the same whether or not it touches them.
 use mathlib.Core.Path.{_≡_, refl, sym, ap, _∙_}
-use mathlib.Core.Bool.{Bool, true, false, _&&_}
+use mathlib.Core.Bool.{Bool, true, false, _&&_, _||_}
 use mathlib.Core.List.{List}
 use Prim.Native.Nat.{ℕ, _+_, _*_, _<_}
-use native.Mathlib.Decide.{ℕ-discrete}
 use native.Mathlib.Omega.{arith}
 use borrow.Author.Count.{below-more}
 use borrow.Author.Tests.{le-leb}
@@ -15,7 +14,7 @@ use Rattle.values.specs.Chain.{chainLattice}
 use Rattle.values.specs.Signals.{inTable}
 use Rattle.surround.specs.Lanes.{lanes, laneOf}
 use Rattle.surround.specs.Strips.{Written, StripsApart}
-use Rattle.surround.specs.Steps.{Marked, LowOutside, LowRows, Joined, Stepped}
+use Rattle.surround.specs.Steps.{Marked, LowOutside, LowRows, Joined, RoadPulled, Stepped}
 use Rattle.surround.specs.Blocks.{RowOf}
 use Rattle.surround.proofs.StripLaws.{false-true}
 use Rattle.surround.proofs.RowLaws.{row-more}
@@ -53,10 +52,10 @@ masked-low distances n centre lower upper inside from to m w = record {
 
 -- ---- one strip
 -- a strip that holds already what would be written
-pub written-already : {place : ℕ} {f : ℕ → ℕ} {s : List ℕ} → ((lane : ℕ) → lane < lanes → laneOf s lane place ≡ f lane) → Written place lanes f s s
+written-already : {place : ℕ} {f : ℕ → ℕ} {s : List ℕ} → ((lane : ℕ) → lane < lanes → laneOf s lane place ≡ f lane) → Written place lanes f s s
 written-already e = record { written = e; kept = λ _ _ _ _. refl }
 
-pub meet-low : {a : ℕ} (b : ℕ) → a ≡ 0 → a ≡ chainLattice .meet a b
+meet-low : {a : ℕ} (b : ℕ) → a ≡ 0 → a ≡ chainLattice .meet a b
 meet-low b e = rw meet-min (omega arith)
 
 pub strips-alike : (h : ℕ → ℕ) (a b : List ℕ) (place : ℕ) → ((lane : ℕ) → lane < lanes → laneOf a lane place ≡ laneOf b lane place) → StripsApart false h a b place lanes
@@ -64,7 +63,7 @@ strips-alike h a b place e = record { alike = λ _ lane l. ap h (e lane l); apar
 
 module _ {inside : List Bool} where
   -- a strip inside is written
-  pub low-kept : {place n : ℕ} {f : ℕ → ℕ} {s t : List ℕ} → getD inside place false ≡ true → Written place lanes f s t → LowOutside inside s n → LowOutside inside t n
+  low-kept : {place n : ℕ} {f : ℕ → ℕ} {s t : List ℕ} → getD inside place false ≡ true → Written place lanes f s t → LowOutside inside s n → LowOutside inside t n
   low-kept i w s = record {
     low = λ p lane b l e. w .kept p lane l (λ q. absurd (false-true (sym e ∙ ap (λ k. getD inside k false) q ∙ i))) ∙ s .low p lane b l e;
   }
@@ -72,35 +71,35 @@ module _ {inside : List Bool} where
   pub low-none : {s : List ℕ} → LowOutside inside s 0
   low-none = record { low = λ p lane b. absurd (omega arith) }
 
-  -- one strip more is cleared, or needs none
-  pub low-more : {k : ℕ} {s t : List ℕ} → Written k lanes (λ _. 0) s t → LowOutside inside s k → LowOutside inside t (k + 1)
-  low-more {k} {s} {t} w o = record {
-    low = λ p lane b l e. below-more (λ q. getD inside q false ≡ false → laneOf t lane q ≡ 0) k
-        (λ q c z. w .kept q lane l (λ r. absurd (omega arith)) ∙ o .low q lane c l z)
-        (λ _. w .written lane l)
-        p b e;
+  -- one strip more, which is lowest if it lies outside
+  pub low-more : {k : ℕ} {f : ℕ → ℕ} {s t : List ℕ} → Written k lanes f s t → (getD inside k false ≡ false → (lane : ℕ) → f lane ≡ 0) → LowOutside inside s k → LowOutside inside t (k + 1)
+  low-more {k} {f} {s} {t} w h o = record {
+    low = λ p lane b l. below-more (λ q. getD inside q false ≡ false → laneOf t lane q ≡ 0) k
+        (λ q c e. w .kept q lane l (λ r. absurd (omega arith)) ∙ o .low q lane c l e)
+        (λ e. w .written lane l ∙ h e lane)
+        p b;
   }
 
   pub low-inside : {k : ℕ} {s : List ℕ} → getD inside k false ≡ true → LowOutside inside s k → LowOutside inside s (k + 1)
-  low-inside {k} {s} i o = record {
-    low = λ p lane b l e. below-more (λ q. getD inside q false ≡ false → laneOf s lane q ≡ 0) k
-        (λ q c z. o .low q lane c l z)
-        (λ z. absurd (false-true (sym z ∙ i)))
-        p b e;
-  }
+  low-inside i = low-more (written-already (λ _ _. refl)) (λ e. absurd (false-true (sym e ∙ i)))
 
   -- numbers that fall stay lowest
   pub stepped-low : {n roads : ℕ} {sheet both x y : List ℕ} → Stepped sheet roads both x y → LowOutside inside x n → LowOutside inside y n
   stepped-low s o = record { low = λ p lane b l e. omega (arith, s .least p lane l .below, o .low p lane b l e) }
 
-  pub pulled-low : (b : ℕ) (both : List ℕ) {a n : ℕ} {x y : List ℕ} → Written a lanes (λ lane. chainLattice .meet (laneOf x lane a) (laneOf both lane b)) x y → LowOutside inside x n → LowOutside inside y n
-  pulled-low b both {a} {n} {x} {y} w o = record { low = λ p lane c l e. at p lane l (o .low p lane c l e) (ℕ-discrete p a) }
+  -- a road with both ends outside brings nothing
+  pub road-outside : (a b : ℕ) (both : List ℕ) {n : ℕ} {x : List ℕ} → LowOutside inside x n → a < n → b < n → (getD inside a false || getD inside b false) ≡ false → RoadPulled a b both x x
+  road-outside a b both o i j e =
+      let (out, away) = neither (getD inside a false) (getD inside b false) e in
+      record {
+        first = λ lane l. meet-low (laneOf both lane b) (o .low a lane i l out);
+        second = λ lane l. meet-low (laneOf both lane a) (o .low b lane j l away);
+        other = λ _ _ _ _ _. refl;
+      }
     where
-      at : (p lane : ℕ) → lane < lanes → laneOf x lane p ≡ 0 → Dec (p ≡ a) → laneOf y lane p ≡ 0
-      at p lane l z (yes q) =
-          let z′ : laneOf x lane a ≡ 0 = rw q at z in
-          rw (q, w .written lane l) (sym (meet-low (laneOf both lane b) z′) ∙ z′)
-      at p lane l z (no q) = w .kept p lane l (λ r. absurd (q r)) ∙ z
+      neither : (t u : Bool) → (t || u) ≡ false → (t ≡ false) × (u ≡ false)
+      neither true u h = absurd (false-true (sym h))
+      neither false u h = (refl, h)
 
 -- ---- joining, place after place
 pub record Joining (inside : List Bool) (x right old both : List ℕ) (k : ℕ) : Type 0 where
@@ -134,10 +133,9 @@ module _ {inside : List Bool} {x right old both : List ℕ} {k : ℕ} (j : Joini
   }
 
   pub joining-outside : k < length inside → getD inside k false ≡ false → Joining inside x right old both (k + 1)
-  joining-outside b e =
-      record {
-        joined = joined-more
-            (written-already (λ lane l. j .rows .old-low .low k lane b l e ∙ sym (j .rows .low .low k lane b l e)))
-            (written-already (λ lane l. j .rows .both-low .low k lane b l e ∙ sym (rw (j .rows .low .low k lane b l e, j .rows .right-low .low k lane b l e) refl)));
-        rows = j .rows;
-      }
+  joining-outside b e = record {
+    joined = joined-more
+        (written-already (λ lane l. j .rows .old-low .low k lane b l e ∙ sym (j .rows .low .low k lane b l e)))
+        (written-already (λ lane l. j .rows .both-low .low k lane b l e ∙ sym (rw (j .rows .low .low k lane b l e, j .rows .right-low .low k lane b l e) refl)));
+    rows = j .rows;
+  }

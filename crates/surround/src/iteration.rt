@@ -3,16 +3,15 @@ ghost use Prim.Native.Nat.{_+_, _*_, _/_, _≤_, _<_};
 ghost use lib.ListN.{length};
 ghost use Rattle.words.specs.Bytes.{wordsOf};
 ghost use Rattle.sheet.specs.Limits.{mostPlaces};
-ghost use Rattle.values.specs.Chain.{chainLattice};
-ghost use Rattle.surround.specs.Lanes.{lanes, laneOf};
-ghost use Rattle.surround.specs.Strips.{Written, RowsApart};
+ghost use Rattle.surround.specs.Lanes.{lanes};
+ghost use Rattle.surround.specs.Strips.{RowsApart};
 ghost use Rattle.surround.specs.Steps.{RoadsIn, Bounded, ValidRow, Rooms, LowOutside, LowRows, Joined, RoadPulled, Stepped, Round, Settled};
 use crate::strips::copy_strip;
 use crate::strips::greater_strip;
 use crate::strips::pull_strip;
 use crate::strips::strip_changed;
 
-// A chain number has its margin in whole units of this.
+// So many chain numbers share a margin: one says no, one says yes.
 const MARGIN: u32 = 2;
 
 // Keeps the former numbers, and makes of them what each place hands to its neighbours: a pull must not read a place that has stepped already.
@@ -28,23 +27,15 @@ fn join(x: &[u32], right: &[u32], inside: &[bool], old: &mut [u32], both: &mut [
     }
 }
 
-// A place takes over what another hands to it. Outside the ball it has the lowest number already.
-fn pull(x: &mut [u32], both: &[u32], inside: &[bool], place: usize, other: usize)
-    requires { ⌜ (place < length (now inside)) × LowOutside (now inside) (now x) (length (now inside)) × (place * lanes + lanes ≤ length (now x)) × (other * lanes + lanes ≤ length (now both)) ⌝ }
-    ensures { λ _. ⌜ Written place lanes (λ lane. chainLattice .meet (laneOf (now (x .entry)) lane place) (laneOf (now (both .entry)) lane other)) (now (x .entry)) (now (x .exit)) ⌝ }
-{
-    if inside[place] {
-        pull_strip(x, both, place, other);
-    }
-}
-
-// A road brings to each of its two ends what the other hands over.
+// A road brings to each of its two ends what the other hands over. Two ends outside the ball have the lowest number already.
 fn pull_road(x: &mut [u32], both: &[u32], inside: &[bool], first: usize, second: usize)
     requires { ⌜ (first < second) × (second < length (now inside)) × LowOutside (now inside) (now x) (length (now inside)) × (length (now inside) * lanes ≤ length (now x)) × (length (now inside) * lanes ≤ length (now both)) ⌝ }
     ensures { λ _. ⌜ RoadPulled first second (now (both .entry)) (now (x .entry)) (now (x .exit)) ⌝ }
 {
-    pull(x, both, inside, first, second);
-    pull(x, both, inside, second, first);
+    if inside[first] | inside[second] {
+        pull_strip(x, both, first, second);
+        pull_strip(x, both, second, first);
+    }
 }
 
 fn step(x: &mut [u32], both: &[u32], inside: &[bool], sheet: &[u8], roads: usize)
@@ -79,7 +70,7 @@ fn round(
     step(x, both, inside, sheet, roads);
 }
 
-// Whether the numbers of a place inside, in whole units, are other than they were.
+// Whether a number inside the ball is another, with so many chain numbers as `unit` says taken as one. Outside nothing changes.
 fn changed(old: &[u32], x: &[u32], inside: &[bool], unit: u32) -> bool
     requires { ⌜ (1 ≤ unit) × (length (now inside) * lanes ≤ length (now old)) × (length (now inside) * lanes ≤ length (now x)) × LowOutside (now inside) (now old) (length (now inside)) × LowOutside (now inside) (now x) (length (now inside)) ⌝ }
     ensures { λ r. ⌜ RowsApart r (λ c. c / unit) (now (old .entry)) (now (x .entry)) (length (now (inside .entry))) ⌝ }

@@ -92,7 +92,7 @@ pub(crate) fn mark_ball(inside: &mut [bool], distances: &[u8], centre: usize, up
     }
 }
 
-// What the ball of another centre has left outside this one would be handed over.
+// Outside this ball the rows have what another centre's ball left there, and a pull would bring it in.
 pub(crate) fn clear_outside(inside: &[bool], old: &mut [u32], both: &mut [u32])
     requires { ⌜ (length (now inside) * lanes ≤ length (now old)) × (length (now inside) * lanes ≤ length (now both)) ⌝ }
     ensures { λ _. ⌜ LowOutside (now (inside .entry)) (now (old .exit)) (length (now (inside .entry))) × LowOutside (now (inside .entry)) (now (both .exit)) (length (now (inside .entry))) ⌝ }

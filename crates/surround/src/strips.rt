@@ -27,7 +27,6 @@ pub(crate) fn copy_strip(from: &[u32], to: &mut [u32], place: usize)
     }
 }
 
-// The greater of two numbers.
 pub(crate) fn greater_strip(x: &[u32], right: &[u32], both: &mut [u32], place: usize)
     requires { ⌜ (place * lanes + lanes ≤ length (now x)) × (place * lanes + lanes ≤ length (now right)) × (place * lanes + lanes ≤ length (now both)) ⌝ }
     ensures { λ _. ⌜ Written place lanes (λ lane. chainLattice .join (laneOf (now (x .entry)) lane place) (laneOf (now (right .entry)) lane place)) (now (both .entry)) (now (both .exit)) ⌝ }
@@ -49,7 +48,7 @@ pub(crate) fn pull_strip(x: &mut [u32], both: &[u32], place: usize, other: usize
     }
 }
 
-// Whether a chain number, in whole units, is another in one of the lanes.
+// Whether a chain number is another in one of the lanes, with so many as `unit` says taken as one.
 pub(crate) fn strip_changed(old: &[u32], x: &[u32], place: usize, unit: u32) -> bool
     requires { ⌜ (1 ≤ unit) × (place * lanes + lanes ≤ length (now old)) × (place * lanes + lanes ≤ length (now x)) ⌝ }
     ensures { λ r. ⌜ StripsApart r (λ c. c / unit) (now (old .entry)) (now (x .entry)) place lanes ⌝ }
