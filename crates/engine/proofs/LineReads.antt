@@ -1,4 +1,4 @@
--- What a good line reads is there: for a line that goes point by point, its operands up to the last sample that it asks for; for a surround, all
+-- What a good line reads is there: for a line that goes sample by sample, its operands up to the last sample that it asks for; for a surround, all
 -- that its writer wants.
 use mathlib.Core.Path.{_≡_, refl, subst}
 use mathlib.Core.List.{List}
@@ -17,14 +17,14 @@ use Rattle.sheet.specs.Decoding.{operatorSaid, lineSaid}
 use Rattle.sheet.proofs.AcceptedLines.{GoodLine, Sound}
 use Rattle.verdicts.specs.Writing.{lineRounds, Written, Readable}
 use Rattle.engine.specs.declared.line.Way.{Way}
-use Rattle.engine.specs.declared.line.Way.the-variants.{Points, Surround}
+use Rattle.engine.specs.declared.line.Way.the-variants.{Rows, Surround}
 use Rattle.verdicts.specs.SurroundLine.{SurroundReady}
 use Rattle.engine.specs.Way.{wayOf}
 use Rattle.engine.specs.Line.{LineReady}
 
 -- what is known of a line by the way in which it goes
 abbrev pub Reads : List ℕ → Layout → List ℕ → List ℕ → ℕ → Operator → Way → Type 0
-Reads s L words starts samples o Points =
+Reads s L words starts samples o Rows =
     ((t : ℕ) → t < samples → Readable L words starts (operatorSaid o) t) × ((t l : ℕ) → lineRounds s L words starts (operatorSaid o) t l ≡ 0)
 Reads s L words starts samples o (Surround left right b) = o ≡ Surrounded left right b
 

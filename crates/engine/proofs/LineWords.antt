@@ -1,5 +1,5 @@
 -- A line behind its first word: what its verdicts are made from stands before them, and verdicts and rounds that are the line's at each point
--- make it, whether they are found point by point or in blocks.
+-- make it, whether they are found sample by sample or in blocks.
 use mathlib.Core.Path.{_≡_, sym, ap, _∙_}
 use mathlib.Core.List.{List, [], _∷_}
 use Prim.Native.Nat.{ℕ, _+_, _<_, _^_}
@@ -62,13 +62,13 @@ module _ (answer : List ℕ) (to : ℕ) (line : Line) {first : List ℕ} (room :
       greatest = done .greatest ∙ most-same _ _ (line .length) (λ t _. most-same _ _ (L .places) (λ l b. same-rounds t l b));
     }
 
-    pub points-written : ((t l : ℕ) → lineRounds s L (wordsUpTo answer to (lineSaid line)) starts (operatorSaid (line .operator)) t l ≡ 0)
+    pub rows-written : ((t l : ℕ) → lineRounds s L (wordsUpTo answer to (lineSaid line)) starts (operatorSaid (line .operator)) t l ≡ 0)
         → {after : List ℕ} {many : ℕ}
         → after ≡ put first (to + 1) (rows (λ t l. chainWord (lineValue s L (take (to + 1) first) starts (operatorSaid (line .operator)) t l)) (line .length) (L .places))
         → many ≡ sumBelow (λ t. sumBelow (λ l. count (chainVerdict (lineValue s L (take (to + 1) first) starts (operatorSaid (line .operator)) t l))) (L .places)) (line .length)
         → LineWritten s L answer starts to (lineSaid line) after (record { rounds = 0; yes = many })
     unfolding valueHere roundsHere
-    points-written none written counted = line-written _ (λ _ _. 0)
+    rows-written none written counted = line-written _ (λ _ _. 0)
         (λ t l _. ap (λ w. lineValue s L w starts (operatorSaid (line .operator)) t l) before-verdicts)
         (λ t l _. sym (none t l)) (record { written = written; counted = counted; greatest = most-none (line .length) (L .places) })
 

@@ -1,4 +1,4 @@
-// One line of the answer: its first word, and its verdicts, point by point or, for a surround, in blocks of samples.
+// One line of the answer: its first word, and its verdicts, sample by sample or, for a surround, in blocks of samples.
 use sheet::check::Layout;
 use sheet::line::Line;
 use sheet::operator::Bounds;
@@ -19,7 +19,7 @@ const LINE: u32 = 3758096384;
 
 // How the verdicts of a line are found.
 enum Way {
-    Points,
+    Rows,
     Surround {
         left: usize,
         right: usize,
@@ -31,13 +31,13 @@ fn way_of(operator: Operator) -> Way
     ensures { λ r. ⌜ r ≡ wayOf operator ⌝ }
 {
     match operator {
-        Operator::True => Way::Points,
-        Operator::AtLeast { .. } => Way::Points,
-        Operator::AtMost { .. } => Way::Points,
-        Operator::Not { .. } => Way::Points,
-        Operator::And { .. } => Way::Points,
-        Operator::Until { .. } => Way::Points,
-        Operator::Somewhere { .. } => Way::Points,
+        Operator::True => Way::Rows,
+        Operator::AtLeast { .. } => Way::Rows,
+        Operator::AtMost { .. } => Way::Rows,
+        Operator::Not { .. } => Way::Rows,
+        Operator::And { .. } => Way::Rows,
+        Operator::Until { .. } => Way::Rows,
+        Operator::Somewhere { .. } => Way::Rows,
         Operator::Surrounded {
             left,
             right,
@@ -47,10 +47,10 @@ fn way_of(operator: Operator) -> Way
             right,
             bounds,
         },
-        Operator::Or { .. } => Way::Points,
-        Operator::Eventually { .. } => Way::Points,
-        Operator::Always { .. } => Way::Points,
-        Operator::Everywhere { .. } => Way::Points,
+        Operator::Or { .. } => Way::Rows,
+        Operator::Eventually { .. } => Way::Rows,
+        Operator::Always { .. } => Way::Rows,
+        Operator::Everywhere { .. } => Way::Rows,
     }
 }
 
@@ -87,7 +87,7 @@ pub(crate) fn write_line(
             begin,
             samples,
         ),
-        Way::Points => {
+        Way::Rows => {
             let yes = write_rows(
                 operator,
                 sheet,

@@ -48,7 +48,7 @@ pub record Written (L : Layout) (words starts : List ℕ) (j t : ℕ) : Type 0 w
   pub line : j < length starts
   pub inside : getD starts j 0 + (t + 1) * L .places ≤ length words
 
--- what an operator reads at sample t is there; a surround is not evaluated point by point
+-- what an operator reads at sample t is there; a surround is not evaluated sample by sample
 abbrev pub Readable : Layout → List ℕ → List ℕ → Operator → ℕ → Type 0
 Readable L words starts True t = Unit {0}
 Readable L words starts (AtLeast signal c) t = (signal < L .signals) × (t < L .samples) × InBits 26 c

@@ -14,7 +14,7 @@ use Rattle.engine.specs.declared.line.Way.{Way}
 use Rattle.verdicts.specs.SurroundLine.{SurroundReady}
 use Rattle.engine.specs.Line.{firstWord, wordsUpTo}
 use Rattle.engine.proofs.LineReads.{Reads, line-reads, operands-known, upper-small, surround-ready}
-use Rattle.engine.proofs.LineWords.{length-kept, before-verdicts, points-written, surround-written}
+use Rattle.engine.proofs.LineWords.{length-kept, before-verdicts, rows-written, surround-written}
 use Rattle.engine.proofs.line.write_line.Statement.{statement}
 use Rattle.engine.proofs.line.write_line.Tie as tie
 
@@ -128,7 +128,7 @@ returns-2 c =
     let arm = c .before .before .before .before in
     let way = arm .before .before in
     let (written, counted) = c .before .before .write-rows .ensures in
-    points-written (answer way) (start way .args .to) (start way .args .line) (room way) (put-first way) (reads way (arm .enum-told .given .1) .1) written counted
+    rows-written (answer way) (start way .args .to) (start way .args .line) (room way) (put-first way) (reads way (arm .enum-told .given .1) .1) written counted
 
 pub write-line-spec : {M : Type 1} → statement M
 write-line-spec =
