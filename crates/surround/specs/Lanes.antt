@@ -14,7 +14,7 @@ use Rattle.values.specs.Chain.{chainLattice, chainMargin}
 use Rattle.values.specs.Signals.{signalIn, inTable}
 
 abbrev pub lanes : ℕ
-lanes = 32
+lanes = 16
 
 -- a lane of a row, by place
 abbrev pub laneOf : List ℕ → ℕ → ℕ → ℕ

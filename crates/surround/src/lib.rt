@@ -20,7 +20,7 @@ use sheet::limits::MOST_PLACES;
 use strips::copy_strip;
 
 // Samples side by side.
-pub const LANES: usize = 32;
+pub const LANES: usize = 16;
 
 // The length of a row with the lanes of the most places.
 pub const ROW: usize = MOST_PLACES * LANES;
