@@ -48,7 +48,7 @@ fn recorded_row(
 }
 
 // Code 3: the signal of an earlier line.
-fn not_line(words: &[u8], starts: &[usize], layout: Layout, left: usize, t: usize, row: &mut [u32])
+fn not_of(words: &[u8], starts: &[usize], layout: Layout, left: usize, t: usize, row: &mut [u32])
     requires { ⌜ Written layout (wordsOf (now words)) (now starts) left t × (layout .places ≤ length (now row)) ⌝ }
     ensures { λ _. ⌜ Filled (layout .places) (opposite chains (earlier layout (wordsOf (now (words .entry))) (now (starts .entry)) left) t) (now (row .exit)) ⌝ }
 {
@@ -56,7 +56,7 @@ fn not_line(words: &[u8], starts: &[usize], layout: Layout, left: usize, t: usiz
 }
 
 // Codes 4 and 8: the signals of two earlier lines.
-fn and_lines(
+fn and_of(
     words: &[u8],
     starts: &[usize],
     layout: Layout,
@@ -81,7 +81,7 @@ fn and_lines(
 }
 
 // Code 5.
-fn until_lines(
+fn until_of(
     words: &[u8],
     starts: &[usize],
     layout: Layout,
@@ -107,7 +107,7 @@ fn until_lines(
 }
 
 // Codes 9 and 10.
-fn eventually_line(
+fn eventually_of(
     words: &[u8],
     starts: &[usize],
     layout: Layout,
@@ -133,7 +133,7 @@ fn eventually_line(
 }
 
 // Codes 6 and 11.
-fn somewhere_line(
+fn somewhere_of(
     words: &[u8],
     starts: &[usize],
     layout: Layout,
@@ -183,41 +183,35 @@ pub(crate) fn value_row(
         Operator::AtMost { signal, constant } => {
             recorded_row(sheet, layout, signal, constant, false, t, row)
         }
-        Operator::Not { left } => not_line(words, starts, layout, left, t, row),
-        Operator::And { left, right } => {
-            and_lines(words, starts, layout, left, right, false, t, row)
-        }
+        Operator::Not { left } => not_of(words, starts, layout, left, t, row),
+        Operator::And { left, right } => and_of(words, starts, layout, left, right, false, t, row),
         Operator::Until {
             left,
             right,
             bounds,
-        } => until_lines(words, starts, layout, left, right, bounds, t, row),
-        Operator::Somewhere { left, bounds } => {
-            somewhere_line(
-                words,
-                starts,
-                layout,
-                distances,
-                left,
-                bounds,
-                false,
-                t,
-                row,
-            )
-        }
+        } => until_of(words, starts, layout, left, right, bounds, t, row),
+        Operator::Somewhere { left, bounds } => somewhere_of(
+            words,
+            starts,
+            layout,
+            distances,
+            left,
+            bounds,
+            false,
+            t,
+            row,
+        ),
         // written in blocks of samples
         Operator::Surrounded { .. } => {}
-        Operator::Or { left, right } => {
-            and_lines(words, starts, layout, left, right, true, t, row)
-        }
+        Operator::Or { left, right } => and_of(words, starts, layout, left, right, true, t, row),
         Operator::Eventually { left, bounds } => {
-            eventually_line(words, starts, layout, left, bounds, false, t, row)
+            eventually_of(words, starts, layout, left, bounds, false, t, row)
         }
         Operator::Always { left, bounds } => {
-            eventually_line(words, starts, layout, left, bounds, true, t, row)
+            eventually_of(words, starts, layout, left, bounds, true, t, row)
         }
         Operator::Everywhere { left, bounds } => {
-            somewhere_line(words, starts, layout, distances, left, bounds, true, t, row)
+            somewhere_of(words, starts, layout, distances, left, bounds, true, t, row)
         }
     }
 }

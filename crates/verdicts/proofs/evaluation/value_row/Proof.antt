@@ -75,29 +75,29 @@ recorded-row-requires-2 c κs = atoms-inside (c .before .before .before .before)
 enum-known-operator-3 : tie.Need-enum-known-operator-3
 enum-known-operator-3 c = search needs
 
-not-line-requires : tie.Need-not-line-requires
-not-line-requires c κs =
+not-of-requires : tie.Need-not-of-requires
+not-of-requires c κs =
     let known = c .before .before .before .before in (readable known (c .before .before .operator3 .given .1), start known .pre .3)
 
 enum-known-operator-4 : tie.Need-enum-known-operator-4
 enum-known-operator-4 c = search needs
 
-and-lines-requires : tie.Need-and-lines-requires
-and-lines-requires c κs =
+and-of-requires : tie.Need-and-of-requires
+and-of-requires c κs =
     let known = c .before .before .before .before in let (left, right) = readable known (c .before .before .operator4 .given .1) in (left, right, start known .pre .3)
 
 enum-known-operator-5 : tie.Need-enum-known-operator-5
 enum-known-operator-5 c = search needs
 
-until-lines-requires : tie.Need-until-lines-requires
-until-lines-requires c κs =
+until-of-requires : tie.Need-until-of-requires
+until-of-requires c κs =
     let known = c .before .before .before .before in let (ordered, left, right) = readable known (c .before .before .operator5 .given .1) in (ordered, left, right, start known .pre .3)
 
 enum-known-operator-6 : tie.Need-enum-known-operator-6
 enum-known-operator-6 c = search needs
 
-somewhere-line-requires : tie.Need-somewhere-line-requires
-somewhere-line-requires c κs =
+somewhere-of-requires : tie.Need-somewhere-of-requires
+somewhere-of-requires c κs =
     let known = c .before .before .before .before in (readable known (c .before .before .operator6 .given .1) .1, start known .pre .0 .places .1, start known .pre .0 .room, start known .pre .3)
 
 enum-told-2 : tie.Need-enum-told-2
@@ -106,16 +106,16 @@ enum-told-2 c = search needs
 enum-known-operator-7 : tie.Need-enum-known-operator-7
 enum-known-operator-7 c = search needs
 
-and-lines-requires-2 : tie.Need-and-lines-requires-2
-and-lines-requires-2 c κs =
+and-of-requires-2 : tie.Need-and-of-requires-2
+and-of-requires-2 c κs =
     let known = c .before .before .before .before in let (left, right) = readable known (c .before .before .operator7 .given .1) in (left, right, start known .pre .3)
 
 enum-known-operator-8 : tie.Need-enum-known-operator-8
 enum-known-operator-8 c = search needs
 
-eventually-line-requires : tie.Need-eventually-line-requires
+eventually-of-requires : tie.Need-eventually-of-requires
 unfolding lineValue value
-eventually-line-requires c κs =
+eventually-of-requires c κs =
     let known = c .before .before .before .before in
     let which = c .before .before .operator8 .given .1 in
     let (ordered, line) = readable known which in
@@ -124,9 +124,9 @@ eventually-line-requires c κs =
 enum-known-operator-9 : tie.Need-enum-known-operator-9
 enum-known-operator-9 c = search needs
 
-eventually-line-requires-2 : tie.Need-eventually-line-requires-2
+eventually-of-requires-2 : tie.Need-eventually-of-requires-2
 unfolding lineValue value
-eventually-line-requires-2 c κs =
+eventually-of-requires-2 c κs =
     let known = c .before .before .before .before in
     let which = c .before .before .operator9 .given .1 in
     let (ordered, line) = readable known which in
@@ -135,8 +135,8 @@ eventually-line-requires-2 c κs =
 enum-known-operator-10 : tie.Need-enum-known-operator-10
 enum-known-operator-10 c = search needs
 
-somewhere-line-requires-2 : tie.Need-somewhere-line-requires-2
-somewhere-line-requires-2 c κs =
+somewhere-of-requires-2 : tie.Need-somewhere-of-requires-2
+somewhere-of-requires-2 c κs =
     let known = c .before .before .before .before in (readable known (c .before .before .operator10 .given .1) .1, start known .pre .0 .places .1, start known .pre .0 .room, start known .pre .3)
 
 same-length : tie.Need-same-length
@@ -171,21 +171,21 @@ same-length-4 c = search needs
 
 returns-4 : tie.Need-returns-4
 unfolding lineValue value
-returns-4 c = told (c .before .before .before .before .before .before .before) (c .before .before .before .before .before .operator3 .given .1) (c .before .before .not-line .ensures)
+returns-4 c = told (c .before .before .before .before .before .before .before) (c .before .before .before .before .before .operator3 .given .1) (c .before .before .not-of .ensures)
 
 same-length-5 : tie.Need-same-length-5
 same-length-5 c = search needs
 
 returns-5 : tie.Need-returns-5
 unfolding lineValue value
-returns-5 c = told (c .before .before .before .before .before .before .before) (c .before .before .before .before .before .operator4 .given .1) (c .before .before .and-lines .ensures)
+returns-5 c = told (c .before .before .before .before .before .before .before) (c .before .before .before .before .before .operator4 .given .1) (c .before .before .and-of .ensures)
 
 same-length-6 : tie.Need-same-length-6
 same-length-6 c = search needs
 
 returns-6 : tie.Need-returns-6
 unfolding lineValue value
-returns-6 c = told (c .before .before .before .before .before .before .before) (c .before .before .before .before .before .operator5 .given .1) (c .before .before .until-lines .ensures)
+returns-6 c = told (c .before .before .before .before .before .before .before) (c .before .before .before .before .before .operator5 .given .1) (c .before .before .until-of .ensures)
 
 same-length-7 : tie.Need-same-length-7
 same-length-7 c = search needs
@@ -195,7 +195,7 @@ unfolding lineValue value
 returns-7 c =
     let known = c .before .before .before .before .before .before .before in
     let which = c .before .before .before .before .before .operator6 .given .1 in
-    told known which (somewhere-same _ (start known .args .layout) _ (start known .pre .0) false _ _ _ (start known .args .t) (readable known which .0) _ (c .before .before .somewhere-line .ensures))
+    told known which (somewhere-same _ (start known .args .layout) _ (start known .pre .0) false _ _ _ (start known .args .t) (readable known which .0) _ (c .before .before .somewhere-of .ensures))
 
 returns-8 : tie.Need-returns-8
 returns-8 c = absurd (readable (c .before .before) (c .enum-told2 .given .1))
@@ -205,21 +205,21 @@ same-length-8 c = search needs
 
 returns-9 : tie.Need-returns-9
 unfolding lineValue value
-returns-9 c = told (c .before .before .before .before .before .before .before) (c .before .before .before .before .before .operator7 .given .1) (c .before .before .and-lines2 .ensures)
+returns-9 c = told (c .before .before .before .before .before .before .before) (c .before .before .before .before .before .operator7 .given .1) (c .before .before .and-of2 .ensures)
 
 same-length-9 : tie.Need-same-length-9
 same-length-9 c = search needs
 
 returns-10 : tie.Need-returns-10
 unfolding lineValue value
-returns-10 c = told (c .before .before .before .before .before .before .before) (c .before .before .before .before .before .operator8 .given .1) (c .before .before .eventually-line .ensures)
+returns-10 c = told (c .before .before .before .before .before .before .before) (c .before .before .before .before .before .operator8 .given .1) (c .before .before .eventually-of .ensures)
 
 same-length-10 : tie.Need-same-length-10
 same-length-10 c = search needs
 
 returns-11 : tie.Need-returns-11
 unfolding lineValue value
-returns-11 c = told (c .before .before .before .before .before .before .before) (c .before .before .before .before .before .operator9 .given .1) (c .before .before .eventually-line2 .ensures)
+returns-11 c = told (c .before .before .before .before .before .before .before) (c .before .before .before .before .before .operator9 .given .1) (c .before .before .eventually-of2 .ensures)
 
 same-length-11 : tie.Need-same-length-11
 same-length-11 c = search needs
@@ -229,7 +229,7 @@ unfolding lineValue value
 returns-12 c =
     let known = c .before .before .before .before .before .before .before in
     let which = c .before .before .before .before .before .operator10 .given .1 in
-    told known which (somewhere-same _ (start known .args .layout) _ (start known .pre .0) true _ _ _ (start known .args .t) (readable known which .0) _ (c .before .before .somewhere-line2 .ensures))
+    told known which (somewhere-same _ (start known .args .layout) _ (start known .pre .0) true _ _ _ (start known .args .t) (readable known which .0) _ (c .before .before .somewhere-of2 .ensures))
 
 pub value-row-spec : {M : Type 1} → statement M
 value-row-spec =
@@ -242,22 +242,22 @@ value-row-spec =
     enum-known-operator-2
     recorded-row-requires-2
     enum-known-operator-3
-    not-line-requires
+    not-of-requires
     enum-known-operator-4
-    and-lines-requires
+    and-of-requires
     enum-known-operator-5
-    until-lines-requires
+    until-of-requires
     enum-known-operator-6
-    somewhere-line-requires
+    somewhere-of-requires
     enum-told-2
     enum-known-operator-7
-    and-lines-requires-2
+    and-of-requires-2
     enum-known-operator-8
-    eventually-line-requires
+    eventually-of-requires
     enum-known-operator-9
-    eventually-line-requires-2
+    eventually-of-requires-2
     enum-known-operator-10
-    somewhere-line-requires-2
+    somewhere-of-requires-2
     same-length
     returns
     same-length-2
