@@ -4,7 +4,7 @@ use super::{sheets, timed, Times};
 use crate::Engine;
 
 /// Times the three sheets of the benchmark, then how time grows with samples,
-/// places, lines and windows of time; prints a row for each.
+/// places, lines, windows of time and ranges; prints a row for each.
 pub fn print(engine: &dyn Engine) {
     section("The three sheets, 64 places and 1,024 samples");
     row(engine, "8×8 grid, every code", &sheets::full_grid());
@@ -14,11 +14,12 @@ pub fn print(engine: &dyn Engine) {
     by_places(engine);
     by_lines(engine);
     by_windows(engine);
+    by_ranges(engine);
 }
 
 fn by_samples(engine: &dyn Engine) {
     section("By samples: 8×8 grid, every code");
-    for samples in [64, 128, 256, 512, 1024] {
+    for samples in [8, 16, 64, 256, 1024] {
         row(engine, &format!("{samples} samples"), &sheets::grid(8, samples));
     }
 }
@@ -41,6 +42,13 @@ fn by_windows(engine: &dyn Engine) {
     section("By windows: 8×8 grid, until, eventually and always, 1,024 samples");
     for ahead in [4, 16, 64, 256, 512] {
         row(engine, &format!("0..{ahead}"), &sheets::grid_of_windows(ahead));
+    }
+}
+
+fn by_ranges(engine: &dyn Engine) {
+    section("By ranges: 8×8 grid, somewhere and everywhere, 1,024 samples");
+    for upper in [2, 5, 10, 100] {
+        row(engine, &format!("0..{upper}"), &sheets::grid_of_ranges(upper));
     }
 }
 

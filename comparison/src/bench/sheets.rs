@@ -135,3 +135,12 @@ pub fn grid_of_windows(ahead: u32) -> Vec<u32> {
         .bounded(10, 1, 0, (0, ahead))
         .end()
 }
+
+/// The 8×8 grid with no surround: somewhere and everywhere up to a distance.
+pub fn grid_of_ranges(upper: u32) -> Vec<u32> {
+    grid_network(8, SAMPLES)
+        .at_least(0, -20)
+        .bounded(6, 0, 0, (0, upper))
+        .bounded(11, 0, 0, (0, upper))
+        .end()
+}
