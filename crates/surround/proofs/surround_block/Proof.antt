@@ -1,3 +1,4 @@
+-- Both operands are decoded into rows that are valid, and what the centres leave in lanes is the block of samples.
 use Rattle.words.specs.Bytes.{wordsOf, numbersOf}
 use Rattle.surround.proofs.BlockLaws.{row-valid, block-done}
 use borrow.Author.Needs.{needs}

@@ -1,3 +1,4 @@
+-- The ball is flagged, both rows are masked by it and lowest outside, and what settling leaves at the centre is the surround.
 use mathlib.Core.Path.{_≡_, sym, subst, _∙_}
 use Prim.Native.Nat.{ℕ, _*_, _≤_}
 use native.Mathlib.Omega.{arith}

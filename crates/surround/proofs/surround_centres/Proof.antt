@@ -1,3 +1,4 @@
+-- Each turn settles one centre more, copies its strip and keeps the greater rounds.
 use Prim.Native.Nat.{ℕ, _-_, _*_, _≤_}
 use mathlib.Core.Path.{_≡_, refl, sym, subst, _∙_}
 use native.Mathlib.Omega.{arith}

@@ -1,3 +1,4 @@
+-- A no at minus infinity is the number 0.
 use borrow.Author.Needs.{needs}
 use Rattle.values.specs.Chain.{marginAt}
 use Rattle.values.proofs.bottom.Statement.{statement}

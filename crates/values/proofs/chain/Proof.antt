@@ -1,3 +1,4 @@
+-- Twice the code, and 1 for a yes.
 use mathlib.Core.Path.{sym, ap₂}
 use Prim.Native.Nat.{_+_, _*_}
 use native.Mathlib.Omega.{arith}

@@ -1,3 +1,4 @@
+-- The difference of two fields of 27 bits has a code, and is a yes where it is not negative.
 use mathlib.Core.Path.{_≡_, ap, ap₂, _∙_}
 use Prim.Native.Nat.{_<_, _^_}
 use native.Mathlib.Omega.{arith}

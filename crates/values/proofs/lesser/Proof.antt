@@ -1,3 +1,4 @@
+-- The test is that of the order.
 use borrow.Author.Tests.{le-leb, lt-leb}
 use Rattle.values.proofs.lesser.Statement.{statement}
 use Rattle.values.proofs.lesser.Tie as tie

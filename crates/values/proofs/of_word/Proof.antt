@@ -1,3 +1,4 @@
+-- The kinds of the infinities are told last, over the number that the payload gives.
 use mathlib.Core.Path.{_∙_}
 use native.Mathlib.Omega.{arith}
 use lib.Dec.{eqb}

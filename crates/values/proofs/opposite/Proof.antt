@@ -1,3 +1,4 @@
+-- The parity tells the verdict, and both it and the margin are turned.
 use mathlib.Core.Path.{_≡_, refl, _∙_}
 use mathlib.Core.Bool.{Bool, true, false}
 use Prim.Native.Nat.{ℕ, _+_, _*_, _/_, _%_, _-_, _≤_, _^_}

@@ -1,3 +1,4 @@
+-- A yes at plus infinity is the highest number.
 use borrow.Author.Needs.{needs}
 use Rattle.values.specs.Chain.{marginAt}
 use Rattle.values.proofs.top.Statement.{statement}

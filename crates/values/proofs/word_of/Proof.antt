@@ -1,3 +1,4 @@
+-- The two ends have kinds of their own, told last, over the word between them.
 use mathlib.Core.Path.{_≡_, refl, sym, ap, _∙_}
 use mathlib.Core.Bool.{Bool, true, false, cond}
 use Prim.Native.Nat.{_+_, _-_, _/_, _%_, _^_}

@@ -1,3 +1,4 @@
+-- Each turn clears one byte more.
 use Prim.Native.Nat.{_-_, _≤_}
 use Prim.Native.Nat.{ℕ}
 use mathlib.Core.Path.{_≡_, _∙_, ap}

@@ -1,3 +1,4 @@
+-- A number is the two words at twice its index.
 use Prim.Native.Nat.{_+_, _*_, _<_}
 use mathlib.Core.Path.{sym, _∙_}
 use native.Mathlib.Omega.{arith}

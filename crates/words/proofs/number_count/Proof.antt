@@ -1,3 +1,4 @@
+-- Eight bytes to a number.
 use mathlib.Core.Path.{sym}
 use Rattle.words.proofs.Numbers.{length-numbers}
 use Rattle.words.proofs.number_count.Statement.{statement}

@@ -1,3 +1,4 @@
+-- The four bytes are the word's own, lowest first.
 use Prim.Native.Nat.{_/_, _%_}
 use mathlib.Core.Path.{_∙_, ap}
 use native.Mathlib.Omega.{arith}

@@ -1,3 +1,4 @@
+-- Below half of the field's values the number is the field, and from there on the field less 2^27.
 use Prim.Native.Nat.{ℕ, suc, _-_, _%_, _<_, _^_}
 use native.Mathlib.Omega.{arith}
 use mathlib.Core.Path.{_≡_, _∙_}

@@ -1,3 +1,4 @@
+-- Four bytes at four times the index.
 use mathlib.Core.Path.{_∙_, sym}
 use native.Mathlib.Omega.{arith}
 use Rattle.words.proofs.Words.{words-count, getD-words}

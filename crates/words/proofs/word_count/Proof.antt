@@ -1,3 +1,4 @@
+-- Four bytes to a word.
 use mathlib.Core.Path.{sym}
 use Rattle.words.proofs.Words.{length-words}
 use Rattle.words.proofs.word_count.Statement.{statement}

@@ -1,3 +1,4 @@
+-- Place after place: a place outside is alike in both rows, and the first that is not alike ends the loop.
 use Prim.Native.Nat.{_-_, _/_, _≤_}
 use mathlib.Core.Path.{_≡_, refl, sym, subst, _∙_}
 use mathlib.Core.Bool.{false}

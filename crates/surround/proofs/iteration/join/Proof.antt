@@ -1,3 +1,4 @@
+-- Each turn joins one place more; a place outside has been joined already, as all its numbers are lowest.
 use Prim.Native.Nat.{_-_, _≤_}
 use mathlib.Core.Path.{_≡_, subst, _∙_}
 use mathlib.Core.Logic.{⊎-elim}

@@ -1,3 +1,4 @@
+-- Two pulls along a road, or none where both its ends lie outside.
 use native.Mathlib.Omega.{arith}
 use Rattle.surround.proofs.StripLaws.{road-pulled}
 use Rattle.surround.proofs.Outside.{road-outside}

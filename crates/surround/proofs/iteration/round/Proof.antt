@@ -1,3 +1,4 @@
+-- Joining and stepping make a round, and leave every row lowest outside.
 use Rattle.words.specs.Bytes.{wordsOf}
 use lib.ListN.{length}
 use Rattle.surround.proofs.Least.{round-made}

@@ -1,3 +1,4 @@
+-- Each turn is one step of the iteration in every lane; the sum of the numbers falls while something moves, so that the loop ends.
 use mathlib.Core.Path.{sym, _∙_}
 use Prim.Native.Nat.{_/_}
 use native.Mathlib.Omega.{arith}

@@ -1,3 +1,4 @@
+-- Each turn takes one road more into the least of what the neighbours hand over.
 use Rattle.words.proofs.Words.{words-count}
 use Prim.Native.Nat.{ℕ, _-_, _/_, _%_, _≤_, _<_}
 use mathlib.Core.Path.{_≡_, subst, _∙_}

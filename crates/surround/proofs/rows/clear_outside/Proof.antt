@@ -1,3 +1,4 @@
+-- Each turn makes one place more lowest, if it lies outside.
 use Prim.Native.Nat.{_-_, _≤_}
 use mathlib.Core.Path.{_≡_, refl, subst, _∙_}
 use mathlib.Core.Logic.{⊎-elim}

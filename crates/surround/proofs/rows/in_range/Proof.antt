@@ -1,3 +1,4 @@
+-- The two tests are those of a range, one at a time.
 use borrow.Author.Tests.{le-leb, lt-leb}
 use borrow.Author.Needs.{needs}
 use Rattle.surround.proofs.rows.in_range.Statement.{statement}

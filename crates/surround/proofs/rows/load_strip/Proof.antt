@@ -1,3 +1,4 @@
+-- Each turn decodes one lane more.
 use Prim.Native.Nat.{_-_}
 use native.Mathlib.Omega.{arith}
 use Rattle.words.specs.Bytes.{wordsOf}

@@ -1,3 +1,4 @@
+-- A strip is copied or made lowest, by the flag.
 use borrow.Author.Needs.{needs}
 use Rattle.surround.proofs.rows.mask_strip.Statement.{statement}
 use Rattle.surround.proofs.rows.mask_strip.Tie as tie

@@ -1,3 +1,4 @@
+-- A lane past the last sample is 0, and the others have a word.
 use Prim.Native.Nat.{_+_, _*_, _≤_, _<_}
 use mathlib.Core.Path.{_∙_, ap}
 use native.Mathlib.Omega.{arith}

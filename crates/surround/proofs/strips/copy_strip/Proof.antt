@@ -1,3 +1,4 @@
+-- Each turn copies one lane more.
 use mathlib.Core.Path.{refl}
 use Prim.Native.Nat.{_-_}
 use native.Mathlib.Omega.{arith}

@@ -1,3 +1,4 @@
+-- Each turn takes the greater in one lane more.
 use Prim.Native.Nat.{_-_}
 use native.Mathlib.Omega.{arith}
 use Rattle.values.specs.Chain.{chainLattice}

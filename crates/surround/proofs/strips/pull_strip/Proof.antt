@@ -1,3 +1,4 @@
+-- Each turn takes the lesser in one lane more, of what stood at the place before.
 use mathlib.Core.Path.{ap, _∙_}
 use Prim.Native.Nat.{ℕ, _-_}
 use native.Mathlib.Omega.{arith}

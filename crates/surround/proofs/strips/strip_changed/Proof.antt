@@ -1,3 +1,4 @@
+-- Each turn compares one lane more.
 use mathlib.Core.Path.{_≡_, subst}
 use mathlib.Core.Logic.{⊎-elim}
 use Prim.Native.Nat.{_-_, _/_, _≤_}

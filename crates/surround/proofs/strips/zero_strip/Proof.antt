@@ -1,3 +1,4 @@
+-- Each turn makes one lane more lowest.
 use mathlib.Core.Path.{refl}
 use Prim.Native.Nat.{_-_}
 use native.Mathlib.Omega.{arith}

@@ -1,3 +1,4 @@
+-- A number below 2^27 without its sign has its code between those of the infinities.
 use mathlib.Core.Path.{_≡_, refl, _∙_}
 use Prim.Native.Nat.{_≤_, _^_}
 use native.Mathlib.Omega.{arith}

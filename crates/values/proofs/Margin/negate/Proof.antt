@@ -1,3 +1,4 @@
+-- The codes of a margin and of its opposite sum to 2^28.
 use mathlib.Core.Path.{refl}
 use borrow.Author.Needs.{needs}
 use Rattle.values.proofs.Codes.{at-negate}
