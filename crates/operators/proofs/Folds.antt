@@ -12,7 +12,7 @@ use Rattle.logic.specs.Lattice.{leastOver, greatestOver}
 use Rattle.logic.specs.Table.{Signal, untilAt, everTrue}
 use Rattle.logic.proofs.Margins.{meet-by, join-by}
 use Rattle.values.specs.Chain.{chains, chainLattice, highest}
-use Rattle.values.proofs.Naturals.{leb-trans, leb-total}
+use Rattle.values.proofs.Naturals.{leb-trans, leb-total, join-max}
 use Rattle.operators.specs.Rows.{ahead}
 
 -- ---- a window that begins at `first`: nothing before it, and from there on every number counts
@@ -107,9 +107,6 @@ module _ (right : Signal chains) (l : ℕ) (small : (u : ℕ) → right u l ≤ 
   eventually-all lower upper t = until-all (everTrue chains) right lower upper t l ∙ greatest-true (leb (t + lower)) t (t + upper + 1)
 
 -- ---- a window that moves on by one sample
-pub join-max : (a b : ℕ) → chainLattice .join a b ≡ max a b
-join-max a b = join-by leb 0 highest leb-trans leb-total (λ m. m ≡ max a b) a b (λ h. let k = leb→le a b h in omega arith) (λ h. let k = leb→le b a h in omega arith)
-
 greatest-first : (f : ℕ → ℕ) (first n : ℕ) → first + 1 ≤ n → greatestOver chainLattice (leb first) f n ≡ max (f first) (greatestOver chainLattice (leb (first + 1)) f n)
 greatest-first f first n h = le-ind (λ k. greatestOver chainLattice (leb first) f k ≡ max (f first) (greatestOver chainLattice (leb (first + 1)) f k)) one more n h
   where

@@ -20,7 +20,7 @@ use Rattle.surround.proofs.Greatest.{most-same, most-front}
 
 -- ---- one row
 module _ (words : List ℕ) (start n first count : ℕ) (row : List ℕ) (w : RowOf (laneSignal words start n first count) row n) where
-  lane-signal : (lane l : ℕ) → count ≤ lanes → lane < count → l < n → laneOf row lane l ≡ signalIn words start n (first + lane) l
+  pub lane-signal : (lane l : ℕ) → count ≤ lanes → lane < count → l < n → laneOf row lane l ≡ signalIn words start n (first + lane) l
   lane-signal lane l h c b = w .at l lane b (omega arith) ∙ simp (lt-ltb lane count c)
 
   lane-zero : (lane l : ℕ) → lane < lanes → count ≤ lane → l < n → laneOf row lane l ≡ 0

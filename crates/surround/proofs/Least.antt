@@ -20,16 +20,9 @@ use Rattle.sheet.specs.Checked.{wordAt}
 use Rattle.sheet.specs.Layout.{roadAt, weightAt, firstPlace, secondPlace}
 use Rattle.sheet.specs.Roads.{joins, weightAmong}
 use Rattle.values.specs.Chain.{chainLattice, highest}
+use Rattle.values.proofs.Naturals.{meet-min}
 use Rattle.surround.specs.Lanes.{lanes, laneOf, joinedBy}
 use Rattle.surround.specs.Steps.{RoadsIn, Bounded, Joined, RoadPulled, LeastOf, Stepped, Round}
-
--- ---- lesser and greater
-pub meet-min : (a b : ℕ) → chainLattice .meet a b ≡ min a b
-meet-min a b = go (decLe a b)
-  where
-    go : Dec (a ≤ b) → cond (leb a b) a b ≡ min a b
-    go (yes h) = rw (le-leb a b h) (omega arith)
-    go (no h) = rw (lt-leb a b (omega arith)) (omega arith)
 
 -- ---- leastOver on chain numbers
 cond-le : (t : Bool) (z a b : ℕ) → (T t → z ≤ a) → z ≤ b → z ≤ cond t a b

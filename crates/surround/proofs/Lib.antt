@@ -7,3 +7,4 @@ pub mod RowLaws
 pub mod Centres
 pub mod BlockLaws
 pub mod SheetRoads
+pub mod Ranges

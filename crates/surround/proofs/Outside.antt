@@ -16,9 +16,9 @@ use Rattle.surround.specs.Lanes.{lanes, laneOf}
 use Rattle.surround.specs.Strips.{Written, StripsApart}
 use Rattle.surround.specs.Steps.{Marked, LowOutside, LowRows, Joined, RoadPulled, Stepped}
 use Rattle.surround.specs.Blocks.{RowOf}
-use Rattle.surround.proofs.StripLaws.{false-true}
+use Rattle.surround.proofs.StripLaws.{written-already, false-true}
 use Rattle.surround.proofs.RowLaws.{row-more}
-use Rattle.surround.proofs.Least.{meet-min}
+use Rattle.values.proofs.Naturals.{meet-min}
 
 -- ---- the flags
 pub marked-none : (test : ℕ → Bool) (flags : List Bool) → Marked test flags 0
@@ -51,10 +51,6 @@ masked-low distances n centre lower upper inside from to m w = record {
 }
 
 -- ---- one strip
--- a strip that holds already what would be written
-written-already : {place : ℕ} {f : ℕ → ℕ} {s : List ℕ} → ((lane : ℕ) → lane < lanes → laneOf s lane place ≡ f lane) → Written place lanes f s s
-written-already e = record { written = e; kept = λ _ _ _ _. refl }
-
 meet-low : {a : ℕ} (b : ℕ) → a ≡ 0 → a ≡ chainLattice .meet a b
 meet-low b e = rw meet-min (omega arith)
 

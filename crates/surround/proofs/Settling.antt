@@ -16,7 +16,7 @@ use Rattle.values.proofs.ChainSurround.{halves-rest-after, rounds-of-halves}
 use Rattle.surround.specs.Lanes.{lanes, laneOf, joinedBy}
 use Rattle.surround.specs.Strips.{RowsApart}
 use Rattle.surround.specs.Steps.{Bounded, ValidRow, Round, stepIn, roundsIn, Settled}
-use Rattle.surround.proofs.Least.{meet-min}
+use Rattle.values.proofs.Naturals.{meet-min}
 use Rattle.surround.proofs.Greatest.{most-le, le-most}
 
 -- ---- sums

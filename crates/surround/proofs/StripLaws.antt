@@ -1,5 +1,5 @@
 -- Laws of the loops over one place's lanes: one lane more is written, and one lane more is compared.
-use mathlib.Core.Path.{_≡_, sym, subst, _∙_, ap}
+use mathlib.Core.Path.{_≡_, refl, sym, subst, _∙_, ap}
 use mathlib.Core.Bool.{Bool, true, false}
 use mathlib.Core.List.{List}
 use Prim.Native.Nat.{ℕ, _+_, _*_, _<_, _≤_}
@@ -42,6 +42,13 @@ module _ {place k : ℕ} {f : ℕ → ℕ} {s t : List ℕ} (w : Writing place k
 
   pub writing-all : lanes ≤ k → Written place lanes f s t
   writing-all b = let e : k ≡ lanes = omega (arith, w .few) in subst (λ (i : ℕ). Written place i f s t) e (w .so-far)
+
+-- a strip that holds already what would be written, and one that is written twice
+pub written-already : {place : ℕ} {f : ℕ → ℕ} {s : List ℕ} → ((lane : ℕ) → lane < lanes → laneOf s lane place ≡ f lane) → Written place lanes f s s
+written-already e = record { written = e; kept = λ _ _ _ _. refl }
+
+pub written-over : {place : ℕ} {f g : ℕ → ℕ} {s t u : List ℕ} → Written place lanes f s t → Written place lanes g t u → Written place lanes g s u
+written-over v w = record { written = w .written; kept = λ p lane l h. w .kept p lane l h ∙ v .kept p lane l h }
 
 -- ---- comparing
 pub false-true : false ≡ true → ⊥

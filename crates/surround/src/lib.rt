@@ -9,6 +9,7 @@ ghost use Rattle.surround.specs.Blocks.{RowsReady, CentreDone, CentresDo
 
 mod iteration;
 mod rows;
+pub mod somewhere;
 mod strips;
 
 use iteration::settle;

@@ -14,7 +14,7 @@ ghost use Rattle.surround.specs.Steps.{Marked, LowOutside};
 ghost use Rattle.surround.specs.Blocks.{RowOf, laneSignal};
 use crate::LANES;
 use crate::strips::copy_strip;
-use crate::strips::zero_strip;
+use crate::strips::fill_strip;
 
 // The chain number of a place at the sample of a lane.
 fn signal_at(
@@ -70,7 +70,7 @@ pub(crate) fn load(
     }
 }
 
-fn in_range(distances: &[u8], at: usize, lower: u64, upper: u64) -> bool
+pub(crate) fn in_range(distances: &[u8], at: usize, lower: u64, upper: u64) -> bool
     requires { ⌜ at < length (numbersOf (wordsOf (now distances))) ⌝ }
     ensures { λ r. ⌜ r ≡ (leb lower (getD (numbersOf (wordsOf (now (distances .entry)))) at 0) && leb (getD (numbersOf (wordsOf (now (distances .entry)))) at 0) upper) ⌝ }
 {
@@ -99,8 +99,8 @@ pub(crate) fn clear_outside(inside: &[bool], old: &mut [u32], both: &mut [u32])
 {
     for place in 0..inside.len() {
         if !inside[place] {
-            zero_strip(old, place);
-            zero_strip(both, place);
+            fill_strip(old, place, 0);
+            fill_strip(both, place, 0);
         }
     }
 }
@@ -112,7 +112,7 @@ fn mask_strip(from: &[u32], to: &mut [u32], place: usize, inside: bool)
     if inside {
         copy_strip(from, to, place);
     } else {
-        zero_strip(to, place);
+        fill_strip(to, place, 0);
     }
 }
 

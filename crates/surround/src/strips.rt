@@ -8,12 +8,12 @@ use crate::LANES;
 use values::greater;
 use values::lesser;
 
-pub(crate) fn zero_strip(row: &mut [u32], place: usize)
+pub(crate) fn fill_strip(row: &mut [u32], place: usize, value: u32)
     requires { ⌜ place * lanes + lanes ≤ length (now row) ⌝ }
-    ensures { λ _. ⌜ Written place lanes (λ _. 0) (now (row .entry)) (now (row .exit)) ⌝ }
+    ensures { λ _. ⌜ Written place lanes (λ _. value) (now (row .entry)) (now (row .exit)) ⌝ }
 {
     for lane in 0..LANES {
-        row[place * LANES + lane] = 0;
+        row[place * LANES + lane] = value;
     }
 }
 
@@ -45,6 +45,17 @@ pub(crate) fn pull_strip(x: &mut [u32], both: &[u32], place: usize, other: usize
     for lane in 0..LANES {
         let at = place * LANES + lane;
         x[at] = lesser(x[at], both[other * LANES + lane]);
+    }
+}
+
+// What stands at another place comes to this one, if it is greater.
+pub(crate) fn raise_strip(x: &mut [u32], from: &[u32], place: usize, other: usize)
+    requires { ⌜ (place * lanes + lanes ≤ length (now x)) × (other * lanes + lanes ≤ length (now from)) ⌝ }
+    ensures { λ _. ⌜ Written place lanes (λ lane. chainLattice .join (laneOf (now (x .entry)) lane place) (laneOf (now (from .entry)) lane other)) (now (x .entry)) (now (x .exit)) ⌝ }
+{
+    for lane in 0..LANES {
+        let at = place * LANES + lane;
+        x[at] = greater(x[at], from[other * LANES + lane]);
     }
 }
 

@@ -1,18 +1,18 @@
--- Each turn makes one lane more lowest.
+-- Each turn fills one lane more.
 use mathlib.Core.Path.{refl}
 use Prim.Native.Nat.{_-_}
 use native.Mathlib.Omega.{arith}
 use Rattle.surround.specs.Lanes.{lanes}
 use Rattle.surround.proofs.StripLaws.{Writing, writing-more, writing-all}
 use borrow.Author.Needs.{needs}
-use Rattle.surround.proofs.strips.zero_strip.Statement.{statement}
-use Rattle.surround.proofs.strips.zero_strip.Tie as tie
+use Rattle.surround.proofs.strips.fill_strip.Statement.{statement}
+use Rattle.surround.proofs.strips.fill_strip.Tie as tie
 
 abbrev Inv-loop : tie.InvT-loop
-Inv-loop row₀ place lane₀ row lane = Writing place lane (λ _. 0) row₀ row
+Inv-loop row₀ place value lane₀ row lane = Writing place lane (λ _. value) row₀ row
 
 abbrev μ-loop : tie.MeasureT-loop
-μ-loop row₀ place lane₀ row lane = lanes - lane
+μ-loop row₀ place value lane₀ row lane = lanes - lane
 
 loop-holds : tie.Need-loop-holds Inv-loop μ-loop
 loop-holds c = search needs
@@ -44,8 +44,8 @@ same-length c = search needs
 returns : tie.Need-returns Inv-loop μ-loop
 returns c = writing-all (c .before .loop .inv) (omega arith)
 
-pub zero-strip-spec : {M : Type 1} → statement M
-zero-strip-spec =
+pub fill-strip-spec : {M : Type 1} → statement M
+fill-strip-spec =
     tie.close
     (tie.spec
     Inv-loop
