@@ -1,5 +1,6 @@
--- A surround line in blocks of samples: what a + b samples are of the first a and the b after them, and what a block leaves.
+-- A line over space in blocks of samples: what a + b samples are of the first a and the b after them, and what a block leaves.
 use mathlib.Core.Path.{_≡_, refl, sym, ap, ap₂, _∙_}
+use mathlib.Core.Bool.{Bool, true, false}
 use mathlib.Core.List.{List, _++_, append-assoc, append-nil}
 use Prim.Native.Nat.{ℕ, zero, suc, _+_, _*_, _≤_, max}
 use native.Mathlib.Nat.{add-zero, add-suc, le-trans, le-antisymm, mul-le-mul-right}
@@ -10,14 +11,20 @@ use Rattle.words.proofs.Puts.{put-nil, put-append}
 use Rattle.words.proofs.Rows.{length-rows, rows-ext}
 use Rattle.logic.specs.Counts.{count, sumBelow, mostBelow}
 use Rattle.sheet.specs.declared.check.Layout.{Layout}
-use Rattle.values.specs.Chain.{chainWord, chainVerdict}
+use Rattle.sheet.specs.declared.operator.Bounds.{Bounds}
+use Rattle.sheet.specs.Limits.{mostPlaces}
+use Rattle.values.specs.Chain.{highest, chainWord, chainVerdict}
 use Rattle.values.proofs.Machine.{byte-count}
-use Rattle.surround.specs.Lanes.{lanes, laneOf, surroundValue, surroundRounds, blockRounds}
+use Rattle.operators.proofs.Bounds.{signal-bound, greatest-bound}
+use Rattle.surround.specs.Lanes.{lanes, laneOf, surroundRounds, blockRounds}
 use Rattle.surround.specs.Blocks.{BlockReady, BlockDone}
+use Rattle.surround.specs.Ranges.{RangeReady, RangeDone}
 use Rattle.surround.proofs.Greatest.{most-le, le-most}
 use Rattle.verdicts.specs.declared.tally.Tally.{Tally}
 use Rattle.verdicts.specs.Tally.{together}
-use Rattle.verdicts.specs.SurroundLine.{LanesBounded, SurroundReady, SamplesWritten}
+use Rattle.verdicts.specs.declared.around.Around.{Around}
+use Rattle.verdicts.specs.declared.around.Around.the-variants.{Surround, Somewhere}
+use Rattle.verdicts.specs.Around.{LanesBounded, AroundReads, AroundReady, SamplesWritten, aroundValue, aroundRounds, BlockFilled}
 use Rattle.verdicts.proofs.LineRows.{sum-bound, sum-same}
 use Rattle.verdicts.proofs.Points.{surround-bound}
 
@@ -75,53 +82,84 @@ most-swap-le f n m = most-le _ n _ (λ i a. most-le (f i) m _ (λ j b. le-trans 
 most-swap : (f : ℕ → ℕ → ℕ) (n m : ℕ) → mostBelow (λ i. mostBelow (f i) m) n ≡ mostBelow (λ j. mostBelow (λ i. f i j) n) m
 most-swap f n m = le-antisymm (most-swap-le f n m) (most-swap-le (λ j i. f i j) m n)
 
-module _ {words : List ℕ} {left right : ℕ} {L : Layout} {sheet distances : List ℕ} where
-  pub fewer-ready : {samples k : ℕ} → SurroundReady words left right L sheet distances samples → k ≤ samples → SurroundReady words left right L sheet distances k
-  fewer-ready {samples} {k} ready h =
-      let m = mul-le-mul-right (L .places) h in
-      record {
-        few-places = ready .few-places;
-        few = omega (arith, ready .few);
-        left-there = omega (arith, ready .left-there);
-        right-there = omega (arith, ready .right-there);
-        roads-in = ready .roads-in;
-        distances-there = ready .distances-there;
-        left-valid = λ t l b. ready .left-valid t l (omega arith);
-        right-valid = λ t l b. ready .right-valid t l (omega arith);
-      }
+-- no rounds at all
+pub most-none : (n m : ℕ) → 0 ≡ mostBelow (λ _. mostBelow (λ _. 0) m) n
+most-none n m = omega (arith, most-le (λ _. mostBelow (λ _. 0) m) n 0 (λ _ _. most-le (λ _. 0) m 0 (λ _ _. omega arith)))
 
-  pub block-ready : {first size : ℕ} → SurroundReady words left right L sheet distances (first + size) → 1 ≤ size → size ≤ lanes
+reads-fewer : (words : List ℕ) (L : Layout) (sheet : List ℕ) (around : Around) (samples k : ℕ) → AroundReads words L sheet around samples → k ≤ samples → AroundReads words L sheet around k
+reads-fewer words L sheet (Surround left right b) samples k reads h =
+    let m = mul-le-mul-right (L .places) h in
+    record {
+      left-there = omega (arith, reads .left-there);
+      right-there = omega (arith, reads .right-there);
+      roads-in = reads .roads-in;
+      left-valid = λ t l b. reads .left-valid t l (omega arith);
+      right-valid = λ t l b. reads .right-valid t l (omega arith);
+    }
+reads-fewer words L sheet (Somewhere left b dual) samples k reads h = omega (arith, mul-le-mul-right (L .places) h)
+
+around-small : (words : List ℕ) (L : Layout) (sheet distances : List ℕ) (around : Around) (t l : ℕ) → aroundValue words L sheet distances around t l ≤ highest
+around-small words L sheet distances (Surround left right b) t l = surround-bound words left right (L .places) sheet (L .roads) distances (b .lower) (b .upper) t l
+around-small words L sheet distances (Somewhere left b true) t l = omega arith
+around-small words L sheet distances (Somewhere left b false) t l = greatest-bound _ _ (L .places) (λ k _. signal-bound words left (L .places) t k)
+
+module _ {words : List ℕ} {L : Layout} {sheet distances : List ℕ} where
+  pub fewer-ready : {around : Around} {samples k : ℕ} → AroundReady words L sheet distances around samples → k ≤ samples → AroundReady words L sheet distances around k
+  fewer-ready {around} {samples} {k} ready h = record {
+    few-places = ready .few-places;
+    few = omega (arith, ready .few);
+    distances-there = ready .distances-there;
+    reads = reads-fewer words L sheet around samples k (ready .reads) h;
+  }
+
+  pub block-ready : {left right : ℕ} {b : Bounds} {first size : ℕ} → AroundReady words L sheet distances (Surround left right b) (first + size) → 1 ≤ size → size ≤ lanes
       → BlockReady words left right (L .places) sheet (L .roads) distances first size
   block-ready ready some few = record {
     few-places = ready .few-places .1;
     some = some;
     few = few;
-    left-there = ready .left-there;
-    right-there = ready .right-there;
-    roads-in = ready .roads-in;
+    left-there = ready .reads .left-there;
+    right-there = ready .reads .right-there;
+    roads-in = ready .reads .roads-in;
     distances-there = ready .distances-there;
-    left-valid = λ t l _. ready .left-valid t l;
-    right-valid = λ t l _. ready .right-valid t l;
+    left-valid = λ t l _. ready .reads .left-valid t l;
+    right-valid = λ t l _. ready .reads .right-valid t l;
   }
 
-module _ {words : List ℕ} {left right n : ℕ} {sheet : List ℕ} {roads : ℕ} {distances : List ℕ} {first size lower upper : ℕ} {out : List ℕ} {r : ℕ} where
-  pub lanes-bounded : BlockReady words left right n sheet roads distances first size → BlockDone words left right n sheet roads distances first size lower upper out r
-      → n * lanes ≤ length out → LanesBounded out n size
-  lanes-bounded ready done room = record {
-    few-places = ready .few-places;
-    few = ready .few;
-    room = room;
-    bound = λ place lane b c. rw (done .values place lane b c) (surround-bound words left right n sheet roads distances lower upper (first + lane) place);
-  }
+  pub range-ready : {left : ℕ} {b : Bounds} {dual : Bool} {first size : ℕ} → AroundReady words L sheet distances (Somewhere left b dual) (first + size) → size ≤ lanes
+      → RangeReady words left (L .places) distances first size
+  range-ready ready few = record { few-places = ready .few-places .1; few = few; there = ready .reads; distances-there = ready .distances-there }
 
-  -- the lanes of a block are its samples
-  pub block-written : (answer : List ℕ) (to : ℕ) (after : List ℕ) (y : ℕ) → BlockDone words left right n sheet roads distances first size lower upper out r
-      → after ≡ put answer to (rows (λ lane l. chainWord (laneOf out lane l)) size n) → y ≡ sumBelow (λ lane. sumBelow (λ l. count (chainVerdict (laneOf out lane l))) n) size
-      → SamplesWritten (λ t. surroundValue words left right n sheet roads distances lower upper (first + t)) (λ t. surroundRounds words left right n sheet roads distances lower upper (first + t))
-      n answer to size after (record { rounds = r; yes = y })
+  pub surround-filled : {left right : ℕ} {b : Bounds} {first size : ℕ} {out : List ℕ} {r : ℕ}
+      → BlockDone words left right (L .places) sheet (L .roads) distances first size (b .lower) (b .upper) out r
+      → BlockFilled words L sheet distances (Surround left right b) first size out r
   unfolding blockRounds
-  block-written answer to after y done w c = record {
-    written = w ∙ ap (put answer to) (rows-ext _ _ size n (λ lane l a b. ap chainWord (done .values l lane b a)));
-    counted = c ∙ sum-same _ _ size (λ lane a. sum-same _ _ n (λ l b. ap (λ v. count (chainVerdict v)) (done .values l lane b a)));
-    greatest = done .rounds ∙ most-swap (λ centre lane. surroundRounds words left right n sheet roads distances lower upper (first + lane) centre) n size;
+  surround-filled {left} {right} {b} {first} {size} done = record {
+    values = done .values;
+    rounds = done .rounds ∙ most-swap (λ centre lane. surroundRounds words left right (L .places) sheet (L .roads) distances (b .lower) (b .upper) (first + lane) centre) (L .places) size;
   }
+
+  pub somewhere-filled : {left : ℕ} {b : Bounds} {dual : Bool} {first size : ℕ} {out : List ℕ}
+      → RangeDone words left (L .places) distances first size (b .lower) (b .upper) dual out
+      → BlockFilled words L sheet distances (Somewhere left b dual) first size out 0
+  somewhere-filled {size = size} done = record { values = done .values; rounds = most-none size (L .places) }
+
+  module _ {around : Around} {first size : ℕ} {out : List ℕ} {r : ℕ} (done : BlockFilled words L sheet distances around first size out r) where
+    pub lanes-bounded : L .places ≤ mostPlaces → size ≤ lanes → L .places * lanes ≤ length out → LanesBounded out (L .places) size
+    lanes-bounded places few room = record {
+      few-places = places;
+      few = few;
+      room = room;
+      bound = λ place lane b c. rw (done .values place lane b c) (around-small words L sheet distances around (first + lane) place);
+    }
+
+    -- the lanes of a block are its samples
+    pub block-written : (answer : List ℕ) (to : ℕ) (after : List ℕ) (y : ℕ) → after ≡ put answer to (rows (λ lane l. chainWord (laneOf out lane l)) size (L .places))
+        → y ≡ sumBelow (λ lane. sumBelow (λ l. count (chainVerdict (laneOf out lane l))) (L .places)) size
+        → SamplesWritten (λ t. aroundValue words L sheet distances around (first + t)) (λ t. aroundRounds words L sheet distances around (first + t))
+        (L .places) answer to size after (record { rounds = r; yes = y })
+    block-written answer to after y w c = record {
+      written = w ∙ ap (put answer to) (rows-ext _ _ size (L .places) (λ lane l a b. ap chainWord (done .values l lane b a)));
+      counted = c ∙ sum-same _ _ size (λ lane a. sum-same _ _ (L .places) (λ l b. ap (λ v. count (chainVerdict v)) (done .values l lane b a)));
+      greatest = done .rounds;
+    }

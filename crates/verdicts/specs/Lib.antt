@@ -4,4 +4,4 @@ pub mod Steady
 pub mod Writing
 pub mod Sample
 pub mod Tally
-pub mod SurroundLine
+pub mod Around

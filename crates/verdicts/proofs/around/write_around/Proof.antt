@@ -11,32 +11,30 @@ use Rattle.words.proofs.Puts.{take-put}
 use Rattle.words.proofs.Words.{words-count}
 use Rattle.verdicts.specs.declared.tally.Tally.{Tally}
 use Rattle.verdicts.specs.Tally.{together}
-use Rattle.verdicts.specs.SurroundLine.{SurroundReady, BlockWritten, SurroundWritten}
+use Rattle.verdicts.specs.Around.{AroundReady, BlockWritten, AroundWritten}
 use Rattle.verdicts.proofs.Blocks.{no-samples, more-samples, few-yes, fewer-ready}
-use Rattle.verdicts.proofs.surround_line.write_surround.Statement.{statement}
-use Rattle.verdicts.proofs.surround_line.write_surround.Tie as tie
+use Rattle.verdicts.proofs.around.write_around.Statement.{statement}
+use Rattle.verdicts.proofs.around.write_around.Tie as tie
 
 abbrev Inv-loop : tie.InvT-loop
-Inv-loop left right bounds sheet layout distances answer₀ begin samples tally₀ first₀ answer tally first =
+Inv-loop around sheet layout distances answer₀ begin samples tally₀ first₀ answer tally first =
     (first ≤ samples) × (length answer ≡ length answer₀)
-    × SurroundWritten (wordsOf answer₀) (take begin (wordsOf answer₀)) left right layout (wordsOf sheet) (numbersOf (wordsOf distances)) (bounds .lower) (bounds .upper) begin first (wordsOf answer) tally
+    × AroundWritten (take begin (wordsOf answer₀)) layout (wordsOf sheet) (numbersOf (wordsOf distances)) around (wordsOf answer₀) begin first (wordsOf answer) tally
 
 abbrev μ-loop : tie.MeasureT-loop
-μ-loop left right bounds sheet layout distances answer₀ begin samples tally₀ first₀ answer tally first = samples - first
+μ-loop around sheet layout distances answer₀ begin samples tally₀ first₀ answer tally first = samples - first
 
 abbrev Words : tie.Start Inv-loop μ-loop → List ℕ
 Words c = wordsOf (c .args .answer .now)
 
 abbrev Ready : tie.Start Inv-loop μ-loop → List ℕ → ℕ → Type 0
-Ready c words = SurroundReady words (c .args .left) (c .args .right) (c .args .layout) (wordsOf (c .args .sheet .now)) (numbersOf (wordsOf (c .args .distances .now)))
+Ready c words = AroundReady words (c .args .layout) (wordsOf (c .args .sheet .now)) (numbersOf (wordsOf (c .args .distances .now))) (c .args .around)
 
 abbrev Block : tie.Start Inv-loop μ-loop → List ℕ → List ℕ → ℕ → ℕ → List ℕ → Tally → Type 0
-Block c answer words = BlockWritten answer words (c .args .left) (c .args .right) (c .args .layout) (wordsOf (c .args .sheet .now)) (numbersOf (wordsOf (c .args .distances .now)))
-    (c .args .bounds .lower) (c .args .bounds .upper) (c .args .begin)
+Block c answer words = BlockWritten words (c .args .layout) (wordsOf (c .args .sheet .now)) (numbersOf (wordsOf (c .args .distances .now))) (c .args .around) answer (c .args .begin)
 
 abbrev Line : tie.Start Inv-loop μ-loop → ℕ → List ℕ → Tally → Type 0
-Line c = SurroundWritten (Words c) (take (c .args .begin) (Words c)) (c .args .left) (c .args .right) (c .args .layout) (wordsOf (c .args .sheet .now)) (numbersOf (wordsOf (c .args .distances .now)))
-    (c .args .bounds .lower) (c .args .bounds .upper) (c .args .begin)
+Line c = AroundWritten (take (c .args .begin) (Words c)) (c .args .layout) (wordsOf (c .args .sheet .now)) (numbersOf (wordsOf (c .args .distances .now))) (c .args .around) (Words c) (c .args .begin)
 
 before : (c : tie.In-loop Inv-loop μ-loop) → take (c .before .before .before .before .before .args .begin) (wordsOf (c .before .loop .answer)) ≡ take (c .before .before .before .before .before .args .begin) (Words (c .before .before .before .before .before))
 before c =
@@ -53,11 +51,11 @@ room c =
 
 -- the line with one block more
 longer : (c : tie.After-write-block Inv-loop μ-loop) → Line (c .before .before .before .before .before .before .before .before) (c .before .before .before .before .loop .first + c .before .before .block-size .result)
-    (wordsOf (c .write-block .last .1 .1 .1 .1 .1 .1 .0)) (together (c .before .before .before .before .loop .tally) (c .write-block .result))
+    (wordsOf (c .write-block .last .1 .1 .1 .1 .0)) (together (c .before .before .before .before .loop .tally) (c .write-block .result))
 longer c =
     let start = c .before .before .before .before .before .before .before .before in
     let loop = c .before .before .before .before .loop in
-    let block = subst (λ w. Block start (wordsOf (loop .answer)) w (loop .first) (c .before .before .block-size .result) (wordsOf (c .write-block .last .1 .1 .1 .1 .1 .1 .0)) (c .write-block .result))
+    let block = subst (λ w. Block start (wordsOf (loop .answer)) w (loop .first) (c .before .before .block-size .result) (wordsOf (c .write-block .last .1 .1 .1 .1 .0)) (c .write-block .result))
     (before (c .before .before .before)) (c .write-block .ensures) in
     more-samples _ _ (start .args .layout .places) (Words start) (start .args .begin) (loop .first) (c .before .before .block-size .result) _ _ _ _ (omega (arith, start .pre .1)) (loop .inv .2) block
 
@@ -103,8 +101,8 @@ returns c =
     let ended : loop .first ≡ start .args .samples = omega arith in
     subst (λ (n : ℕ). Line start n (wordsOf (loop .answer)) (loop .tally)) ended (loop .inv .2)
 
-pub write-surround-spec : {M : Type 1} → statement M
-write-surround-spec =
+pub write-around-spec : {M : Type 1} → statement M
+write-around-spec =
     tie.close
     (tie.spec
     Inv-loop

@@ -14,8 +14,8 @@ use Rattle.values.specs.Chain.{chainWord, chainVerdict}
 use Rattle.surround.specs.Lanes.{laneOf}
 use Rattle.verdicts.proofs.LineRows.{put-row, sum-more}
 use Rattle.verdicts.proofs.Blocks.{yes-bound}
-use Rattle.verdicts.proofs.surround_line.write_lanes.Statement.{statement}
-use Rattle.verdicts.proofs.surround_line.write_lanes.Tie as tie
+use Rattle.verdicts.proofs.around.write_lanes.Statement.{statement}
+use Rattle.verdicts.proofs.around.write_lanes.Tie as tie
 
 abbrev Inv-loop : tie.InvT-loop
 Inv-loop out places samples answer₀ to yes₀ at₀ lane₀ answer sum at lane =

@@ -1,0 +1,78 @@
+-- Each arm knows what is asked about the centres, and that its kernel finds what it reads.
+use mathlib.Core.Path.{_≡_, sym, subst}
+use mathlib.Core.List.{List}
+use Prim.Native.Nat.{ℕ, _+_}
+use borrow.Author.Needs.{needs}
+use Rattle.words.specs.Bytes.{wordsOf, numbersOf}
+use Rattle.verdicts.specs.declared.around.Around.{Around}
+use Rattle.verdicts.specs.Around.{AroundReady, BlockFilled}
+use Rattle.verdicts.proofs.Blocks.{block-ready, range-ready, surround-filled, somewhere-filled}
+use Rattle.verdicts.proofs.around.fill_block.Statement.{statement}
+use Rattle.verdicts.proofs.around.fill_block.Tie as tie
+
+module _ (c : tie.Start) where
+  ready : {around : Around} → c .args .around ≡ around → AroundReady (wordsOf (c .args .words .now)) (c .args .layout) (wordsOf (c .args .sheet .now)) (numbersOf (wordsOf (c .args .distances .now))) around (c .args .first + c .args .size)
+  ready e = subst (λ around. AroundReady (wordsOf (c .args .words .now)) (c .args .layout) (wordsOf (c .args .sheet .now)) (numbersOf (wordsOf (c .args .distances .now))) around (c .args .first + c .args .size)) e (c .pre .0)
+
+  abbrev Filled : Around → List ℕ → ℕ → Type 0
+  Filled around = BlockFilled (wordsOf (c .args .words .now)) (c .args .layout) (wordsOf (c .args .sheet .now)) (numbersOf (wordsOf (c .args .distances .now))) around (c .args .first) (c .args .size)
+
+  told : {around : Around} {out : List ℕ} {r : ℕ} → c .args .around ≡ around → Filled around out r → Filled (c .args .around) out r
+  told {around} {out} {r} e = subst (λ a. Filled a out r) (sym e)
+
+enum-known-around : tie.Need-enum-known-around
+enum-known-around c = search needs
+
+cast-surround-block : tie.Need-cast-surround-block
+cast-surround-block c = search needs
+
+cast-surround-block-2 : tie.Need-cast-surround-block-2
+cast-surround-block-2 c = search needs
+
+surround-block-requires : tie.Need-surround-block-requires
+surround-block-requires c κs =
+    let start = c .before .before .before .before .before .before .before .before .before .before in
+    (block-ready (ready start (c .before .before .before .before .around .given .1)) (start .pre .1) (start .pre .2), start .pre .3)
+
+enum-known-around-2 : tie.Need-enum-known-around-2
+enum-known-around-2 c = search needs
+
+cast-somewhere-block : tie.Need-cast-somewhere-block
+cast-somewhere-block c = search needs
+
+cast-somewhere-block-2 : tie.Need-cast-somewhere-block-2
+cast-somewhere-block-2 c = search needs
+
+somewhere-block-requires : tie.Need-somewhere-block-requires
+somewhere-block-requires c κs =
+    let start = c .before .before .before .before .before .before .before .before .before .before in
+    (range-ready (ready start (c .before .before .before .before .around2 .given .1)) (start .pre .2), start .pre .3)
+
+same-length : tie.Need-same-length
+same-length c = search needs
+
+returns : tie.Need-returns
+returns c = told (c .before .before .before .before .before .before .before .before .before .before .before .before .before) (c .before .before .before .before .before .before .before .around .given .1) (surround-filled (c .before .before .surround-block .ensures))
+
+same-length-2 : tie.Need-same-length-2
+same-length-2 c = search needs
+
+returns-2 : tie.Need-returns-2
+returns-2 c = told (c .before .before .before .before .before .before .before .before .before .before .before .before .before) (c .before .before .before .before .before .before .before .around2 .given .1) (somewhere-filled (c .before .before .somewhere-block .ensures))
+
+pub fill-block-spec : {M : Type 1} → statement M
+fill-block-spec =
+    tie.close
+    (tie.spec
+    enum-known-around
+    cast-surround-block
+    cast-surround-block-2
+    surround-block-requires
+    enum-known-around-2
+    cast-somewhere-block
+    cast-somewhere-block-2
+    somewhere-block-requires
+    same-length
+    returns
+    same-length-2
+    returns-2)

@@ -1,0 +1,161 @@
+// The verdicts of a line over space, a surround or somewhere or everywhere: the samples of a block are evaluated side by side about every centre,
+// and then written sample by sample.
+use crate::sample::write_sample;
+use crate::tally::Tally;
+use sheet::check::Layout;
+use sheet::operator::Bounds;
+use surround::LANES;
+use surround::ROW;
+use surround::somewhere::somewhere_block;
+use surround::surround_block;
+ghost use mathlib.Core.Path.{_≡_};
+ghost use Prim.Native.Nat.{_+_, _*_, _≤_};
+ghost use lib.ListN.{length, take};
+ghost use Rattle.words.specs.Bytes.{wordsOf, numbersOf};
+ghost use Rattle.words.specs.Rows.{rows, put};
+ghost use Rattle.logic.specs.Counts.{count, sumBelow};
+ghost use Rattle.values.specs.Chain.{chainWord, chainVerdict};
+ghost use Rattle.surround.specs.Lanes.{lanes, laneOf};
+ghost use Rattle.verdicts.specs.Around.{LanesBounded, AroundReady, BlockFilled, BlockWritten, AroundWritten};
+
+// What is asked about every centre. Operands are the indices at which their signals begin.
+pub enum Around {
+    Surround {
+        left: usize,
+        right: usize,
+        bounds: Bounds,
+    },
+    Somewhere {
+        left: usize,
+        bounds: Bounds,
+        dual: bool,
+    },
+}
+
+// Writes the samples of a block, one lane after the other.
+fn write_lanes(out: &[u32], places: usize, samples: usize, answer: &mut [u8], to: usize) -> u64
+    requires { ⌜ LanesBounded (now out) places samples × (to + samples * places ≤ length (wordsOf (now answer))) ⌝ }
+    ensures written { λ _. ⌜ wordsOf (now (answer .exit)) ≡ put (wordsOf (now (answer .entry))) to (rows (λ lane l. chainWord (laneOf (now (out .entry)) lane l)) samples places) ⌝ }
+    ensures counted { λ r. ⌜ r ≡ sumBelow (λ lane. sumBelow (λ l. count (chainVerdict (laneOf (now (out .entry)) lane l))) places) samples ⌝ }
+{
+    let mut yes: u64 = 0;
+    let mut at = to;
+    for lane in 0..samples {
+        yes += write_sample(out, LANES, lane, places, answer, at);
+        at += places;
+    }
+    yes
+}
+
+// Evaluates samples `first` to first + size - 1, and tells their greatest rounds.
+fn fill_block(
+    around: Around,
+    words: &[u8],
+    sheet: &[u8],
+    layout: Layout,
+    distances: &[u8],
+    first: usize,
+    size: usize,
+    out: &mut [u32],
+) -> u64
+    requires { ⌜ AroundReady (wordsOf (now words)) layout (wordsOf (now sheet)) (numbersOf (wordsOf (now distances))) around (first + size) × (1 ≤ size) × (size ≤ lanes) × (layout .places * lanes ≤ length (now out)) ⌝ }
+    ensures { λ r. ⌜ BlockFilled (wordsOf (now (words .entry))) layout (wordsOf (now (sheet .entry))) (numbersOf (wordsOf (now (distances .entry)))) around first size (now (out .exit)) r ⌝ }
+{
+    match around {
+        Around::Surround {
+            left,
+            right,
+            bounds,
+        } => surround_block(
+            words,
+            left,
+            right,
+            layout.places,
+            sheet,
+            layout.roads,
+            distances,
+            bounds.lower as u64,
+            bounds.upper as u64,
+            first,
+            size,
+            out,
+        ),
+        Around::Somewhere { left, bounds, dual } => {
+            somewhere_block(
+                words,
+                left,
+                layout.places,
+                distances,
+                bounds.lower as u64,
+                bounds.upper as u64,
+                dual,
+                first,
+                size,
+                out,
+            );
+            0
+        }
+    }
+}
+
+// Evaluates and writes a block of the line that begins at index `begin`.
+fn write_block(
+    around: Around,
+    sheet: &[u8],
+    layout: Layout,
+    distances: &[u8],
+    answer: &mut [u8],
+    begin: usize,
+    first: usize,
+    size: usize,
+) -> Tally
+    requires { ⌜ AroundReady (take begin (wordsOf (now answer))) layout (wordsOf (now sheet)) (numbersOf (wordsOf (now distances))) around (first + size) × (1 ≤ size) × (size ≤ lanes) × (begin + (first + size) * layout .places ≤ length (wordsOf (now answer))) ⌝ }
+    ensures { λ r. ⌜ BlockWritten (take begin (wordsOf (now (answer .entry)))) layout (wordsOf (now (sheet .entry))) (numbersOf (wordsOf (now (distances .entry)))) around (wordsOf (now (answer .entry))) begin first size (wordsOf (now (answer .exit))) r ⌝ }
+{
+    let end = begin * 4;
+    let mut out: [u32; ROW] = [0; ROW];
+    let rounds = fill_block(
+        around,
+        &answer[..end],
+        sheet,
+        layout,
+        distances,
+        first,
+        size,
+        &mut out,
+    );
+    let to = begin + first * layout.places;
+    let yes = write_lanes(&out, layout.places, size, answer, to);
+    Tally { rounds, yes }
+}
+
+fn block_size(rest: usize) -> usize
+    requires { ⌜ 1 ≤ rest ⌝ }
+    ensures { λ r. ⌜ (1 ≤ r) × (r ≤ rest) × (r ≤ lanes) ⌝ }
+{
+    if rest < LANES { rest } else { LANES }
+}
+
+// Writes all words of a line of `samples` samples from index `begin` on.
+pub fn write_around(
+    around: Around,
+    sheet: &[u8],
+    layout: Layout,
+    distances: &[u8],
+    answer: &mut [u8],
+    begin: usize,
+    samples: usize,
+) -> Tally
+    requires { ⌜ AroundReady (take begin (wordsOf (now answer))) layout (wordsOf (now sheet)) (numbersOf (wordsOf (now distances))) around samples × (begin + samples * layout .places ≤ length (wordsOf (now answer))) ⌝ }
+    ensures { λ r. ⌜ AroundWritten (take begin (wordsOf (now (answer .entry)))) layout (wordsOf (now (sheet .entry))) (numbersOf (wordsOf (now (distances .entry)))) around (wordsOf (now (answer .entry))) begin samples (wordsOf (now (answer .exit))) r ⌝ }
+{
+    let mut tally = Tally::NONE;
+    let mut first: usize = 0;
+    while first < samples {
+        let size = block_size(samples - first);
+        let block = write_block(around, sheet, layout, distances, answer, begin, first, size);
+        tally = tally.with(block);
+        first += size;
+    }
+    tally
+}
