@@ -74,10 +74,12 @@ accepted-table s layout distances accepting =
       good = table s d L sheet .good;
       starts = walk-start s (L .sizes .signals) (L .sizes .samples) (layoutOf L .table) (sheet .table);
       surveyed = record {
-        places = (within .places-some, within .places-most);
-        signals = within .signals-most;
-        samples = within .samples-most;
-        recorded = le-of-lt (sheet .table-there);
+        sheet = record {
+          places = (within .places-some, within .places-most);
+          signals = within .signals-most;
+          samples = within .samples-most;
+          recorded = le-of-lt (sheet .table-there);
+        };
         room = room;
         measured = distance-at (network s L) distances (accepting .measured);
       };

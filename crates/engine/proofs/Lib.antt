@@ -1,5 +1,5 @@
 pub mod AcceptedTable
-pub mod SurroundTable
+pub mod SpaceTable
 pub mod LineReads
 pub mod LineWords
 pub mod EarlierLines

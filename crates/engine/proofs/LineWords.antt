@@ -1,6 +1,7 @@
 -- A line behind its first word: what its verdicts are made from stands before them, and verdicts and rounds that are the line's at each point
 -- make it, whether they are found sample by sample or in blocks.
 use mathlib.Core.Path.{_≡_, sym, ap, _∙_}
+use mathlib.Core.Bool.{Bool}
 use mathlib.Core.List.{List, [], _∷_}
 use Prim.Native.Nat.{ℕ, _+_, _<_, _^_}
 use native.Mathlib.Omega.{arith}
@@ -9,25 +10,26 @@ use lib.Seq.{take-at}
 use Rattle.words.specs.Rows.{rows, put}
 use Rattle.words.proofs.Puts.{length-front, put-append, put-one}
 use Rattle.words.proofs.Rows.{rows-ext}
-use Rattle.logic.specs.Counts.{count, sumBelow, mostBelow}
+use Rattle.logic.specs.Counts.{count, sumBelow}
 use Rattle.sheet.specs.declared.check.Layout.{Layout}
 use Rattle.sheet.specs.declared.operator.Bounds.{Bounds}
 use Rattle.sheet.specs.declared.operator.Operator.the-variants.{Surrounded}
 use Rattle.sheet.specs.declared.line.Line.{Line}
 use Rattle.sheet.specs.Decoding.{operatorSaid, lineSaid}
 use Rattle.values.specs.Chain.{chainWord, chainVerdict}
+use Rattle.values.specs.Signals.{signalIn}
 use Rattle.surround.specs.Lanes.{surroundValue, surroundRounds}
-use Rattle.surround.proofs.Greatest.{most-le, most-same}
+use Rattle.surround.specs.Ranges.{somewhereIn}
+use Rattle.surround.proofs.Greatest.{most-same}
 use Rattle.verdicts.proofs.LineRows.{sum-same}
 use Rattle.verdicts.specs.Writing.{lineValue, lineRounds, Surveyed}
 use Rattle.verdicts.specs.declared.tally.Tally.{Tally}
-use Rattle.verdicts.specs.SurroundLine.{SamplesWritten, SurroundWritten}
+use Rattle.verdicts.specs.declared.around.Around.the-variants as Asked
+use Rattle.verdicts.specs.Around.{SamplesWritten, AroundWritten}
+use Rattle.verdicts.proofs.Blocks.{most-none}
 use Rattle.engine.specs.Line.{firstWord, wordsUpTo, valueHere, roundsHere, LineWritten}
-use Rattle.engine.proofs.SurroundTable.{value-by-table, rounds-by-table}
-
--- the greatest of no rounds
-most-none : (n m : ℕ) → 0 ≡ mostBelow (λ _. mostBelow (λ _. 0) m) n
-most-none n m = omega (arith, most-le (λ _. mostBelow (λ _. 0) m) n 0 (λ _ _. most-le (λ _. 0) m 0 (λ _ _. omega arith)))
+use Rattle.engine.proofs.LineReads.{ranged}
+use Rattle.engine.proofs.SpaceTable.{value-by-table, rounds-by-table, range-by-table, no-rounds}
 
 module _ (answer : List ℕ) (to : ℕ) (line : Line) {first : List ℕ} (room : to < length answer) (put-first : first ≡ set answer to (firstWord (lineSaid line))) where
   -- ---- the first word
@@ -72,16 +74,27 @@ module _ (answer : List ℕ) (to : ℕ) (line : Line) {first : List ℕ} (room :
         (λ t l _. ap (λ w. lineValue s L w starts (operatorSaid (line .operator)) t l) before-verdicts)
         (λ t l _. sym (none t l)) (record { written = written; counted = counted; greatest = most-none (line .length) (L .places) })
 
-    module _ {distances : List ℕ} (survey : Surveyed s L distances) {i j : ℕ} {b : Bounds} (said : line .operator ≡ Surrounded i j b) (small : b .upper < 2 ^ 28) where
-      pub surround-written : {after : List ℕ} {tally : Tally}
-          → SurroundWritten first (take (to + 1) first) (getD starts i 0) (getD starts j 0) L s distances (b .lower) (b .upper) (to + 1) (line .length) after tally
+    module _ {distances : List ℕ} (survey : Surveyed s L distances) where
+      pub surround-written : {i j : ℕ} {b : Bounds} → line .operator ≡ Surrounded i j b → b .upper < 2 ^ 28 → {after : List ℕ} {tally : Tally}
+          → AroundWritten (take (to + 1) first) L s distances (Asked.Surround (getD starts i 0) (getD starts j 0) b) first (to + 1) (line .length) after tally
           → LineWritten s L answer starts to (lineSaid line) after tally
       unfolding valueHere roundsHere
-      surround-written done = line-written _ _
+      surround-written {i} {j} {b} said small done = line-written _ _
           (λ t l h. ap (λ w. surroundValue w (getD starts i 0) (getD starts j 0) (L .places) s (L .roads) distances (b .lower) (b .upper) t l) before-verdicts
           ∙ value-by-table s L distances survey _ starts i j (b .lower) (b .upper) t l small h
           ∙ ap (λ o. lineValue s L (wordsUpTo answer to (lineSaid line)) starts (operatorSaid o) t l) (sym said))
           (λ t l h. ap (λ w. surroundRounds w (getD starts i 0) (getD starts j 0) (L .places) s (L .roads) distances (b .lower) (b .upper) t l) before-verdicts
           ∙ rounds-by-table s L distances survey _ starts i j (b .lower) (b .upper) t l small h
           ∙ ap (λ o. lineRounds s L (wordsUpTo answer to (lineSaid line)) starts (operatorSaid o) t l) (sym said))
+          done
+
+      pub range-written : (dual : Bool) (i : ℕ) (b : Bounds) → line .operator ≡ ranged dual i b → b .upper < 2 ^ 28 → {after : List ℕ} {tally : Tally}
+          → AroundWritten (take (to + 1) first) L s distances (Asked.Range (getD starts i 0) b dual) first (to + 1) (line .length) after tally
+          → LineWritten s L answer starts to (lineSaid line) after tally
+      unfolding valueHere roundsHere
+      range-written dual i b said small done = line-written _ _
+          (λ t l h. ap (λ w. somewhereIn dual distances (L .places) (signalIn w (getD starts i 0) (L .places)) (b .lower) (b .upper) t l) before-verdicts
+          ∙ range-by-table s L distances survey _ starts dual i b t l small h
+          ∙ ap (λ o. lineValue s L (wordsUpTo answer to (lineSaid line)) starts (operatorSaid o) t l) (sym said))
+          (λ t l h. no-rounds s L _ starts dual i b t l ∙ ap (λ o. lineRounds s L (wordsUpTo answer to (lineSaid line)) starts (operatorSaid o) t l) (sym said))
           done

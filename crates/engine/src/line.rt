@@ -1,10 +1,11 @@
-// One line of the answer: its first word, and its verdicts, sample by sample or, for a surround, in blocks of samples.
+// One line of the answer: its first word, and its verdicts, sample by sample or, over space, in blocks of samples.
 use sheet::check::Layout;
 use sheet::line::Line;
 use sheet::operator::Bounds;
 use sheet::operator::Operator;
+use verdicts::around::Around;
+use verdicts::around::write_around;
 use verdicts::row::write_rows;
-use verdicts::surround_line::write_surround;
 use verdicts::tally::Tally;
 ghost use mathlib.Core.Path.{_≡_};
 ghost use Prim.Native.Nat.{_+_, _*_, _≤_};
@@ -25,6 +26,11 @@ enum Way {
         right: usize,
         bounds: Bounds,
     },
+    Range {
+        left: usize,
+        bounds: Bounds,
+        dual: bool,
+    },
 }
 
 fn way_of(operator: Operator) -> Way
@@ -37,7 +43,11 @@ fn way_of(operator: Operator) -> Way
         Operator::Not { .. } => Way::Rows,
         Operator::And { .. } => Way::Rows,
         Operator::Until { .. } => Way::Rows,
-        Operator::Somewhere { .. } => Way::Rows,
+        Operator::Somewhere { left, bounds } => Way::Range {
+            left,
+            bounds,
+            dual: false,
+        },
         Operator::Surrounded {
             left,
             right,
@@ -50,7 +60,11 @@ fn way_of(operator: Operator) -> Way
         Operator::Or { .. } => Way::Rows,
         Operator::Eventually { .. } => Way::Rows,
         Operator::Always { .. } => Way::Rows,
-        Operator::Everywhere { .. } => Way::Rows,
+        Operator::Everywhere { left, bounds } => Way::Range {
+            left,
+            bounds,
+            dual: true,
+        },
     }
 }
 
@@ -76,28 +90,27 @@ pub(crate) fn write_line(
             left,
             right,
             bounds,
-        } => write_surround(
-            starts[left],
-            starts[right],
-            bounds,
-            sheet,
-            layout,
-            distances,
-            answer,
-            begin,
-            samples,
-        ),
+        } => {
+            let first = starts[left];
+            let second = starts[right];
+            let around = Around::Surround {
+                left: first,
+                right: second,
+                bounds,
+            };
+            write_around(around, sheet, layout, distances, answer, begin, samples)
+        }
+        Way::Range { left, bounds, dual } => {
+            let only = starts[left];
+            let around = Around::Range {
+                left: only,
+                bounds,
+                dual,
+            };
+            write_around(around, sheet, layout, distances, answer, begin, samples)
+        }
         Way::Rows => {
-            let yes = write_rows(
-                operator,
-                sheet,
-                layout,
-                distances,
-                starts,
-                answer,
-                begin,
-                samples,
-            );
+            let yes = write_rows(operator, sheet, layout, starts, answer, begin, samples);
             Tally { rounds: 0, yes }
         }
     }

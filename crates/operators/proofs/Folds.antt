@@ -35,11 +35,6 @@ module _ (f : ℕ → ℕ) (first : ℕ) where
   unfolding greatestOver
   greatest-more n h = rw (add-one n, le-leb first n h) refl
 
--- ---- any test
-pub greatest-next : (test : ℕ → Bool) (f : ℕ → ℕ) (n : ℕ) → greatestOver chainLattice test f (n + 1) ≡ chainLattice .join (greatestOver chainLattice test f n) (cond (test n) (f n) 0)
-unfolding greatestOver
-greatest-next test f n = rw (add-one n) refl
-
 -- ---- how the folds go on: the least only falls, and a greatest that nothing later exceeds is the greatest of all
 meet-under : (a b : ℕ) → (chainLattice .meet a b ≤ a) × (chainLattice .meet a b ≤ b)
 meet-under a b = meet-by leb 0 highest leb-trans leb-total (λ m. (m ≤ a) × (m ≤ b)) a b

@@ -1,5 +1,5 @@
 -- Rows are filled place by place: one number more, with those before it kept; and what a turned number is.
-use mathlib.Core.Path.{_≡_, refl, ap, subst, _∙_}
+use mathlib.Core.Path.{_≡_, refl, subst, _∙_}
 use mathlib.Core.Bool.{Bool, true, false}
 use mathlib.Core.List.{List}
 use Prim.Native.Nat.{ℕ, _+_, _≤_, _<_}
@@ -7,13 +7,10 @@ use native.Mathlib.Omega.{arith}
 use borrow.Author.Count.{below-more}
 use lib.ListN.{length, getD, set}
 use lib.Seq.{getD-set-same, getD-set-other}
-use Rattle.logic.specs.Lattice.{greatestOver}
 use Rattle.logic.specs.Table.{Signal}
-use Rattle.logic.proofs.Keeps.{same-kept, greatest-kept}
-use Rattle.values.specs.Chain.{chains, chainLattice, highest}
-use Rattle.values.specs.Signals.{signalIn, turned, inTable}
-use Rattle.operators.specs.Rows.{Filled, Bounded, turnedTo, around, somewhereIn}
-use Rattle.operators.proofs.Bounds.{turned-bound}
+use Rattle.values.specs.Chain.{chains, highest}
+use Rattle.values.specs.Signals.{turned}
+use Rattle.operators.specs.Rows.{Filled, turnedTo}
 
 pub filled-none : (f : ℕ → ℕ) (row : List ℕ) → Filled 0 f row
 filled-none f row = record { at = λ l b. absurd (omega arith) }
@@ -45,16 +42,3 @@ turned-small false f t l h = h
 pub turned-back : (negated : Bool) (f : Signal chains) (t l : ℕ) → f t l ≤ highest → turnedTo negated (turned negated f t l) ≡ f t l
 turned-back true f t l h = omega arith
 turned-back false f t l h = refl
-
--- ---- a row within range of every centre
-
-pub turned-bounded : (negated : Bool) (words : List ℕ) (start n t : ℕ) (row : List ℕ) → Filled n (turned negated (signalIn words start n) t) row → Bounded n row
-turned-bounded negated words start n t row filled = record { bound = λ l b. rw (filled .at l b) (turned-bound negated words start n t l) }
-
-pub somewhere-filled : (dual : Bool) (distances : List ℕ) (n : ℕ) (left : Signal chains) (lower upper t : ℕ) (signal row : List ℕ) → Filled n (turned dual left t) signal
-    → Filled n (λ centre. turnedTo dual (around signal distances n lower upper centre)) row → Filled n (somewhereIn dual distances n left lower upper t) row
-somewhere-filled dual distances n left lower upper t signal row decoded filled = record {
-  at = λ centre b. filled .at centre b
-      ∙ ap (turnedTo dual) (greatest-kept chainLattice chainLattice (λ u v. u ≡ v) (same-kept chainLattice) (inTable distances n centre lower upper) _ (turned dual left t) n (decoded .at))
-      ∙ turned-number dual (λ u l. greatestOver chainLattice (inTable distances n l lower upper) (turned dual left u) n) t centre;
-}

@@ -1,9 +1,8 @@
-// The operators of the logic for all places at one sample, over the words of an answer. A signal begins at an index of the words and has
-// `places` words to a sample; a row has the chain number of each place. Or, always and everywhere are the duals of and, eventually and
-// somewhere: the opposite of the operator on opposites.
+// The operators of the logic but those over space, for all places at one sample, over the words of an answer. A signal begins at an index of the
+// words and has `places` words to a sample; a row has the chain number of each place. Or and always are the duals of and and eventually: the
+// opposite of the operator on opposites.
 pub mod atoms;
 pub mod connectives;
 pub mod eventually;
 mod signals;
-pub mod somewhere;
 pub mod until;

@@ -23,7 +23,7 @@ use Rattle.surround.proofs.Greatest.{most-le, le-most}
 use Rattle.verdicts.specs.declared.tally.Tally.{Tally}
 use Rattle.verdicts.specs.Tally.{together}
 use Rattle.verdicts.specs.declared.around.Around.{Around}
-use Rattle.verdicts.specs.declared.around.Around.the-variants.{Surround, Somewhere}
+use Rattle.verdicts.specs.declared.around.Around.the-variants.{Surround, Range}
 use Rattle.verdicts.specs.Around.{LanesBounded, AroundReads, AroundReady, SamplesWritten, aroundValue, aroundRounds, BlockFilled}
 use Rattle.verdicts.proofs.LineRows.{sum-bound, sum-same}
 use Rattle.verdicts.proofs.Points.{surround-bound}
@@ -96,12 +96,12 @@ reads-fewer words L sheet (Surround left right b) samples k reads h =
       left-valid = λ t l b. reads .left-valid t l (omega arith);
       right-valid = λ t l b. reads .right-valid t l (omega arith);
     }
-reads-fewer words L sheet (Somewhere left b dual) samples k reads h = omega (arith, mul-le-mul-right (L .places) h)
+reads-fewer words L sheet (Range left b dual) samples k reads h = omega (arith, mul-le-mul-right (L .places) h)
 
 around-small : (words : List ℕ) (L : Layout) (sheet distances : List ℕ) (around : Around) (t l : ℕ) → aroundValue words L sheet distances around t l ≤ highest
 around-small words L sheet distances (Surround left right b) t l = surround-bound words left right (L .places) sheet (L .roads) distances (b .lower) (b .upper) t l
-around-small words L sheet distances (Somewhere left b true) t l = omega arith
-around-small words L sheet distances (Somewhere left b false) t l = greatest-bound _ _ (L .places) (λ k _. signal-bound words left (L .places) t k)
+around-small words L sheet distances (Range left b true) t l = omega arith
+around-small words L sheet distances (Range left b false) t l = greatest-bound _ _ (L .places) (λ k _. signal-bound words left (L .places) t k)
 
 module _ {words : List ℕ} {L : Layout} {sheet distances : List ℕ} where
   pub fewer-ready : {around : Around} {samples k : ℕ} → AroundReady words L sheet distances around samples → k ≤ samples → AroundReady words L sheet distances around k
@@ -126,7 +126,7 @@ module _ {words : List ℕ} {L : Layout} {sheet distances : List ℕ} where
     right-valid = λ t l _. ready .reads .right-valid t l;
   }
 
-  pub range-ready : {left : ℕ} {b : Bounds} {dual : Bool} {first size : ℕ} → AroundReady words L sheet distances (Somewhere left b dual) (first + size) → size ≤ lanes
+  pub range-ready : {left : ℕ} {b : Bounds} {dual : Bool} {first size : ℕ} → AroundReady words L sheet distances (Range left b dual) (first + size) → size ≤ lanes
       → RangeReady words left (L .places) distances first size
   range-ready ready few = record { few-places = ready .few-places .1; few = few; there = ready .reads; distances-there = ready .distances-there }
 
@@ -141,7 +141,7 @@ module _ {words : List ℕ} {L : Layout} {sheet distances : List ℕ} where
 
   pub somewhere-filled : {left : ℕ} {b : Bounds} {dual : Bool} {first size : ℕ} {out : List ℕ}
       → RangeDone words left (L .places) distances first size (b .lower) (b .upper) dual out
-      → BlockFilled words L sheet distances (Somewhere left b dual) first size out 0
+      → BlockFilled words L sheet distances (Range left b dual) first size out 0
   somewhere-filled {size = size} done = record { values = done .values; rounds = most-none size (L .places) }
 
   module _ {around : Around} {first size : ℕ} {out : List ℕ} {r : ℕ} (done : BlockFilled words L sheet distances around first size out r) where

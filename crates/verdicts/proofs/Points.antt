@@ -31,9 +31,9 @@ use Rattle.values.specs.Chain.{chains, chainLattice, chainOpposite, highest}
 use Rattle.values.specs.Signals.{signalIn, turned, inTable}
 use Rattle.values.proofs.Machine.{small-fits}
 use Rattle.values.proofs.Valid.{valid-difference}
-use Rattle.operators.specs.Rows.{Filled, somewhereIn}
 use Rattle.operators.proofs.Bounds.{signal-bound, bounded-kept}
 use Rattle.surround.specs.Lanes.{joinedBy, surroundValue}
+use Rattle.surround.specs.Ranges.{somewhereIn}
 use Rattle.verdicts.specs.Writing.{sheetNetwork, sheetRecording, earlier, lineValue, Surveyed, Readable}
 
 -- ---- no value is beyond `highest`
@@ -115,10 +115,8 @@ range-same : (s : List ℕ) (L : Layout) (distances : List ℕ) → Surveyed s L
 unfolding somewhereAt
 range-same s L distances survey f lower upper t l h b = greatest-same _ _ (f t) (L .places) (λ k c. range-at s L distances survey lower upper l k h b c)
 
--- a row by the table's ranges is a row by those of the network
-pub somewhere-same : (s : List ℕ) (L : Layout) (distances : List ℕ) → Surveyed s L distances → (dual : Bool) (f : Signal chains) (lower upper t : ℕ) → upper < 2 ^ 28 → (row : List ℕ)
-    → Filled (L .places) (somewhereIn dual distances (L .places) f lower upper t) row
-    → Filled (L .places) (turned dual (somewhereAt chains (sheetNetwork s L) (turned dual f) lower upper) t) row
-somewhere-same s L distances survey true f lower upper t h row filled =
-    record { at = λ l b. filled .at l b ∙ ap chainOpposite (range-same s L distances survey (turned true f) lower upper t l h b) }
-somewhere-same s L distances survey false f lower upper t h row filled = record { at = λ l b. filled .at l b ∙ range-same s L distances survey f lower upper t l h b }
+-- somewhere and its dual by the table's ranges are those by the network's
+pub somewhere-same : (s : List ℕ) (L : Layout) (distances : List ℕ) → Surveyed s L distances → (dual : Bool) (f : Signal chains) (lower upper t l : ℕ) → upper < 2 ^ 28 → l < L .places
+    → somewhereIn dual distances (L .places) f lower upper t l ≡ turned dual (somewhereAt chains (sheetNetwork s L) (turned dual f) lower upper) t l
+somewhere-same s L distances survey true f lower upper t l h b = ap chainOpposite (range-same s L distances survey (turned true f) lower upper t l h b)
+somewhere-same s L distances survey false f lower upper t l h b = range-same s L distances survey f lower upper t l h b

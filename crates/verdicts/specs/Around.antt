@@ -13,7 +13,7 @@ use Rattle.surround.specs.Lanes.{lanes, laneOf, surroundValue, surroundRounds}
 use Rattle.surround.specs.Steps.{RoadsIn}
 use Rattle.surround.specs.Ranges.{somewhereIn}
 use Rattle.verdicts.specs.declared.around.Around.{Around}
-use Rattle.verdicts.specs.declared.around.Around.the-variants.{Surround, Somewhere}
+use Rattle.verdicts.specs.declared.around.Around.the-variants.{Surround, Range}
 use Rattle.verdicts.specs.declared.tally.Tally.{Tally}
 
 -- a row has room for the places, and its first lanes hold chain numbers
@@ -33,7 +33,7 @@ pub record SurroundReads (words : List ℕ) (left right : ℕ) (L : Layout) (she
 
 abbrev pub AroundReads : List ℕ → Layout → List ℕ → Around → ℕ → Type 0
 AroundReads words L sheet (Surround left right b) samples = SurroundReads words left right L sheet samples
-AroundReads words L sheet (Somewhere left b dual) samples = left + samples * L .places ≤ length words
+AroundReads words L sheet (Range left b dual) samples = left + samples * L .places ≤ length words
 
 pub record AroundReady (words : List ℕ) (L : Layout) (sheet distances : List ℕ) (around : Around) (samples : ℕ) : Type 0 where
   pub few-places : (1 ≤ L .places) × (L .places ≤ mostPlaces)
@@ -52,11 +52,11 @@ module _ (words : List ℕ) (L : Layout) (sheet distances : List ℕ) where
   -- the chain number at a sample and a centre, and the rounds there
   abbrev pub aroundValue : Around → ℕ → ℕ → ℕ
   aroundValue (Surround left right b) = surroundValue words left right (L .places) sheet (L .roads) distances (b .lower) (b .upper)
-  aroundValue (Somewhere left b dual) = somewhereIn dual distances (L .places) (signalIn words left (L .places)) (b .lower) (b .upper)
+  aroundValue (Range left b dual) = somewhereIn dual distances (L .places) (signalIn words left (L .places)) (b .lower) (b .upper)
 
   abbrev pub aroundRounds : Around → ℕ → ℕ → ℕ
   aroundRounds (Surround left right b) = surroundRounds words left right (L .places) sheet (L .roads) distances (b .lower) (b .upper)
-  aroundRounds (Somewhere left b dual) = λ _ _. 0
+  aroundRounds (Range left b dual) = λ _ _. 0
 
   -- samples `first` to first + size - 1 side by side
   pub record BlockFilled (around : Around) (first size : ℕ) (out : List ℕ) (r : ℕ) : Type 0 where

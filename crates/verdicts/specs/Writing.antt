@@ -1,7 +1,7 @@
 -- What the engine makes of a line, from the sheet and from the words that it has written before: the chain reading of the line's operator on
 -- the signals of the earlier lines, where `starts` tells at which index each begins.
 use mathlib.Core.List.{List}
-use Prim.Native.Nat.{ℕ, _+_, _*_, _≤_, _<_, _^_}
+use Prim.Native.Nat.{ℕ, _+_, _*_, _≤_, _<_}
 use mathlib.Core.Path.{_≡_}
 use lib.ListN.{length, getD}
 use Rattle.words.specs.Word.{sampleOf}
@@ -34,12 +34,16 @@ module _ (s : List ℕ) (L : Layout) where
     unfoldable pub lineRounds : Operator → ℕ → ℕ → ℕ
     lineRounds o t l = roundsAt sheetNetwork (λ j u k. chainMargin (earlier L words starts j u k)) o t l
 
--- what the engine has checked: the sheet's samples are there, and the distances are those of its network
-pub record Surveyed (s : List ℕ) (L : Layout) (distances : List ℕ) : Type 0 where
+-- the sheet's samples are there
+pub record Recorded (s : List ℕ) (L : Layout) : Type 0 where
   pub places : (1 ≤ L .places) × (L .places ≤ mostPlaces)
   pub signals : L .signals ≤ mostSignals
   pub samples : L .samples ≤ mostSamples
   pub recorded : L .recording + L .signals * L .places * L .samples ≤ length s
+
+-- and the distances are those of its network
+pub record Surveyed (s : List ℕ) (L : Layout) (distances : List ℕ) : Type 0 where
+  pub sheet : Recorded s L
   pub room : L .places * L .places ≤ length distances
   pub measured : (a b : ℕ) → a < L .places → b < L .places → getD distances (a * L .places + b) 0 ≡ distanceNumber (distanceIn (sheetNetwork s L) a b)
 
@@ -48,7 +52,7 @@ pub record Written (L : Layout) (words starts : List ℕ) (j t : ℕ) : Type 0 w
   pub line : j < length starts
   pub inside : getD starts j 0 + (t + 1) * L .places ≤ length words
 
--- what an operator reads at sample t is there; a surround is not evaluated sample by sample
+-- what an operator reads at sample t is there; those over space are not evaluated sample by sample
 abbrev pub Readable : Layout → List ℕ → List ℕ → Operator → ℕ → Type 0
 Readable L words starts True t = Unit {0}
 Readable L words starts (AtLeast signal c) t = (signal < L .signals) × (t < L .samples) × InBits 26 c
@@ -56,9 +60,9 @@ Readable L words starts (AtMost signal c) t = (signal < L .signals) × (t < L .s
 Readable L words starts (Not i) t = Written L words starts i t
 Readable L words starts (And i j) t = Written L words starts i t × Written L words starts j t
 Readable L words starts (Until i j lower upper) t = (lower ≤ upper) × Written L words starts i (t + upper) × Written L words starts j (t + upper)
-Readable L words starts (Somewhere i lower upper) t = (upper < 2 ^ 28) × Written L words starts i t
+Readable L words starts (Somewhere i lower upper) t = ⊥
 Readable L words starts (Surrounded i j lower upper) t = ⊥
 Readable L words starts (Or i j) t = Written L words starts i t × Written L words starts j t
 Readable L words starts (Eventually i lower upper) t = (lower ≤ upper) × Written L words starts i (t + upper)
 Readable L words starts (Always i lower upper) t = (lower ≤ upper) × Written L words starts i (t + upper)
-Readable L words starts (Everywhere i lower upper) t = (upper < 2 ^ 28) × Written L words starts i t
+Readable L words starts (Everywhere i lower upper) t = ⊥

@@ -25,7 +25,7 @@ pub enum Around {
         right: usize,
         bounds: Bounds,
     },
-    Somewhere {
+    Range {
         left: usize,
         bounds: Bounds,
         dual: bool,
@@ -80,7 +80,7 @@ fn fill_block(
             size,
             out,
         ),
-        Around::Somewhere { left, bounds, dual } => {
+        Around::Range { left, bounds, dual } => {
             somewhere_block(
                 words,
                 left,

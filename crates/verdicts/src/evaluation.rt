@@ -1,10 +1,9 @@
-// The values of a line for all places at one sample, for every operator but the surround.
+// The values of a line for all places at one sample, for every operator but those over space.
 use operators::atoms::atom_row;
 use operators::connectives::and_row;
 use operators::connectives::true_row;
 use operators::connectives::turned_row;
 use operators::eventually::eventually_row;
-use operators::somewhere::somewhere_row;
 use operators::until::until_row;
 use sheet::check::Layout;
 use sheet::operator::Bounds;
@@ -12,14 +11,13 @@ use sheet::operator::Operator;
 ghost use mathlib.Core.Path.{_≡_};
 ghost use Prim.Native.Nat.{ℕ, suc, _+_, _*_, _≤_, _<_};
 ghost use lib.ListN.{length};
-ghost use Rattle.words.specs.Bytes.{wordsOf, numbersOf};
+ghost use Rattle.words.specs.Bytes.{wordsOf};
 ghost use Rattle.logic.specs.Table.{untilAt, opposite};
 ghost use Rattle.logic.proofs.Small.{InBits};
 ghost use Rattle.sheet.specs.Decoding.{operatorSaid};
-ghost use Rattle.sheet.specs.Limits.{mostPlaces};
 ghost use Rattle.values.specs.Chain.{chains};
-ghost use Rattle.operators.specs.Rows.{Filled, atomValue, andAt, eventuallyAt, somewhereIn};
-ghost use Rattle.verdicts.specs.Writing.{earlier, sheetRecording, lineValue, Surveyed, Written, Readable};
+ghost use Rattle.operators.specs.Rows.{Filled, atomValue, andAt, eventuallyAt};
+ghost use Rattle.verdicts.specs.Writing.{earlier, sheetRecording, lineValue, Recorded, Written, Readable};
 
 // Codes 1 and 2: the evaluator of atoms is handed the samples' part of the sheet, which begins after the roads.
 fn recorded_row(
@@ -132,47 +130,18 @@ fn eventually_of(
     );
 }
 
-// Codes 6 and 11.
-fn somewhere_of(
-    words: &[u8],
-    starts: &[usize],
-    layout: Layout,
-    distances: &[u8],
-    left: usize,
-    bounds: Bounds,
-    dual: bool,
-    t: usize,
-    row: &mut [u32],
-)
-    requires { ⌜ Written layout (wordsOf (now words)) (now starts) left t × (layout .places ≤ mostPlaces) × (layout .places * layout .places ≤ length (numbersOf (wordsOf (now distances)))) × (layout .places ≤ length (now row)) ⌝ }
-    ensures { λ _. ⌜ Filled (layout .places) (somewhereIn dual (numbersOf (wordsOf (now (distances .entry)))) (layout .places) (earlier layout (wordsOf (now (words .entry))) (now (starts .entry)) left) (bounds .lower) (bounds .upper) t) (now (row .exit)) ⌝ }
-{
-    somewhere_row(
-        words,
-        starts[left],
-        layout.places,
-        distances,
-        bounds.lower,
-        bounds.upper,
-        dual,
-        t,
-        row,
-    );
-}
-
 // `words` are those written before the line; `starts` tells at which index the signal of each earlier line begins. The row holds the
 // values at the sample before, if there is one.
 pub(crate) fn value_row(
     operator: Operator,
     sheet: &[u8],
     layout: Layout,
-    distances: &[u8],
     words: &[u8],
     starts: &[usize],
     t: usize,
     row: &mut [u32],
 )
-    requires { ⌜ Surveyed (wordsOf (now sheet)) layout (numbersOf (wordsOf (now distances))) × Readable layout (wordsOf (now words)) (now starts) (operatorSaid operator) t × ((u : ℕ) → t ≡ suc u → Filled (layout .places) (lineValue (wordsOf (now sheet)) layout (wordsOf (now words)) (now starts) (operatorSaid operator) u) (now row)) × (layout .places ≤ length (now row)) ⌝ }
+    requires { ⌜ Recorded (wordsOf (now sheet)) layout × Readable layout (wordsOf (now words)) (now starts) (operatorSaid operator) t × ((u : ℕ) → t ≡ suc u → Filled (layout .places) (lineValue (wordsOf (now sheet)) layout (wordsOf (now words)) (now starts) (operatorSaid operator) u) (now row)) × (layout .places ≤ length (now row)) ⌝ }
     ensures { λ _. ⌜ Filled (layout .places) (lineValue (wordsOf (now (sheet .entry))) layout (wordsOf (now (words .entry))) (now (starts .entry)) (operatorSaid operator) t) (now (row .exit)) ⌝ }
 {
     match operator {
@@ -190,18 +159,8 @@ pub(crate) fn value_row(
             right,
             bounds,
         } => until_of(words, starts, layout, left, right, bounds, t, row),
-        Operator::Somewhere { left, bounds } => somewhere_of(
-            words,
-            starts,
-            layout,
-            distances,
-            left,
-            bounds,
-            false,
-            t,
-            row,
-        ),
-        // written in blocks of samples
+        // those over space are written in blocks of samples
+        Operator::Somewhere { .. } => {}
         Operator::Surrounded { .. } => {}
         Operator::Or { left, right } => and_of(words, starts, layout, left, right, true, t, row),
         Operator::Eventually { left, bounds } => {
@@ -210,8 +169,6 @@ pub(crate) fn value_row(
         Operator::Always { left, bounds } => {
             eventually_of(words, starts, layout, left, bounds, true, t, row)
         }
-        Operator::Everywhere { left, bounds } => {
-            somewhere_of(words, starts, layout, distances, left, bounds, true, t, row)
-        }
+        Operator::Everywhere { .. } => {}
     }
 }

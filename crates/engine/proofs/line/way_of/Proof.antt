@@ -23,11 +23,14 @@ enum-told-5 c = search needs
 enum-told-6 : tie.Need-enum-told-6
 enum-told-6 c = search needs
 
-enum-told-7 : tie.Need-enum-told-7
-enum-told-7 c = search needs
-
 enum-known-operator : tie.Need-enum-known-operator
 enum-known-operator c = search needs
+
+enum-known-operator-2 : tie.Need-enum-known-operator-2
+enum-known-operator-2 c = search needs
+
+enum-told-7 : tie.Need-enum-told-7
+enum-told-7 c = search needs
 
 enum-told-8 : tie.Need-enum-told-8
 enum-told-8 c = search needs
@@ -35,11 +38,8 @@ enum-told-8 c = search needs
 enum-told-9 : tie.Need-enum-told-9
 enum-told-9 c = search needs
 
-enum-told-10 : tie.Need-enum-told-10
-enum-told-10 c = search needs
-
-enum-told-11 : tie.Need-enum-told-11
-enum-told-11 c = search needs
+enum-known-operator-3 : tie.Need-enum-known-operator-3
+enum-known-operator-3 c = search needs
 
 returns : tie.Need-returns
 returns c = search needs
@@ -60,10 +60,10 @@ returns-6 : tie.Need-returns-6
 returns-6 c = search needs
 
 returns-7 : tie.Need-returns-7
-returns-7 c = search needs
+returns-7 c = sym (ap wayOf (c .before .operator .given .1))
 
 returns-8 : tie.Need-returns-8
-returns-8 c = sym (ap wayOf (c .before .operator .given .1))
+returns-8 c = sym (ap wayOf (c .before .operator2 .given .1))
 
 returns-9 : tie.Need-returns-9
 returns-9 c = search needs
@@ -75,7 +75,7 @@ returns-11 : tie.Need-returns-11
 returns-11 c = search needs
 
 returns-12 : tie.Need-returns-12
-returns-12 c = search needs
+returns-12 c = sym (ap wayOf (c .before .operator3 .given .1))
 
 pub way-of-spec : {M : Type 1} → statement M
 way-of-spec =
@@ -87,12 +87,12 @@ way-of-spec =
     enum-told-4
     enum-told-5
     enum-told-6
-    enum-told-7
     enum-known-operator
+    enum-known-operator-2
+    enum-told-7
     enum-told-8
     enum-told-9
-    enum-told-10
-    enum-told-11
+    enum-known-operator-3
     returns
     returns-2
     returns-3

@@ -3,7 +3,7 @@ use mathlib.Core.Path.{_≡_, sym, _∙_}
 use mathlib.Core.List.{List}
 use Prim.Native.Nat.{ℕ, _+_, _*_, _≤_, _<_}
 use native.Mathlib.Omega.{arith}
-use lib.ListN.{length, getD, take, set}
+use lib.ListN.{length, take, set}
 use borrow.Author.Needs.{needs}
 use Rattle.words.specs.Bytes.{wordsOf, numbersOf}
 use Rattle.words.proofs.Words.{words-count}
@@ -11,14 +11,15 @@ use Rattle.sheet.specs.declared.operator.Operator.the-variants.{Surrounded}
 use Rattle.sheet.specs.Decoding.{operatorSaid, lineSaid}
 use Rattle.verdicts.specs.Writing.{Readable}
 use Rattle.engine.specs.declared.line.Way.{Way}
-use Rattle.verdicts.specs.SurroundLine.{SurroundReady}
+use Rattle.verdicts.specs.declared.around.Around.{Around}
+use Rattle.verdicts.specs.Around.{AroundReady}
 use Rattle.engine.specs.Line.{firstWord, wordsUpTo}
-use Rattle.engine.proofs.LineReads.{Reads, line-reads, operands-known, upper-small, surround-ready}
-use Rattle.engine.proofs.LineWords.{length-kept, before-verdicts, rows-written, surround-written}
+use Rattle.engine.proofs.LineReads.{Reads, ranged, line-reads, operands-known, upper-small, surround-ready, RangeGood, range-good, range-ready}
+use Rattle.engine.proofs.LineWords.{length-kept, before-verdicts, rows-written, surround-written, range-written}
 use Rattle.engine.proofs.line.write_line.Statement.{statement}
 use Rattle.engine.proofs.line.write_line.Tie as tie
 
--- where both arms have come from
+-- where all arms have come from
 module _ (c : tie.After-way-of) where
   abbrev start : tie.Start
   start = c .before .before .before .before .before .before .before .before .before .before .before
@@ -47,6 +48,13 @@ module _ (c : tie.After-way-of) where
       (wordsUpTo answer (start .args .to) (lineSaid (start .args .line))) (start .args .starts .now) (start .args .line .length) (start .args .line .operator) way
   reads e = line-reads (start .args .line) (start .pre .0) (sym (c .way-of .ensures) ∙ e)
 
+  -- what is asked for about the centres
+  abbrev Ready : List ℕ → Around → Type 0
+  Ready words around = AroundReady words (start .args .layout) (wordsOf (start .args .sheet .now)) (numbersOf (wordsOf (start .args .distances .now))) around (start .args .line .length)
+
+  asked : {around : Around} → Ready (wordsUpTo answer (start .args .to) (lineSaid (start .args .line))) around → Ready (take (start .args .to + 1) first) around
+  asked ready = rw before-line ready
+
 -- the arm of a surround
 module _ (c : tie.After-left) where
   abbrev way : tie.After-way-of
@@ -57,6 +65,17 @@ module _ (c : tie.After-left) where
 
   known : (c .left .given .0 .0 < length (start way .args .starts .now)) × (c .left .given .0 .1 .0 < length (start way .args .starts .now))
   known = operands-known (start way .args .line) (start way .pre .0) surrounded
+
+-- the arm of a range
+module _ (c : tie.After-left2) where
+  abbrev way-range : tie.After-way-of
+  way-range = c .before .before
+
+  in-range : start way-range .args .line .operator ≡ ranged (c .left2 .given .0 .1 .1 .0) (c .left2 .given .0 .0) (c .left2 .given .0 .1 .0)
+  in-range = reads way-range (c .left2 .given .1)
+
+  good : RangeGood (start way-range .args .line) (start way-range .pre .0) (c .left2 .given .0 .0) (c .left2 .given .0 .1 .0)
+  good = range-good (start way-range .args .line) (start way-range .pre .0) (c .left2 .given .0 .1 .1 .0) (c .left2 .given .0 .0) (c .left2 .given .0 .1 .0) in-range
 
 add-put-word : tie.Need-add-put-word
 add-put-word c = search needs
@@ -76,27 +95,36 @@ way-of-requires c κs = search needs
 enum-known-left : tie.Need-enum-known-left
 enum-known-left c = search needs
 
-mul-write-surround : tie.Need-mul-write-surround
-mul-write-surround c = omega (arith, known (c .before))
+mul-first : tie.Need-mul-first
+mul-first c = omega (arith, known (c .before))
 
-shared-slice-read-write-surround : tie.Need-shared-slice-read-write-surround
-shared-slice-read-write-surround c = omega (arith, known (c .before .before))
+shared-slice-read-first : tie.Need-shared-slice-read-first
+shared-slice-read-first c = omega (arith, known (c .before .before))
 
-mul-write-surround-2 : tie.Need-mul-write-surround-2
-mul-write-surround-2 c = omega (arith, known (c .before .before))
+mul-second : tie.Need-mul-second
+mul-second c = omega (arith, known (c .before .before))
 
-shared-slice-read-write-surround-2 : tie.Need-shared-slice-read-write-surround-2
-shared-slice-read-write-surround-2 c = omega (arith, known (c .before .before .before))
+shared-slice-read-second : tie.Need-shared-slice-read-second
+shared-slice-read-second c = omega (arith, known (c .before .before .before))
 
-write-surround-requires : tie.Need-write-surround-requires
-write-surround-requires c κs =
+write-around-requires : tie.Need-write-around-requires
+write-around-requires c κs =
     let arm = c .before .before .before .before in
-    let begin = start (way arm) in
-    let a = begin .args in
-    let ready : SurroundReady (take (a .to + 1) (first (way arm))) (getD (a .starts .now) (arm .left .given .0 .0) 0) (getD (a .starts .now) (arm .left .given .0 .1 .0) 0) (a .layout)
-    (wordsOf (a .sheet .now)) (numbersOf (wordsOf (a .distances .now))) (a .line .length) =
-    rw (before-line (way arm)) (surround-ready (a .line) (begin .pre .0) (surrounded arm)) in
-    (ready, verdicts-room (way arm))
+    (asked (way arm) (surround-ready (start (way arm) .args .line) (start (way arm) .pre .0) (surrounded arm)), verdicts-room (way arm))
+
+enum-known-left-2 : tie.Need-enum-known-left-2
+enum-known-left-2 c = search needs
+
+mul-only : tie.Need-mul-only
+mul-only c = omega (arith, good (c .before) .known)
+
+shared-slice-read-only : tie.Need-shared-slice-read-only
+shared-slice-read-only c = good (c .before .before) .known
+
+write-around-requires-2 : tie.Need-write-around-requires-2
+write-around-requires-2 c κs =
+    let arm = c .before .before .before in
+    (asked (way-range arm) (range-ready (start (way-range arm) .args .line) (start (way-range arm) .pre .0) _ _ _ (in-range arm)), verdicts-room (way-range arm))
 
 enum-told : tie.Need-enum-told
 enum-told c = search needs
@@ -108,7 +136,7 @@ write-rows-requires c κs =
     let a = begin .args in
     let readable : (t : ℕ) → t < a .line .length → Readable (a .layout) (take (a .to + 1) (first way)) (a .starts .now) (operatorSaid (a .line .operator)) t =
     rw (before-line way) (reads way (c .before .enum-told .given .1) .0) in
-    (begin .pre .0 .surveyed, readable, verdicts-room way, omega (arith, begin .pre .0 .good .most, begin .pre .0 .surveyed .samples))
+    (begin .pre .0 .surveyed .sheet, readable, verdicts-room way, omega (arith, begin .pre .0 .good .most, begin .pre .0 .surveyed .sheet .samples))
 
 same-length : tie.Need-same-length
 same-length c = search needs
@@ -118,13 +146,24 @@ returns c =
     let arm = c .before .before .before .before .before .before .before in
     let begin = start (way arm) in
     surround-written (answer (way arm)) (begin .args .to) (begin .args .line) (room (way arm)) (put-first (way arm)) (begin .pre .0 .surveyed) (surrounded arm)
-    (upper-small (begin .args .line) (begin .pre .0) (surrounded arm)) (c .before .before .write-surround .ensures)
+    (upper-small (begin .args .line) (begin .pre .0) (surrounded arm)) (c .before .before .write-around .ensures)
 
 same-length-2 : tie.Need-same-length-2
 same-length-2 c = search needs
 
 returns-2 : tie.Need-returns-2
 returns-2 c =
+    let arm = c .before .before .before .before .before .before in
+    let begin = start (way-range arm) in
+    let which = arm .left2 .given .0 in
+    range-written (answer (way-range arm)) (begin .args .to) (begin .args .line) (room (way-range arm)) (put-first (way-range arm)) (begin .pre .0 .surveyed) (which .1 .1 .0) (which .0) (which .1 .0) (in-range arm)
+    (good arm .small) (c .before .before .write-around2 .ensures)
+
+same-length-3 : tie.Need-same-length-3
+same-length-3 c = search needs
+
+returns-3 : tie.Need-returns-3
+returns-3 c =
     let arm = c .before .before .before .before in
     let way = arm .before .before in
     let (written, counted) = c .before .before .write-rows .ensures in
@@ -140,14 +179,20 @@ write-line-spec =
     cast-samples
     way-of-requires
     enum-known-left
-    mul-write-surround
-    shared-slice-read-write-surround
-    mul-write-surround-2
-    shared-slice-read-write-surround-2
-    write-surround-requires
+    mul-first
+    shared-slice-read-first
+    mul-second
+    shared-slice-read-second
+    write-around-requires
+    enum-known-left-2
+    mul-only
+    shared-slice-read-only
+    write-around-requires-2
     enum-told
     write-rows-requires
     same-length
     returns
     same-length-2
-    returns-2)
+    returns-2
+    same-length-3
+    returns-3)

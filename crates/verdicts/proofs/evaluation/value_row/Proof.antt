@@ -1,6 +1,5 @@
 -- Each arm knows which operator it has: with that, what the operator reads is there, and the row it leaves has the values of the line.
 use mathlib.Core.Path.{_≡_, sym, ap, subst, _∙_}
-use mathlib.Core.Bool.{true, false}
 use mathlib.Core.List.{List}
 use Prim.Native.Nat.{ℕ, suc, _+_, _*_, _≤_, _<_}
 use native.Mathlib.Omega.{arith}
@@ -17,14 +16,14 @@ use Rattle.sheet.specs.Decoding.{operatorSaid}
 use Rattle.values.specs.Chain.{chains}
 use Rattle.operators.specs.Rows.{Filled}
 use Rattle.verdicts.specs.Writing.{sheetRecording, lineValue, Readable}
-use Rattle.verdicts.proofs.Points.{sample-inside, constant-kept, somewhere-same}
+use Rattle.verdicts.proofs.Points.{sample-inside, constant-kept}
 use Rattle.verdicts.proofs.evaluation.value_row.Statement.{statement}
 use Rattle.verdicts.proofs.evaluation.value_row.Tie as tie
 
 -- before the match, where every arm has come from
 module _ (c : tie.After-slice-known) where
   abbrev start : tie.Start
-  start = c .before .before .before .before .before
+  start = c .before .before .before .before
 
   abbrev Reads : Operator → Type 0
   Reads o = Readable (start .args .layout) (wordsOf (start .args .words .now)) (start .args .starts .now) (operatorSaid o) (start .args .t)
@@ -93,51 +92,43 @@ until-of-requires : tie.Need-until-of-requires
 until-of-requires c κs =
     let known = c .before .before .before .before in let (ordered, left, right) = readable known (c .before .before .operator5 .given .1) in (ordered, left, right, start known .pre .3)
 
-enum-known-operator-6 : tie.Need-enum-known-operator-6
-enum-known-operator-6 c = search needs
-
-somewhere-of-requires : tie.Need-somewhere-of-requires
-somewhere-of-requires c κs =
-    let known = c .before .before .before .before in (readable known (c .before .before .operator6 .given .1) .1, start known .pre .0 .places .1, start known .pre .0 .room, start known .pre .3)
-
 enum-told-2 : tie.Need-enum-told-2
 enum-told-2 c = search needs
 
-enum-known-operator-7 : tie.Need-enum-known-operator-7
-enum-known-operator-7 c = search needs
+enum-told-3 : tie.Need-enum-told-3
+enum-told-3 c = search needs
+
+enum-known-operator-6 : tie.Need-enum-known-operator-6
+enum-known-operator-6 c = search needs
 
 and-of-requires-2 : tie.Need-and-of-requires-2
 and-of-requires-2 c κs =
-    let known = c .before .before .before .before in let (left, right) = readable known (c .before .before .operator7 .given .1) in (left, right, start known .pre .3)
+    let known = c .before .before .before .before in let (left, right) = readable known (c .before .before .operator6 .given .1) in (left, right, start known .pre .3)
 
-enum-known-operator-8 : tie.Need-enum-known-operator-8
-enum-known-operator-8 c = search needs
+enum-known-operator-7 : tie.Need-enum-known-operator-7
+enum-known-operator-7 c = search needs
 
 eventually-of-requires : tie.Need-eventually-of-requires
 unfolding lineValue value
 eventually-of-requires c κs =
     let known = c .before .before .before .before in
-    let which = c .before .before .operator8 .given .1 in
+    let which = c .before .before .operator7 .given .1 in
     let (ordered, line) = readable known which in
     (ordered, line, former known which, start known .pre .3)
 
-enum-known-operator-9 : tie.Need-enum-known-operator-9
-enum-known-operator-9 c = search needs
+enum-known-operator-8 : tie.Need-enum-known-operator-8
+enum-known-operator-8 c = search needs
 
 eventually-of-requires-2 : tie.Need-eventually-of-requires-2
 unfolding lineValue value
 eventually-of-requires-2 c κs =
     let known = c .before .before .before .before in
-    let which = c .before .before .operator9 .given .1 in
+    let which = c .before .before .operator8 .given .1 in
     let (ordered, line) = readable known which in
     (ordered, line, former known which, start known .pre .3)
 
-enum-known-operator-10 : tie.Need-enum-known-operator-10
-enum-known-operator-10 c = search needs
-
-somewhere-of-requires-2 : tie.Need-somewhere-of-requires-2
-somewhere-of-requires-2 c κs =
-    let known = c .before .before .before .before in (readable known (c .before .before .operator10 .given .1) .1, start known .pre .0 .places .1, start known .pre .0 .room, start known .pre .3)
+enum-told-4 : tie.Need-enum-told-4
+enum-told-4 c = search needs
 
 same-length : tie.Need-same-length
 same-length c = search needs
@@ -187,49 +178,35 @@ returns-6 : tie.Need-returns-6
 unfolding lineValue value
 returns-6 c = told (c .before .before .before .before .before .before .before) (c .before .before .before .before .before .operator5 .given .1) (c .before .before .until-of .ensures)
 
+returns-7 : tie.Need-returns-7
+returns-7 c = absurd (readable (c .before .before) (c .enum-told2 .given .1))
+
+returns-8 : tie.Need-returns-8
+returns-8 c = absurd (readable (c .before .before) (c .enum-told3 .given .1))
+
 same-length-7 : tie.Need-same-length-7
 same-length-7 c = search needs
 
-returns-7 : tie.Need-returns-7
+returns-9 : tie.Need-returns-9
 unfolding lineValue value
-returns-7 c =
-    let known = c .before .before .before .before .before .before .before in
-    let which = c .before .before .before .before .before .operator6 .given .1 in
-    told known which (somewhere-same _ (start known .args .layout) _ (start known .pre .0) false _ _ _ (start known .args .t) (readable known which .0) _ (c .before .before .somewhere-of .ensures))
-
-returns-8 : tie.Need-returns-8
-returns-8 c = absurd (readable (c .before .before) (c .enum-told2 .given .1))
+returns-9 c = told (c .before .before .before .before .before .before .before) (c .before .before .before .before .before .operator6 .given .1) (c .before .before .and-of2 .ensures)
 
 same-length-8 : tie.Need-same-length-8
 same-length-8 c = search needs
 
-returns-9 : tie.Need-returns-9
+returns-10 : tie.Need-returns-10
 unfolding lineValue value
-returns-9 c = told (c .before .before .before .before .before .before .before) (c .before .before .before .before .before .operator7 .given .1) (c .before .before .and-of2 .ensures)
+returns-10 c = told (c .before .before .before .before .before .before .before) (c .before .before .before .before .before .operator7 .given .1) (c .before .before .eventually-of .ensures)
 
 same-length-9 : tie.Need-same-length-9
 same-length-9 c = search needs
 
-returns-10 : tie.Need-returns-10
-unfolding lineValue value
-returns-10 c = told (c .before .before .before .before .before .before .before) (c .before .before .before .before .before .operator8 .given .1) (c .before .before .eventually-of .ensures)
-
-same-length-10 : tie.Need-same-length-10
-same-length-10 c = search needs
-
 returns-11 : tie.Need-returns-11
 unfolding lineValue value
-returns-11 c = told (c .before .before .before .before .before .before .before) (c .before .before .before .before .before .operator9 .given .1) (c .before .before .eventually-of2 .ensures)
-
-same-length-11 : tie.Need-same-length-11
-same-length-11 c = search needs
+returns-11 c = told (c .before .before .before .before .before .before .before) (c .before .before .before .before .before .operator8 .given .1) (c .before .before .eventually-of2 .ensures)
 
 returns-12 : tie.Need-returns-12
-unfolding lineValue value
-returns-12 c =
-    let known = c .before .before .before .before .before .before .before in
-    let which = c .before .before .before .before .before .operator10 .given .1 in
-    told known which (somewhere-same _ (start known .args .layout) _ (start known .pre .0) true _ _ _ (start known .args .t) (readable known which .0) _ (c .before .before .somewhere-of2 .ensures))
+returns-12 c = absurd (readable (c .before .before) (c .enum-told4 .given .1))
 
 pub value-row-spec : {M : Type 1} → statement M
 value-row-spec =
@@ -247,17 +224,15 @@ value-row-spec =
     and-of-requires
     enum-known-operator-5
     until-of-requires
-    enum-known-operator-6
-    somewhere-of-requires
     enum-told-2
-    enum-known-operator-7
+    enum-told-3
+    enum-known-operator-6
     and-of-requires-2
-    enum-known-operator-8
+    enum-known-operator-7
     eventually-of-requires
-    enum-known-operator-9
+    enum-known-operator-8
     eventually-of-requires-2
-    enum-known-operator-10
-    somewhere-of-requires-2
+    enum-told-4
     same-length
     returns
     same-length-2
@@ -270,14 +245,12 @@ value-row-spec =
     returns-5
     same-length-6
     returns-6
-    same-length-7
     returns-7
     returns-8
-    same-length-8
+    same-length-7
     returns-9
-    same-length-9
+    same-length-8
     returns-10
-    same-length-10
+    same-length-9
     returns-11
-    same-length-11
     returns-12)

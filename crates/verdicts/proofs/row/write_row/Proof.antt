@@ -35,17 +35,17 @@ module _ (c : tie.Start) where
   read = words-take (c .args .answer .now) (c .args .begin)
 
 mul-end : tie.Need-mul-end
-mul-end c = omega (arith, begins (c .before .before .before .before .before))
+mul-end c = omega (arith, begins (c .before .before .before .before))
 
 slice-reshare-prefix-value-row : tie.Need-slice-reshare-prefix-value-row
-slice-reshare-prefix-value-row c = begins (c .before .before .before .before .before)
+slice-reshare-prefix-value-row c = begins (c .before .before .before .before)
 
 slice-aggregate-value-row : tie.Need-slice-aggregate-value-row
-slice-aggregate-value-row c = sym (length-take-le _ _ (begins (c .before .before .before .before .before .before)))
+slice-aggregate-value-row c = sym (length-take-le _ _ (begins (c .before .before .before .before .before)))
 
 value-row-requires : tie.Need-value-row-requires
 value-row-requires c κs =
-    let start = c .before .before .before .before .before .before .before in
+    let start = c .before .before .before .before .before .before in
     let a = start .args in
     let reads : List ℕ → Type 0 = λ w. Readable (a .layout) w (a .starts .now) (operatorSaid (a .operator)) (a .t) in
     let former : List ℕ → Type 0 = λ w. (u : ℕ) → a .t ≡ suc u → Filled (a .layout .places) (Value start w u) (a .held .now) in
@@ -54,10 +54,10 @@ value-row-requires c κs =
 -- the row that is written
 module _ (c : tie.After-value-row) where
   abbrev start : tie.Start
-  start = c .before .before .before .before .before .before .before .before
+  start = c .before .before .before .before .before .before .before
 
   abbrev values : List ℕ
-  values = c .value-row .last .1 .1 .1 .1 .1 .1 .1 .0
+  values = c .value-row .last .1 .1 .1 .1 .1 .1 .0
 
   filled : Filled (start .args .layout .places) (Value start (before start) (start .args .t)) values
   filled = subst (λ w. Filled (start .args .layout .places) (Value start w (start .args .t)) values) (read start) (c .value-row .ensures)
@@ -71,7 +71,7 @@ write-sample-requires c κs =
     let begin = start called in (
       record {
         few-places = begin .pre .0 .places .1;
-        inside = λ l b. omega (arith, called .value-row .kept .1 .1 .1 .1 .1 .1 .1 .0, begin .pre .5);
+        inside = λ l b. omega (arith, called .value-row .kept .1 .1 .1 .1 .1 .1 .0, begin .pre .5);
         bound = λ l b. rw (same called l b) (line-bound _ (begin .args .layout) _ _ _ (begin .args .t) l (begin .pre .1) b);
       },
       begin .pre .4,

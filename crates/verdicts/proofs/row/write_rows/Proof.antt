@@ -23,7 +23,7 @@ use Rattle.verdicts.proofs.row.write_rows.Statement.{statement}
 use Rattle.verdicts.proofs.row.write_rows.Tie as tie
 
 abbrev Inv-loop : tie.InvT-loop
-Inv-loop operator sheet layout distances starts answer₀ begin samples held₀ yes₀ to₀ t₀ answer held sum to t =
+Inv-loop operator sheet layout starts answer₀ begin samples held₀ yes₀ to₀ t₀ answer held sum to t =
     (t ≤ samples) × (length answer ≡ length answer₀) × (to ≡ begin + t * layout .places)
     × (wordsOf answer ≡ put (wordsOf answer₀) begin (rows (λ u l. chainWord (lineValue (wordsOf sheet) layout (take begin (wordsOf answer₀)) starts (operatorSaid operator) u l)) t (layout .places)))
     × (sum ≡ sumBelow (λ u. sumBelow (λ l. count (chainVerdict (lineValue (wordsOf sheet) layout (take begin (wordsOf answer₀)) starts (operatorSaid operator) u l))) (layout .places)) t)
@@ -31,7 +31,7 @@ Inv-loop operator sheet layout distances starts answer₀ begin samples held₀ 
     × ((u : ℕ) → t ≡ suc u → Filled (layout .places) (lineValue (wordsOf sheet) layout (take begin (wordsOf answer₀)) starts (operatorSaid operator) u) held)
 
 abbrev μ-loop : tie.MeasureT-loop
-μ-loop operator sheet layout distances starts answer₀ begin samples held₀ yes₀ to₀ t₀ answer held sum to t = samples - t
+μ-loop operator sheet layout starts answer₀ begin samples held₀ yes₀ to₀ t₀ answer held sum to t = samples - t
 
 module _ (c : tie.Start Inv-loop μ-loop) where
   abbrev Value : List ℕ → ℕ → ℕ → ℕ
@@ -45,7 +45,7 @@ module _ (c : tie.Start Inv-loop μ-loop) where
 
 module _ (c : tie.In-loop Inv-loop μ-loop) where
   abbrev start : tie.Start Inv-loop μ-loop
-  start = c .before .before .before .before .before .before
+  start = c .before .before .before .before .before
 
   room : c .before .loop .to + start .args .layout .places ≤ length (wordsOf (c .before .loop .answer))
   room =
@@ -108,14 +108,14 @@ loop-again c =
     let value = Value begin (take (begin .args .begin) first) in
     let put-in = ap (λ w. put (wordsOf (loop .answer)) (loop .to) (row (λ l. chainWord (Value begin w (loop .t) l)) n)) (before turn) in
     let after = ap₂ (λ w i. put w i (row (λ l. chainWord (value (loop .t) l)) n)) (loop .inv .3) (loop .inv .2) in
-    let held = subst (λ w. Filled n (Value begin w (loop .t)) (called .last .1 .1 .1 .1 .1 .1 .1 .1 .1 .0)) (before turn) (called .ensures .1 .1) in (
+    let held = subst (λ w. Filled n (Value begin w (loop .t)) (called .last .1 .1 .1 .1 .1 .1 .1 .1 .0)) (before turn) (called .ensures .1 .1) in (
       search needs,
       search needs,
       rw (add-one (loop .t), suc-mul (loop .t) n) (omega (arith, loop .inv .2)),
       called .ensures .0 ∙ put-in ∙ after ∙ put-row first (begin .args .begin) (λ u l. chainWord (value u l)) (loop .t) n (omega (arith, begin .pre .2)),
       ap₂ _+_ (loop .inv .4) (called .ensures .1 .0 ∙ ap (λ w. Yes begin w (loop .t)) (before turn)) ∙ sym (sum-more _ (loop .t)),
-      called .kept .1 .1 .1 .1 .1 .1 .1 .1 .1 .0 ∙ loop .inv .5,
-      λ u e. let same : loop .t ≡ u = omega arith in subst (λ (v : ℕ). Filled n (value v) (called .last .1 .1 .1 .1 .1 .1 .1 .1 .1 .0)) same held,
+      called .kept .1 .1 .1 .1 .1 .1 .1 .1 .0 ∙ loop .inv .5,
+      λ u e. let same : loop .t ≡ u = omega arith in subst (λ (v : ℕ). Filled n (value v) (called .last .1 .1 .1 .1 .1 .1 .1 .1 .0)) same held,
     )
 
 same-length : tie.Need-same-length Inv-loop μ-loop
@@ -123,7 +123,7 @@ same-length c = search needs
 
 returns : tie.Need-returns Inv-loop μ-loop
 returns c =
-    let start = c .before .before .before .before .before .before in
+    let start = c .before .before .before .before .before in
     let first = wordsOf (start .args .answer .now) in
     let value = Value start (take (start .args .begin) first) in
     let ended : c .before .loop .t ≡ start .args .samples = omega arith in (

@@ -1,7 +1,7 @@
--- The surround that the table of distances and the sheet's roads give is that of the sheet's network, and so are its rounds: both look at the
--- places below n alone, and there a test of range by the table is that of the network.
-use mathlib.Core.Path.{_≡_, ap, ap₂}
-use mathlib.Core.Bool.{Bool, cond, _&&_}
+-- What the table of distances and the sheet's roads give over space is what the sheet's network gives, a surround with its rounds and somewhere
+-- with its dual: all look at the places below n alone, and there a test of range by the table is that of the network.
+use mathlib.Core.Path.{_≡_, refl, ap, ap₂}
+use mathlib.Core.Bool.{Bool, true, false, cond, _&&_}
 use mathlib.Core.List.{List}
 use Prim.Native.Nat.{ℕ, _<_, _^_}
 use lib.ListN.{getD}
@@ -15,11 +15,15 @@ use Rattle.logic.specs.Counts.{roundsAt}
 use Rattle.logic.proofs.Keeps.{same-kept, least-kept, region-kept}
 use Rattle.logic.proofs.Rounds.{rounds-same}
 use Rattle.sheet.specs.declared.check.Layout.{Layout}
+use Rattle.sheet.specs.declared.operator.Bounds.{Bounds}
+use Rattle.sheet.specs.Decoding.{operatorSaid}
 use Rattle.values.specs.Chain.{chainLattice, chainMargin}
 use Rattle.values.specs.Signals.{inTable}
 use Rattle.surround.specs.Lanes.{joinedBy, surroundValue, surroundRounds}
+use Rattle.surround.specs.Ranges.{somewhereIn}
 use Rattle.verdicts.specs.Writing.{sheetNetwork, earlier, lineValue, lineRounds, Surveyed}
-use Rattle.verdicts.proofs.Points.{range-at}
+use Rattle.verdicts.proofs.Points.{range-at, somewhere-same}
+use Rattle.engine.proofs.LineReads.{ranged}
 
 -- ---- any tests that are the same below n
 
@@ -54,3 +58,15 @@ module _ (s : List ℕ) (L : Layout) (distances : List ℕ) (survey : Surveyed s
   rounds-by-table = rounds-same (joined (sheetNetwork s L)) (L .places) _ _ _ _
       (masked-tests marginLattice (range 0) (λ k. chainMargin (earlier L words starts i t k)))
       (masked-tests marginLattice (range lower) (λ k. chainMargin (earlier L words starts j t k)))
+
+module _ (s : List ℕ) (L : Layout) (distances : List ℕ) (survey : Surveyed s L distances) (words starts : List ℕ) where
+  pub range-by-table : (dual : Bool) (i : ℕ) (b : Bounds) (t l : ℕ) → b .upper < 2 ^ 28 → l < L .places
+      → somewhereIn dual distances (L .places) (earlier L words starts i) (b .lower) (b .upper) t l ≡ lineValue s L words starts (operatorSaid (ranged dual i b)) t l
+  unfolding lineValue value
+  range-by-table true i b t l = somewhere-same s L distances survey true (earlier L words starts i) (b .lower) (b .upper) t l
+  range-by-table false i b t l = somewhere-same s L distances survey false (earlier L words starts i) (b .lower) (b .upper) t l
+
+pub no-rounds : (s : List ℕ) (L : Layout) (words starts : List ℕ) (dual : Bool) (i : ℕ) (b : Bounds) (t l : ℕ) → 0 ≡ lineRounds s L words starts (operatorSaid (ranged dual i b)) t l
+unfolding lineRounds roundsAt
+no-rounds s L words starts true i b t l = refl
+no-rounds s L words starts false i b t l = refl
