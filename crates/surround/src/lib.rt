@@ -1,4 +1,5 @@
-// The surround: Definition 4.4's iteration for several samples side by side, from the words of an answer.
+// The operators over space for several samples side by side, from the words of an answer: the surround by Definition 4.4's iteration, here, and
+// somewhere and everywhere.
 ghost use mathlib.Core.Path.{_≡_};
 ghost use Prim.Native.Nat.{_*_, _≤_, _<_, max};
 ghost use lib.ListN.{length};

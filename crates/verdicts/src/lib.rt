@@ -1,4 +1,4 @@
-// The answer to a sheet: verdicts and margins as words, the result, and the engine that writes them.
+// A line of the answer: its verdicts and margins as words, sample by sample or, over space, in blocks of samples, and what they add to the result.
 pub mod around;
 mod evaluation;
 pub mod row;
