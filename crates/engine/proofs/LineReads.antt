@@ -1,5 +1,5 @@
 -- What a good line reads is there: for a line that goes sample by sample, its operands up to the last sample that it asks for; over space, all that
--- its writer wants.
+-- its writer wants. What that writer gives is the line's.
 use mathlib.Core.Path.{_≡_, refl, subst}
 use mathlib.Core.Bool.{Bool, true, false}
 use mathlib.Core.List.{List}
@@ -15,26 +15,25 @@ use Rattle.sheet.specs.declared.operator.Operator.{Operator}
 use Rattle.sheet.specs.declared.operator.Operator.the-variants.{True, AtLeast, AtMost, Not, And, Until, Somewhere, Surrounded, Or, Eventually, Always, Everywhere}
 use Rattle.sheet.specs.declared.line.Line.{Line}
 use Rattle.sheet.specs.Decoding.{operatorSaid, lineSaid}
-use Rattle.sheet.proofs.AcceptedLines.{GoodLine, Sound}
-use Rattle.verdicts.specs.Writing.{lineRounds, Written, Readable}
+use Rattle.sheet.proofs.AcceptedLines.{Sound}
+use Rattle.verdicts.specs.Writing.{lineValue, lineRounds, Written, Readable}
+use Rattle.verdicts.specs.declared.around.Around.{Around}
+use Rattle.verdicts.specs.declared.around.Around.the-variants.{Surround, Range}
+use Rattle.verdicts.specs.Around.{SurroundReads, AroundReads, AroundReady, aroundValue, aroundRounds}
 use Rattle.engine.specs.declared.line.Way.{Way}
-use Rattle.engine.specs.declared.line.Way.the-variants.{Rows, Surround, Range}
-use Rattle.verdicts.specs.declared.around.Around.the-variants as Asked
-use Rattle.verdicts.specs.Around.{AroundReady}
-use Rattle.engine.specs.Way.{wayOf}
+use Rattle.engine.specs.declared.line.Way.the-variants.{Rows, Blocks}
+use Rattle.engine.specs.Way.{Known, wayOf}
 use Rattle.engine.specs.Line.{LineReady}
-
--- somewhere, or its dual
-abbrev pub ranged : Bool → ℕ → Bounds → Operator
-ranged true = Everywhere
-ranged false = Somewhere
+use Rattle.engine.proofs.SpaceTable.{ranged, value-by-table, rounds-by-table, range-by-table, no-rounds}
 
 -- what is known of a line by the way in which it goes
-abbrev pub Reads : List ℕ → Layout → List ℕ → List ℕ → ℕ → Operator → Way → Type 0
-Reads s L words starts samples o Rows =
+abbrev pub Reads : List ℕ → Layout → List ℕ → List ℕ → List ℕ → ℕ → Operator → Way → Type 0
+Reads s L distances words starts samples o Rows =
     ((t : ℕ) → t < samples → Readable L words starts (operatorSaid o) t) × ((t l : ℕ) → lineRounds s L words starts (operatorSaid o) t l ≡ 0)
-Reads s L words starts samples o (Surround left right b) = o ≡ Surrounded left right b
-Reads s L words starts samples o (Range left b dual) = o ≡ ranged dual left b
+Reads s L distances words starts samples o (Blocks around) =
+    AroundReady words L s distances around samples
+    × ((t l : ℕ) → l < L .places → aroundValue words L s distances around t l ≡ lineValue s L words starts (operatorSaid o) t l)
+    × ((t l : ℕ) → l < L .places → aroundRounds words L s distances around t l ≡ lineRounds s L words starts (operatorSaid o) t l)
 
 module _ {s : List ℕ} {L : Layout} {distances words starts : List ℕ} (line : Line) (ready : LineReady s L distances words starts (lineSaid line)) where
   -- the first samples of an earlier line
@@ -46,8 +45,40 @@ module _ {s : List ℕ} {L : Layout} {distances words starts : List ℕ} (line :
       let all : t + 1 ≤ ready .lengths i = omega arith in
       record { line = omega (arith, ready .known); inside = samples-there h all }
 
+  -- ---- over space
+
+  around-ready : (around : Around) → AroundReads words L s around (line .length) → AroundReady words L s distances around (line .length)
+  around-ready around reads = record {
+    few-places = ready .surveyed .sheet .places;
+    few = omega (arith, ready .good .most, ready .surveyed .sheet .samples);
+    distances-there = ready .surveyed .room;
+    reads = reads;
+  }
+
+  range-reads : (dual : Bool) (i : ℕ) (b : Bounds) → i < ready .earlier → b .upper < 2 ^ 28 → line .length ≤ ready .lengths i
+      → Reads s L distances words starts (line .length) (ranged dual i b) (Blocks (Range (getD starts i 0) b dual))
+  range-reads dual i b h small enough =
+      (around-ready (Range (getD starts i 0) b dual) (samples-there h enough), λ t l. range-by-table s L distances (ready .surveyed) words starts dual i b t l small, λ t l _. no-rounds s L words starts dual i b t l)
+
+  surround-reads : (i j : ℕ) (b : Bounds) → i < ready .earlier → j < ready .earlier → b .upper < 2 ^ 28 → line .length ≤ ready .lengths i → line .length ≤ ready .lengths j
+      → Reads s L distances words starts (line .length) (Surrounded i j b) (Blocks (Surround (getD starts i 0) (getD starts j 0) b))
+  surround-reads i j b left right small enough enough′ =
+      let reads : SurroundReads words (getD starts i 0) (getD starts j 0) L s (line .length) = record {
+        left-there = samples-there left enough;
+        right-there = samples-there right enough′;
+        roads-in = ready .roads;
+        left-valid = λ t l h k. ready .valid i t l left (omega arith) k;
+        right-valid = λ t l h k. ready .valid j t l right (omega arith) k;
+      } in (
+        around-ready (Surround (getD starts i 0) (getD starts j 0) b) reads,
+        λ t l. value-by-table s L distances (ready .surveyed) words starts i j (b .lower) (b .upper) t l small,
+        λ t l. rounds-by-table s L distances (ready .surveyed) words starts i j (b .lower) (b .upper) t l small,
+      )
+
+  -- ---- every line
+
   reads-by : (o : Operator) → Sound (L .signals) (ready .earlier) (operatorSaid o) → line .length ≡ Table.lengthOf (L .samples) (ready .lengths) (operatorSaid o)
-      → Reads s L words starts (line .length) o (wayOf o)
+      → Reads s L distances words starts (line .length) o (wayOf starts o)
   unfolding lineRounds roundsAt
   reads-by True h e = (λ t b. tt, λ t l. refl)
   reads-by (AtLeast x c) h e = (λ t b. (h .0, omega arith, h .1), λ t l. refl)
@@ -55,65 +86,29 @@ module _ {s : List ℕ} {L : Layout} {distances words starts : List ℕ} (line :
   reads-by (Not i) h e = (λ t b. written-to h (omega arith), λ t l. refl)
   reads-by (And i j) h e = (λ t b. (written-to (h .0) (omega arith), written-to (h .1) (omega arith)), λ t l. refl)
   reads-by (Until i j k) h e = (λ t b. (h .2 .order, written-to (h .0) (omega arith), written-to (h .1) (omega arith)), λ t l. refl)
-  reads-by (Somewhere i k) h e = refl
-  reads-by (Surrounded i j k) h e = refl
+  reads-by (Somewhere i k) h e = range-reads false i k (h .0) (h .1 .small) (omega arith)
+  reads-by (Surrounded i j k) h e = surround-reads i j k (h .0) (h .1) (h .2 .small) (omega arith) (omega arith)
   reads-by (Or i j) h e = (λ t b. (written-to (h .0) (omega arith), written-to (h .1) (omega arith)), λ t l. refl)
   reads-by (Eventually i k) h e = (λ t b. (h .1 .order, written-to (h .0) (omega arith)), λ t l. refl)
   reads-by (Always i k) h e = (λ t b. (h .1 .order, written-to (h .0) (omega arith)), λ t l. refl)
-  reads-by (Everywhere i k) h e = refl
+  reads-by (Everywhere i k) h e = range-reads true i k (h .0) (h .1 .small) (omega arith)
 
-  pub line-reads : {way : Way} → wayOf (line .operator) ≡ way → Reads s L words starts (line .length) (line .operator) way
-  line-reads e = subst (Reads s L words starts (line .length) (line .operator)) e (reads-by (line .operator) (ready .good .sound) (ready .good .extent))
+  pub line-reads : {way : Way} → wayOf starts (line .operator) ≡ way → Reads s L distances words starts (line .length) (line .operator) way
+  line-reads e = subst (Reads s L distances words starts (line .length) (line .operator)) e (reads-by (line .operator) (ready .good .sound) (ready .good .extent))
 
-  -- ---- over space
+  known-by : (o : Operator) → Sound (L .signals) (ready .earlier) (operatorSaid o) → Known starts o
+  known-by True h = tt
+  known-by (AtLeast x c) h = tt
+  known-by (AtMost x c) h = tt
+  known-by (Not i) h = tt
+  known-by (And i j) h = tt
+  known-by (Until i j k) h = tt
+  known-by (Somewhere i k) h = omega (arith, ready .known, h .0)
+  known-by (Surrounded i j k) h = (omega (arith, ready .known, h .0), omega (arith, ready .known, h .1))
+  known-by (Or i j) h = tt
+  known-by (Eventually i k) h = tt
+  known-by (Always i k) h = tt
+  known-by (Everywhere i k) h = omega (arith, ready .known, h .0)
 
-  abbrev Good : Operator → Type 0
-  Good o = GoodLine (L .signals) (L .samples) (ready .lengths) (ready .earlier) (record { operator = operatorSaid o; length = line .length })
-
-  module _ {i j : ℕ} {b : Bounds} (said : line .operator ≡ Surrounded i j b) where
-    surround-good : Good (Surrounded i j b)
-    surround-good = subst Good said (ready .good)
-
-    pub operands-known : (i < length starts) × (j < length starts)
-    operands-known = let (left, right, _) = surround-good .sound in (omega (arith, ready .known), omega (arith, ready .known))
-
-    pub upper-small : b .upper < 2 ^ 28
-    upper-small = surround-good .sound .2 .small
-
-    pub surround-ready : AroundReady words L s distances (Asked.Surround (getD starts i 0) (getD starts j 0) b) (line .length)
-    surround-ready =
-        let (left, right, _) = surround-good .sound in
-        let extent = surround-good .extent in
-        record {
-          few-places = ready .surveyed .sheet .places;
-          few = omega (arith, ready .good .most, ready .surveyed .sheet .samples);
-          distances-there = ready .surveyed .room;
-          reads = record {
-            left-there = samples-there left (omega arith);
-            right-there = samples-there right (omega arith);
-            roads-in = ready .roads;
-            left-valid = λ t l h k. ready .valid i t l left (omega arith) k;
-            right-valid = λ t l h k. ready .valid j t l right (omega arith) k;
-          };
-        }
-
-  -- what a range asks of its line, whether or not it is the dual
-  pub record RangeGood (i : ℕ) (b : Bounds) : Type 0 where
-    pub known : i < length starts
-    pub small : b .upper < 2 ^ 28
-    pub there : getD starts i 0 + line .length * L .places ≤ length words
-
-  range-by : (dual : Bool) (i : ℕ) (b : Bounds) → Good (ranged dual i b) → RangeGood i b
-  range-by true i b good = let extent = good .extent in record { known = omega (arith, ready .known, good .sound .0); small = good .sound .1 .small; there = samples-there (good .sound .0) (omega arith) }
-  range-by false i b good = let extent = good .extent in record { known = omega (arith, ready .known, good .sound .0); small = good .sound .1 .small; there = samples-there (good .sound .0) (omega arith) }
-
-  pub range-good : (dual : Bool) (i : ℕ) (b : Bounds) → line .operator ≡ ranged dual i b → RangeGood i b
-  range-good dual i b said = range-by dual i b (subst Good said (ready .good))
-
-  pub range-ready : (dual : Bool) (i : ℕ) (b : Bounds) → line .operator ≡ ranged dual i b → AroundReady words L s distances (Asked.Range (getD starts i 0) b dual) (line .length)
-  range-ready dual i b said = record {
-    few-places = ready .surveyed .sheet .places;
-    few = omega (arith, ready .good .most, ready .surveyed .sheet .samples);
-    distances-there = ready .surveyed .room;
-    reads = range-good dual i b said .there;
-  }
+  pub operands-known : Known starts (line .operator)
+  operands-known = known-by (line .operator) (ready .good .sound)

@@ -1,35 +1,27 @@
 -- A line behind its first word: what its verdicts are made from stands before them, and verdicts and rounds that are the line's at each point
 -- make it, whether they are found sample by sample or in blocks.
-use mathlib.Core.Path.{_≡_, sym, ap, _∙_}
-use mathlib.Core.Bool.{Bool}
+use mathlib.Core.Path.{_≡_, sym, ap, subst, _∙_}
 use mathlib.Core.List.{List, [], _∷_}
-use Prim.Native.Nat.{ℕ, _+_, _<_, _^_}
+use Prim.Native.Nat.{ℕ, _+_, _<_}
 use native.Mathlib.Omega.{arith}
-use lib.ListN.{length, getD, take, drop, set, length-set}
+use lib.ListN.{length, take, drop, set, length-set}
 use lib.Seq.{take-at}
 use Rattle.words.specs.Rows.{rows, put}
 use Rattle.words.proofs.Puts.{length-front, put-append, put-one}
 use Rattle.words.proofs.Rows.{rows-ext}
 use Rattle.logic.specs.Counts.{count, sumBelow}
 use Rattle.sheet.specs.declared.check.Layout.{Layout}
-use Rattle.sheet.specs.declared.operator.Bounds.{Bounds}
-use Rattle.sheet.specs.declared.operator.Operator.the-variants.{Surrounded}
 use Rattle.sheet.specs.declared.line.Line.{Line}
 use Rattle.sheet.specs.Decoding.{operatorSaid, lineSaid}
 use Rattle.values.specs.Chain.{chainWord, chainVerdict}
-use Rattle.values.specs.Signals.{signalIn}
-use Rattle.surround.specs.Lanes.{surroundValue, surroundRounds}
-use Rattle.surround.specs.Ranges.{somewhereIn}
 use Rattle.surround.proofs.Greatest.{most-same}
 use Rattle.verdicts.proofs.LineRows.{sum-same}
-use Rattle.verdicts.specs.Writing.{lineValue, lineRounds, Surveyed}
+use Rattle.verdicts.specs.Writing.{lineValue, lineRounds}
 use Rattle.verdicts.specs.declared.tally.Tally.{Tally}
-use Rattle.verdicts.specs.declared.around.Around.the-variants as Asked
-use Rattle.verdicts.specs.Around.{SamplesWritten, AroundWritten}
+use Rattle.verdicts.specs.declared.around.Around.{Around}
+use Rattle.verdicts.specs.Around.{aroundValue, aroundRounds, SamplesWritten, AroundWritten}
 use Rattle.verdicts.proofs.Blocks.{most-none}
 use Rattle.engine.specs.Line.{firstWord, wordsUpTo, valueHere, roundsHere, LineWritten}
-use Rattle.engine.proofs.LineReads.{ranged}
-use Rattle.engine.proofs.SpaceTable.{value-by-table, rounds-by-table, range-by-table, no-rounds}
 
 module _ (answer : List ℕ) (to : ℕ) (line : Line) {first : List ℕ} (room : to < length answer) (put-first : first ≡ set answer to (firstWord (lineSaid line))) where
   -- ---- the first word
@@ -74,27 +66,11 @@ module _ (answer : List ℕ) (to : ℕ) (line : Line) {first : List ℕ} (room :
         (λ t l _. ap (λ w. lineValue s L w starts (operatorSaid (line .operator)) t l) before-verdicts)
         (λ t l _. sym (none t l)) (record { written = written; counted = counted; greatest = most-none (line .length) (L .places) })
 
-    module _ {distances : List ℕ} (survey : Surveyed s L distances) where
-      pub surround-written : {i j : ℕ} {b : Bounds} → line .operator ≡ Surrounded i j b → b .upper < 2 ^ 28 → {after : List ℕ} {tally : Tally}
-          → AroundWritten (take (to + 1) first) L s distances (Asked.Surround (getD starts i 0) (getD starts j 0) b) first (to + 1) (line .length) after tally
-          → LineWritten s L answer starts to (lineSaid line) after tally
-      unfolding valueHere roundsHere
-      surround-written {i} {j} {b} said small done = line-written _ _
-          (λ t l h. ap (λ w. surroundValue w (getD starts i 0) (getD starts j 0) (L .places) s (L .roads) distances (b .lower) (b .upper) t l) before-verdicts
-          ∙ value-by-table s L distances survey _ starts i j (b .lower) (b .upper) t l small h
-          ∙ ap (λ o. lineValue s L (wordsUpTo answer to (lineSaid line)) starts (operatorSaid o) t l) (sym said))
-          (λ t l h. ap (λ w. surroundRounds w (getD starts i 0) (getD starts j 0) (L .places) s (L .roads) distances (b .lower) (b .upper) t l) before-verdicts
-          ∙ rounds-by-table s L distances survey _ starts i j (b .lower) (b .upper) t l small h
-          ∙ ap (λ o. lineRounds s L (wordsUpTo answer to (lineSaid line)) starts (operatorSaid o) t l) (sym said))
-          done
-
-      pub range-written : (dual : Bool) (i : ℕ) (b : Bounds) → line .operator ≡ ranged dual i b → b .upper < 2 ^ 28 → {after : List ℕ} {tally : Tally}
-          → AroundWritten (take (to + 1) first) L s distances (Asked.Range (getD starts i 0) b dual) first (to + 1) (line .length) after tally
-          → LineWritten s L answer starts to (lineSaid line) after tally
-      unfolding valueHere roundsHere
-      range-written dual i b said small done = line-written _ _
-          (λ t l h. ap (λ w. somewhereIn dual distances (L .places) (signalIn w (getD starts i 0) (L .places)) (b .lower) (b .upper) t l) before-verdicts
-          ∙ range-by-table s L distances survey _ starts dual i b t l small h
-          ∙ ap (λ o. lineValue s L (wordsUpTo answer to (lineSaid line)) starts (operatorSaid o) t l) (sym said))
-          (λ t l h. no-rounds s L _ starts dual i b t l ∙ ap (λ o. lineRounds s L (wordsUpTo answer to (lineSaid line)) starts (operatorSaid o) t l) (sym said))
-          done
+    pub blocks-written : (distances : List ℕ) (around : Around)
+        → ((t l : ℕ) → l < L .places → aroundValue (wordsUpTo answer to (lineSaid line)) L s distances around t l ≡ lineValue s L (wordsUpTo answer to (lineSaid line)) starts (operatorSaid (line .operator)) t l)
+        → ((t l : ℕ) → l < L .places → aroundRounds (wordsUpTo answer to (lineSaid line)) L s distances around t l ≡ lineRounds s L (wordsUpTo answer to (lineSaid line)) starts (operatorSaid (line .operator)) t l)
+        → {after : List ℕ} {tally : Tally} → AroundWritten (take (to + 1) first) L s distances around first (to + 1) (line .length) after tally
+        → LineWritten s L answer starts to (lineSaid line) after tally
+    unfolding valueHere roundsHere
+    blocks-written distances around same same-rounds {after} {tally} done = line-written _ _ same same-rounds
+        (subst (λ w. AroundWritten w L s distances around first (to + 1) (line .length) after tally) before-verdicts done)

@@ -16,6 +16,8 @@ use Rattle.logic.proofs.Keeps.{same-kept, least-kept, region-kept}
 use Rattle.logic.proofs.Rounds.{rounds-same}
 use Rattle.sheet.specs.declared.check.Layout.{Layout}
 use Rattle.sheet.specs.declared.operator.Bounds.{Bounds}
+use Rattle.sheet.specs.declared.operator.Operator.{Operator}
+use Rattle.sheet.specs.declared.operator.Operator.the-variants.{Somewhere, Everywhere}
 use Rattle.sheet.specs.Decoding.{operatorSaid}
 use Rattle.values.specs.Chain.{chainLattice, chainMargin}
 use Rattle.values.specs.Signals.{inTable}
@@ -23,7 +25,6 @@ use Rattle.surround.specs.Lanes.{joinedBy, surroundValue, surroundRounds}
 use Rattle.surround.specs.Ranges.{somewhereIn}
 use Rattle.verdicts.specs.Writing.{sheetNetwork, earlier, lineValue, lineRounds, Surveyed}
 use Rattle.verdicts.proofs.Points.{range-at, somewhere-same}
-use Rattle.engine.proofs.LineReads.{ranged}
 
 -- ---- any tests that are the same below n
 
@@ -58,6 +59,11 @@ module _ (s : List ℕ) (L : Layout) (distances : List ℕ) (survey : Surveyed s
   rounds-by-table = rounds-same (joined (sheetNetwork s L)) (L .places) _ _ _ _
       (masked-tests marginLattice (range 0) (λ k. chainMargin (earlier L words starts i t k)))
       (masked-tests marginLattice (range lower) (λ k. chainMargin (earlier L words starts j t k)))
+
+-- somewhere, or its dual
+abbrev pub ranged : Bool → ℕ → Bounds → Operator
+ranged true = Everywhere
+ranged false = Somewhere
 
 module _ (s : List ℕ) (L : Layout) (distances : List ℕ) (survey : Surveyed s L distances) (words starts : List ℕ) where
   pub range-by-table : (dual : Bool) (i : ℕ) (b : Bounds) (t l : ℕ) → b .upper < 2 ^ 28 → l < L .places

@@ -1,7 +1,6 @@
 // One line of the answer: its first word, and its verdicts, sample by sample or, over space, in blocks of samples.
 use sheet::check::Layout;
 use sheet::line::Line;
-use sheet::operator::Bounds;
 use sheet::operator::Operator;
 use verdicts::around::Around;
 use verdicts::around::write_around;
@@ -12,63 +11,58 @@ ghost use Prim.Native.Nat.{_+_, _*_, _≤_};
 ghost use lib.ListN.{length};
 ghost use Rattle.words.specs.Bytes.{wordsOf, numbersOf};
 ghost use Rattle.sheet.specs.Decoding.{lineSaid};
-ghost use Rattle.engine.specs.Way.{wayOf};
+ghost use Rattle.engine.specs.Way.{Known, wayOf};
 ghost use Rattle.engine.specs.Line.{LineReady, LineWritten, wordsUpTo};
 
 // Kind 14, in bits 31..28.
 const LINE: u32 = 3758096384;
 
-// How the verdicts of a line are found.
+// How the verdicts of a line are found: sample by sample, or in blocks of samples.
 enum Way {
     Rows,
-    Surround {
-        left: usize,
-        right: usize,
-        bounds: Bounds,
-    },
-    Range {
-        left: usize,
-        bounds: Bounds,
-        dual: bool,
-    },
+    Blocks(Around),
 }
 
-fn way_of(operator: Operator) -> Way
-    ensures { λ r. ⌜ r ≡ wayOf operator ⌝ }
+// `starts` tells at which index the signal of each earlier line begins.
+fn way_of(operator: Operator, starts: &[usize]) -> Way
+    requires { ⌜ Known (now starts) operator ⌝ }
+    ensures { λ r. ⌜ r ≡ wayOf (now (starts .entry)) operator ⌝ }
 {
     match operator {
-        Operator::True => Way::Rows,
-        Operator::AtLeast { .. } => Way::Rows,
-        Operator::AtMost { .. } => Way::Rows,
-        Operator::Not { .. } => Way::Rows,
-        Operator::And { .. } => Way::Rows,
-        Operator::Until { .. } => Way::Rows,
-        Operator::Somewhere { left, bounds } => Way::Range {
-            left,
-            bounds,
-            dual: false,
-        },
+        Operator::Somewhere { left, bounds } => {
+            let only = starts[left];
+            Way::Blocks(Around::Range {
+                left: only,
+                bounds,
+                dual: false,
+            })
+        }
         Operator::Surrounded {
             left,
             right,
             bounds,
-        } => Way::Surround {
-            left,
-            right,
-            bounds,
-        },
-        Operator::Or { .. } => Way::Rows,
-        Operator::Eventually { .. } => Way::Rows,
-        Operator::Always { .. } => Way::Rows,
-        Operator::Everywhere { left, bounds } => Way::Range {
-            left,
-            bounds,
-            dual: true,
-        },
+        } => {
+            let first = starts[left];
+            let second = starts[right];
+            Way::Blocks(Around::Surround {
+                left: first,
+                right: second,
+                bounds,
+            })
+        }
+        Operator::Everywhere { left, bounds } => {
+            let only = starts[left];
+            Way::Blocks(Around::Range {
+                left: only,
+                bounds,
+                dual: true,
+            })
+        }
+        _ => Way::Rows,
     }
 }
 
-// Writes a line from index `to` on. `starts` tells at which index the signal of each earlier line begins.
+// Writes a line from index `to` on, after the earlier lines, whose signals begin where `starts` tells.
 pub(crate) fn write_line(
     line: Line,
     sheet: &[u8],
@@ -85,28 +79,8 @@ pub(crate) fn write_line(
     words::put_word(answer, to, LINE + line.length);
     let begin = to + 1;
     let samples = line.length as usize;
-    match way_of(operator) {
-        Way::Surround {
-            left,
-            right,
-            bounds,
-        } => {
-            let first = starts[left];
-            let second = starts[right];
-            let around = Around::Surround {
-                left: first,
-                right: second,
-                bounds,
-            };
-            write_around(around, sheet, layout, distances, answer, begin, samples)
-        }
-        Way::Range { left, bounds, dual } => {
-            let only = starts[left];
-            let around = Around::Range {
-                left: only,
-                bounds,
-                dual,
-            };
+    match way_of(operator, starts) {
+        Way::Blocks(around) => {
             write_around(around, sheet, layout, distances, answer, begin, samples)
         }
         Way::Rows => {

@@ -7,19 +7,17 @@ use lib.ListN.{length, take, set}
 use borrow.Author.Needs.{needs}
 use Rattle.words.specs.Bytes.{wordsOf, numbersOf}
 use Rattle.words.proofs.Words.{words-count}
-use Rattle.sheet.specs.declared.operator.Operator.the-variants.{Surrounded}
 use Rattle.sheet.specs.Decoding.{operatorSaid, lineSaid}
 use Rattle.verdicts.specs.Writing.{Readable}
-use Rattle.engine.specs.declared.line.Way.{Way}
-use Rattle.verdicts.specs.declared.around.Around.{Around}
 use Rattle.verdicts.specs.Around.{AroundReady}
+use Rattle.engine.specs.declared.line.Way.{Way}
 use Rattle.engine.specs.Line.{firstWord, wordsUpTo}
-use Rattle.engine.proofs.LineReads.{Reads, ranged, line-reads, operands-known, upper-small, surround-ready, RangeGood, range-good, range-ready}
-use Rattle.engine.proofs.LineWords.{length-kept, before-verdicts, rows-written, surround-written, range-written}
+use Rattle.engine.proofs.LineReads.{Reads, line-reads, operands-known}
+use Rattle.engine.proofs.LineWords.{length-kept, before-verdicts, rows-written, blocks-written}
 use Rattle.engine.proofs.line.write_line.Statement.{statement}
 use Rattle.engine.proofs.line.write_line.Tie as tie
 
--- where all arms have come from
+-- where both arms have come from
 module _ (c : tie.After-way-of) where
   abbrev start : tie.Start
   start = c .before .before .before .before .before .before .before .before .before .before .before
@@ -44,38 +42,10 @@ module _ (c : tie.After-way-of) where
   before-line = before-verdicts answer (start .args .to) (start .args .line) room put-first
 
   -- what the line reads, by its way
-  reads : {way : Way} → c .way-of .result ≡ way → Reads (wordsOf (start .args .sheet .now)) (start .args .layout)
+  reads : {way : Way} → c .way-of .result ≡ way
+      → Reads (wordsOf (start .args .sheet .now)) (start .args .layout) (numbersOf (wordsOf (start .args .distances .now)))
       (wordsUpTo answer (start .args .to) (lineSaid (start .args .line))) (start .args .starts .now) (start .args .line .length) (start .args .line .operator) way
   reads e = line-reads (start .args .line) (start .pre .0) (sym (c .way-of .ensures) ∙ e)
-
-  -- what is asked for about the centres
-  abbrev Ready : List ℕ → Around → Type 0
-  Ready words around = AroundReady words (start .args .layout) (wordsOf (start .args .sheet .now)) (numbersOf (wordsOf (start .args .distances .now))) around (start .args .line .length)
-
-  asked : {around : Around} → Ready (wordsUpTo answer (start .args .to) (lineSaid (start .args .line))) around → Ready (take (start .args .to + 1) first) around
-  asked ready = rw before-line ready
-
--- the arm of a surround
-module _ (c : tie.After-left) where
-  abbrev way : tie.After-way-of
-  way = c .before .before
-
-  surrounded : start way .args .line .operator ≡ Surrounded (c .left .given .0 .0) (c .left .given .0 .1 .0) (c .left .given .0 .1 .1 .0)
-  surrounded = reads way (c .left .given .1)
-
-  known : (c .left .given .0 .0 < length (start way .args .starts .now)) × (c .left .given .0 .1 .0 < length (start way .args .starts .now))
-  known = operands-known (start way .args .line) (start way .pre .0) surrounded
-
--- the arm of a range
-module _ (c : tie.After-left2) where
-  abbrev way-range : tie.After-way-of
-  way-range = c .before .before
-
-  in-range : start way-range .args .line .operator ≡ ranged (c .left2 .given .0 .1 .1 .0) (c .left2 .given .0 .0) (c .left2 .given .0 .1 .0)
-  in-range = reads way-range (c .left2 .given .1)
-
-  good : RangeGood (start way-range .args .line) (start way-range .pre .0) (c .left2 .given .0 .0) (c .left2 .given .0 .1 .0)
-  good = range-good (start way-range .args .line) (start way-range .pre .0) (c .left2 .given .0 .1 .1 .0) (c .left2 .given .0 .0) (c .left2 .given .0 .1 .0) in-range
 
 add-put-word : tie.Need-add-put-word
 add-put-word c = search needs
@@ -90,41 +60,18 @@ cast-samples : tie.Need-cast-samples
 cast-samples c = search needs
 
 way-of-requires : tie.Need-way-of-requires
-way-of-requires c κs = search needs
+way-of-requires c κs = let begin = c .before .before .before .before .before .before .before .before .before .before in operands-known (begin .args .line) (begin .pre .0)
 
-enum-known-left : tie.Need-enum-known-left
-enum-known-left c = search needs
-
-mul-first : tie.Need-mul-first
-mul-first c = omega (arith, known (c .before))
-
-shared-slice-read-first : tie.Need-shared-slice-read-first
-shared-slice-read-first c = omega (arith, known (c .before .before))
-
-mul-second : tie.Need-mul-second
-mul-second c = omega (arith, known (c .before .before))
-
-shared-slice-read-second : tie.Need-shared-slice-read-second
-shared-slice-read-second c = omega (arith, known (c .before .before .before))
+enum-known-around : tie.Need-enum-known-around
+enum-known-around c = search needs
 
 write-around-requires : tie.Need-write-around-requires
 write-around-requires c κs =
-    let arm = c .before .before .before .before in
-    (asked (way arm) (surround-ready (start (way arm) .args .line) (start (way arm) .pre .0) (surrounded arm)), verdicts-room (way arm))
-
-enum-known-left-2 : tie.Need-enum-known-left-2
-enum-known-left-2 c = search needs
-
-mul-only : tie.Need-mul-only
-mul-only c = omega (arith, good (c .before) .known)
-
-shared-slice-read-only : tie.Need-shared-slice-read-only
-shared-slice-read-only c = good (c .before .before) .known
-
-write-around-requires-2 : tie.Need-write-around-requires-2
-write-around-requires-2 c κs =
-    let arm = c .before .before .before in
-    (asked (way-range arm) (range-ready (start (way-range arm) .args .line) (start (way-range arm) .pre .0) _ _ _ (in-range arm)), verdicts-room (way-range arm))
+    let way = c .before .before .before .before in
+    let a = start way .args in
+    let ready : AroundReady (take (a .to + 1) (first way)) (a .layout) (wordsOf (a .sheet .now)) (numbersOf (wordsOf (a .distances .now))) (c .before .before .around .given .0 .0) (a .line .length) =
+    rw (before-line way) (reads way (c .before .before .around .given .1) .0) in
+    (ready, verdicts-room way)
 
 enum-told : tie.Need-enum-told
 enum-told c = search needs
@@ -143,27 +90,16 @@ same-length c = search needs
 
 returns : tie.Need-returns
 returns c =
-    let arm = c .before .before .before .before .before .before .before in
-    let begin = start (way arm) in
-    surround-written (answer (way arm)) (begin .args .to) (begin .args .line) (room (way arm)) (put-first (way arm)) (begin .pre .0 .surveyed) (surrounded arm)
-    (upper-small (begin .args .line) (begin .pre .0) (surrounded arm)) (c .before .before .write-around .ensures)
+    let arm = c .before .before .before .before .before in
+    let way = arm .before .before in
+    let (_, same, same-rounds) = reads way (arm .around .given .1) in
+    blocks-written (answer way) (start way .args .to) (start way .args .line) (room way) (put-first way) _ (arm .around .given .0 .0) same same-rounds (c .before .before .write-around .ensures)
 
 same-length-2 : tie.Need-same-length-2
 same-length-2 c = search needs
 
 returns-2 : tie.Need-returns-2
 returns-2 c =
-    let arm = c .before .before .before .before .before .before in
-    let begin = start (way-range arm) in
-    let which = arm .left2 .given .0 in
-    range-written (answer (way-range arm)) (begin .args .to) (begin .args .line) (room (way-range arm)) (put-first (way-range arm)) (begin .pre .0 .surveyed) (which .1 .1 .0) (which .0) (which .1 .0) (in-range arm)
-    (good arm .small) (c .before .before .write-around2 .ensures)
-
-same-length-3 : tie.Need-same-length-3
-same-length-3 c = search needs
-
-returns-3 : tie.Need-returns-3
-returns-3 c =
     let arm = c .before .before .before .before in
     let way = arm .before .before in
     let (written, counted) = c .before .before .write-rows .ensures in
@@ -178,21 +114,11 @@ write-line-spec =
     add-begin
     cast-samples
     way-of-requires
-    enum-known-left
-    mul-first
-    shared-slice-read-first
-    mul-second
-    shared-slice-read-second
+    enum-known-around
     write-around-requires
-    enum-known-left-2
-    mul-only
-    shared-slice-read-only
-    write-around-requires-2
     enum-told
     write-rows-requires
     same-length
     returns
     same-length-2
-    returns-2
-    same-length-3
-    returns-3)
+    returns-2)
