@@ -13,14 +13,14 @@ use Rattle.values.specs.Signals.{signalIn, inTable}
 use Rattle.values.proofs.ChainWords.{word-bound}
 use Rattle.values.proofs.Naturals.{meet-min, join-max}
 use Rattle.surround.specs.Lanes.{lanes, laneOf}
-use Rattle.surround.specs.Strips.{Written}
+use Rattle.surround.specs.Strips.{ofTwo, Written}
 use Rattle.surround.specs.Blocks.{RowOf, laneSignal}
-use Rattle.surround.specs.Ranges.{somewhereIn, nothing, both, gathered, RangeReady, RangeDone}
+use Rattle.surround.specs.Ranges.{somewhereIn, ofNone, gathered, RangeReady, RangeDone}
 use Rattle.surround.proofs.StripLaws.{written-over}
 use Rattle.surround.proofs.BlockLaws.{lane-signal}
 
 -- ---- the least or the greatest, one number more
-pub gathered-none : (least : Bool) (test : ℕ → Bool) (f : ℕ → ℕ) → nothing least ≡ gathered least test f 0
+pub gathered-none : (least : Bool) (test : ℕ → Bool) (f : ℕ → ℕ) → ofNone least ≡ gathered least test f 0
 unfolding leastOver greatestOver
 gathered-none true test f = refl
 gathered-none false test f = refl
@@ -30,7 +30,7 @@ unfolding leastOver
 least-small test f zero = omega arith
 least-small test f (suc n) = rw meet-min (omega (arith, least-small test f n))
 
-pub gathered-more : (least : Bool) (test : ℕ → Bool) (f : ℕ → ℕ) (k : ℕ) → test k ≡ true → both least (gathered least test f k) (f k) ≡ gathered least test f (k + 1)
+pub gathered-more : (least : Bool) (test : ℕ → Bool) (f : ℕ → ℕ) (k : ℕ) → test k ≡ true → ofTwo least (gathered least test f k) (f k) ≡ gathered least test f (k + 1)
 unfolding leastOver greatestOver
 gathered-more true test f k e = rw (add-one k, e) refl
 gathered-more false test f k e = rw (add-one k, e) refl
@@ -43,12 +43,12 @@ gathered-past false test f k e = rw (add-one k, e, join-max) (omega arith)
 -- a strip has taken in one place more
 pub gathering-more : (least : Bool) (test : ℕ → Bool) (row : List ℕ) (centre k : ℕ) {s t u : List ℕ} → test k ≡ true
     → Written centre lanes (λ lane. gathered least test (laneOf row lane) k) s t
-    → Written centre lanes (λ lane. both least (laneOf t lane centre) (laneOf row lane k)) t u
+    → Written centre lanes (λ lane. ofTwo least (laneOf t lane centre) (laneOf row lane k)) t u
     → Written centre lanes (λ lane. gathered least test (laneOf row lane) (k + 1)) s u
 gathering-more least test row centre k e v w =
     let over = written-over v w in
     record {
-      written = λ lane l. over .written lane l ∙ ap (λ (c : ℕ). both least c (laneOf row lane k)) (v .written lane l) ∙ gathered-more least test (laneOf row lane) k e;
+      written = λ lane l. over .written lane l ∙ ap (λ (c : ℕ). ofTwo least c (laneOf row lane k)) (v .written lane l) ∙ gathered-more least test (laneOf row lane) k e;
       kept = over .kept;
     }
 

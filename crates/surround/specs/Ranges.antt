@@ -17,13 +17,9 @@ abbrev pub somewhereIn : Bool → List ℕ → ℕ → Signal chains → ℕ →
 somewhereIn dual distances n left lower upper = turned dual (λ t l. greatestOver chainLattice (inTable distances n l lower upper) (turned dual left t) n)
 
 -- ---- the least of several numbers, or the greatest
-abbrev pub nothing : Bool → ℕ
-nothing true = highest
-nothing false = 0
-
-abbrev pub both : Bool → ℕ → ℕ → ℕ
-both true a b = chainLattice .meet a b
-both false a b = chainLattice .join a b
+abbrev pub ofNone : Bool → ℕ
+ofNone true = highest
+ofNone false = 0
 
 abbrev pub gathered : Bool → (ℕ → Bool) → (ℕ → ℕ) → ℕ → ℕ
 gathered true test f n = leastOver chainLattice test f n

@@ -3,7 +3,13 @@ use mathlib.Core.Path.{_≡_}
 use mathlib.Core.Bool.{Bool, true, false}
 use mathlib.Core.List.{List}
 use Prim.Native.Nat.{ℕ, _<_, _≤_}
+use Rattle.values.specs.Chain.{chainLattice}
 use Rattle.surround.specs.Lanes.{lanes, laneOf}
+
+-- the lesser of two numbers, or the greater
+abbrev pub ofTwo : Bool → ℕ → ℕ → ℕ
+ofTwo true a b = chainLattice .meet a b
+ofTwo false a b = chainLattice .join a b
 
 -- the first k lanes of a place are written, and nothing else is
 pub record Written (place k : ℕ) (f : ℕ → ℕ) (before after : List ℕ) : Type 0 where

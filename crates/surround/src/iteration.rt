@@ -33,8 +33,8 @@ fn pull_road(x: &mut [u32], both: &[u32], inside: &[bool], first: usize, second:
     ensures { λ _. ⌜ RoadPulled first second (now (both .entry)) (now (x .entry)) (now (x .exit)) ⌝ }
 {
     if inside[first] | inside[second] {
-        pull_strip(x, both, first, second);
-        pull_strip(x, both, second, first);
+        pull_strip(x, both, first, second, true);
+        pull_strip(x, both, second, first, true);
     }
 }
 

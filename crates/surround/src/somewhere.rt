@@ -4,7 +4,6 @@ use crate::rows::in_range;
 use crate::rows::load;
 use crate::strips::fill_strip;
 use crate::strips::pull_strip;
-use crate::strips::raise_strip;
 ghost use mathlib.Core.Path.{_≡_};
 ghost use Prim.Native.Nat.{_+_, _*_, _≤_, _<_};
 ghost use lib.ListN.{length};
@@ -13,28 +12,16 @@ ghost use Rattle.values.specs.Signals.{inTable};
 ghost use Rattle.surround.specs.Lanes.{lanes, laneOf};
 ghost use Rattle.surround.specs.Strips.{Written};
 ghost use Rattle.surround.specs.Blocks.{RowOf};
-ghost use Rattle.surround.specs.Ranges.{nothing, both, gathered, RangeReady, RangeDone};
+ghost use Rattle.surround.specs.Ranges.{ofNone, gathered, RangeReady, RangeDone};
 
 // The least of nothing, or the greatest.
-fn of_nothing(least: bool) -> u32
-    ensures { λ r. ⌜ r ≡ nothing least ⌝ }
+fn of_none(least: bool) -> u32
+    ensures { λ r. ⌜ r ≡ ofNone least ⌝ }
 {
     if least {
         values::top()
     } else {
         values::bottom()
-    }
-}
-
-// One place more.
-fn gather_strip(row: &[u32], out: &mut [u32], centre: usize, place: usize, least: bool)
-    requires { ⌜ (centre * lanes + lanes ≤ length (now out)) × (place * lanes + lanes ≤ length (now row)) ⌝ }
-    ensures { λ _. ⌜ Written centre lanes (λ lane. both least (laneOf (now (out .entry)) lane centre) (laneOf (now (row .entry)) lane place)) (now (out .entry)) (now (out .exit)) ⌝ }
-{
-    if least {
-        pull_strip(out, row, centre, place);
-    } else {
-        raise_strip(out, row, centre, place);
     }
 }
 
@@ -52,10 +39,10 @@ fn gather(
     requires { ⌜ (centre < places) × (places * places ≤ length (numbersOf (wordsOf (now distances)))) × (places * lanes ≤ length (now row)) × (places * lanes ≤ length (now out)) ⌝ }
     ensures { λ _. ⌜ Written centre lanes (λ lane. gathered least (inTable (numbersOf (wordsOf (now (distances .entry)))) places centre lower upper) (laneOf (now (row .entry)) lane) places) (now (out .entry)) (now (out .exit)) ⌝ }
 {
-    fill_strip(out, centre, of_nothing(least));
+    fill_strip(out, centre, of_none(least));
     for place in 0..places {
         if in_range(distances, centre * places + place, lower, upper) {
-            gather_strip(row, out, centre, place, least);
+            pull_strip(out, row, centre, place, least);
         }
     }
 }

@@ -1,9 +1,10 @@
 // Loops over the lanes of one place. Their count is a constant, so that the compiler unrolls them.
+ghost use mathlib.Core.Path.{_≡_};
 ghost use Prim.Native.Nat.{_+_, _*_, _/_, _≤_};
 ghost use lib.ListN.{length};
 ghost use Rattle.values.specs.Chain.{chainLattice};
 ghost use Rattle.surround.specs.Lanes.{lanes, laneOf};
-ghost use Rattle.surround.specs.Strips.{Written, StripsApart};
+ghost use Rattle.surround.specs.Strips.{ofTwo, Written, StripsApart};
 use crate::LANES;
 use values::greater;
 use values::lesser;
@@ -37,25 +38,20 @@ pub(crate) fn greater_strip(x: &[u32], right: &[u32], both: &mut [u32], place: u
     }
 }
 
-// What stands at another place comes to this one, if it is less.
-pub(crate) fn pull_strip(x: &mut [u32], both: &[u32], place: usize, other: usize)
-    requires { ⌜ (place * lanes + lanes ≤ length (now x)) × (other * lanes + lanes ≤ length (now both)) ⌝ }
-    ensures { λ _. ⌜ Written place lanes (λ lane. chainLattice .meet (laneOf (now (x .entry)) lane place) (laneOf (now (both .entry)) lane other)) (now (x .entry)) (now (x .exit)) ⌝ }
+fn of_two(a: u32, b: u32, least: bool) -> u32
+    ensures { λ r. ⌜ r ≡ ofTwo least a b ⌝ }
 {
-    for lane in 0..LANES {
-        let at = place * LANES + lane;
-        x[at] = lesser(x[at], both[other * LANES + lane]);
-    }
+    if least { lesser(a, b) } else { greater(a, b) }
 }
 
-// What stands at another place comes to this one, if it is greater.
-pub(crate) fn raise_strip(x: &mut [u32], from: &[u32], place: usize, other: usize)
+// What stands at another place comes to this one: the lesser of both stays here, or the greater.
+pub(crate) fn pull_strip(x: &mut [u32], from: &[u32], place: usize, other: usize, least: bool)
     requires { ⌜ (place * lanes + lanes ≤ length (now x)) × (other * lanes + lanes ≤ length (now from)) ⌝ }
-    ensures { λ _. ⌜ Written place lanes (λ lane. chainLattice .join (laneOf (now (x .entry)) lane place) (laneOf (now (from .entry)) lane other)) (now (x .entry)) (now (x .exit)) ⌝ }
+    ensures { λ _. ⌜ Written place lanes (λ lane. ofTwo least (laneOf (now (x .entry)) lane place) (laneOf (now (from .entry)) lane other)) (now (x .entry)) (now (x .exit)) ⌝ }
 {
     for lane in 0..LANES {
         let at = place * LANES + lane;
-        x[at] = greater(x[at], from[other * LANES + lane]);
+        x[at] = of_two(x[at], from[other * LANES + lane], least);
     }
 }
 

@@ -24,8 +24,8 @@ Inv-loop row out₀ distances centre places lower upper least place₀ out place
 abbrev μ-loop : tie.MeasureT-loop
 μ-loop row out₀ distances centre places lower upper least place₀ out place = places - place
 
-of-nothing-requires : tie.Need-of-nothing-requires Inv-loop μ-loop
-of-nothing-requires c κs = search needs
+of-none-requires : tie.Need-of-none-requires Inv-loop μ-loop
+of-none-requires c κs = search needs
 
 fill-strip-requires : tie.Need-fill-strip-requires Inv-loop μ-loop
 fill-strip-requires c κs = search needs
@@ -33,7 +33,7 @@ fill-strip-requires c κs = search needs
 loop-holds : tie.Need-loop-holds Inv-loop μ-loop
 loop-holds c =
     let a = c .before .before .before .before .before .before .before .before .args in
-    (search needs, search needs, written-already (λ lane l. c .before .before .fill-strip .ensures .written lane l ∙ c .before .before .before .of-nothing .ensures ∙ gathered-none (a .least) _ _))
+    (search needs, search needs, written-already (λ lane l. c .before .before .fill-strip .ensures .written lane l ∙ c .before .before .before .of-none .ensures ∙ gathered-none (a .least) _ _))
 
 index : (c : tie.In-loop Inv-loop μ-loop) → let g = c .before .before .before .before .before .before .before .before .before .before .args in g .centre * g .places + c .before .loop .place < length (numbersOf (wordsOf (g .distances .now)))
 index c = let start = c .before .before .before .before .before .before .before .before .before .before in omega (arith, in-table (start .pre .0) (c .loop-test .taken), start .pre .1)
@@ -47,8 +47,8 @@ add-in-range c = omega (arith, index c, length-numbers (c .before .before .befor
 in-range-requires : tie.Need-in-range-requires Inv-loop μ-loop
 in-range-requires c κs = index c
 
-gather-strip-requires : tie.Need-gather-strip-requires Inv-loop μ-loop
-gather-strip-requires c κs = search needs
+pull-strip-requires : tie.Need-pull-strip-requires Inv-loop μ-loop
+pull-strip-requires c κs = search needs
 
 add-place : tie.Need-add-place Inv-loop μ-loop
 add-place c = search needs
@@ -63,7 +63,7 @@ loop-again c =
     let loop = c .before .before .before .loop in
     let told = sym (c .before .in-range .ensures) in
     ⊎-elim
-    (λ w. rw (w .5) (search needs, w .2 .kept .1 .0 ∙ loop .inv .1, gathering-more (a .least) _ (a .row .now) (a .centre) (loop .place) (told ∙ w .0 .taken) (loop .inv .2) (w .2 .ensures)))
+    (λ w. rw (w .5) (search needs, w .2 .kept .0 ∙ loop .inv .1, gathering-more (a .least) _ (a .row .now) (a .centre) (loop .place) (told ∙ w .0 .taken) (loop .inv .2) (w .2 .ensures)))
     (λ w. rw (w .1) (search needs, loop .inv .1, gathering-past (a .least) _ (a .row .now) (a .centre) (loop .place) (told ∙ w .0 .left) (loop .inv .2)))
     (c .if1 .came)
 
@@ -83,13 +83,13 @@ gather-spec =
     (tie.spec
     Inv-loop
     μ-loop
-    of-nothing-requires
+    of-none-requires
     fill-strip-requires
     loop-holds
     mul-in-range
     add-in-range
     in-range-requires
-    gather-strip-requires
+    pull-strip-requires
     add-place
     loop-less
     loop-again
