@@ -9,7 +9,7 @@ use lib.ListN.{length, getD, set, replicate, List·getD-append}
 use Rattle.words.specs.Rows.{rows, padded}
 use Rattle.words.proofs.Rows.{in-table, length-rows, getD-rows}
 use Rattle.logic.specs.Network.{Network, distanceIn}
-use Rattle.logic.specs.Table.{Line, lineIn}
+use Rattle.logic.specs.Formulas.{Line, lineIn}
 use Rattle.sheet.specs.declared.check.Layout as Code
 use Rattle.sheet.specs.declared.line.Line as Read
 use Rattle.sheet.specs.declared.line.Decoded.{Decoded}

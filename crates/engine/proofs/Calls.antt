@@ -10,7 +10,8 @@ use contract.Lifetimes
 use borrow.Fn.Kinds.{Dens, endedOf}
 use denote.Triple.Clauses.{AtExit}
 use Rattle.words.specs.Bytes.{wordsOf, numbersOf}
-use Rattle.logic.specs.Table.{lineIn, verdicts, margins, valueAt}
+use Rattle.logic.specs.Formulas.{lineIn}
+use Rattle.logic.specs.Table.{verdicts, margins, valueAt}
 use Rattle.sheet.specs.Layout.{Layout}
 use Rattle.sheet.specs.Roads.{network, recording}
 use Rattle.sheet.specs.Apart.{SamplesApart}

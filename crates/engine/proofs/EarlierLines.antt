@@ -9,9 +9,9 @@ use Rattle.words.specs.Rows.{concat, put}
 use Rattle.words.proofs.Rows.{in-table}
 use Rattle.words.proofs.Puts.{length-front}
 use Rattle.logic.specs.Network.{Network}
-use Rattle.logic.specs.Table.{Line, lineIn, Recording, valueAt}
+use Rattle.logic.specs.Formulas.{Line, lineIn, Recording, InBits}
+use Rattle.logic.specs.Table.{valueAt}
 use Rattle.logic.proofs.TableKeeps.{ConstantsIn}
-use Rattle.logic.proofs.Small.{InBits}
 use Rattle.values.specs.Said.{verdictWord}
 use Rattle.values.specs.Chain.{chains, chainWord, wordChain}
 use Rattle.values.specs.Signals.{signalIn}
@@ -20,7 +20,7 @@ use Rattle.values.proofs.ChainTable.{chains-valid, chains-margin, chains-verdic
 use Rattle.verdicts.specs.Answer.{lineIndex, wordFor, lineWords}
 use Rattle.verdicts.proofs.AnswerWords.{sizes, lines-size, sizes-below, verdict-among}
 
-module _ (N : Network) (T : ℕ) (x : Recording) (samples : (s t l : ℕ) → InBits 26 (x s t l)) (lines : List Line) (constants : ConstantsIn (InBits 26) lines) where
+module _ (N : Network) (T : ℕ) (x : Recording) (samples : (s t l : ℕ) → InBits 27 (x s t l)) (lines : List Line) (constants : ConstantsIn (InBits 27) lines) where
   -- the word of the chain number is that of verdict and margin
   pub word-meant : (i t l : ℕ) → l < N.places → chainWord (valueAt chains N x lines i t l) ≡ wordFor N T x lines i t l
   unfolding wordFor

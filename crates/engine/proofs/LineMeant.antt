@@ -8,12 +8,12 @@ use Rattle.words.specs.Rows.{rows}
 use Rattle.words.proofs.Rows.{rows-ext}
 use Rattle.logic.specs.Margin.{marginLattice}
 use Rattle.logic.specs.Network.{Network, joined, within}
-use Rattle.logic.specs.Table.{Operator, True, AtLeast, AtMost, Not, And, Until, Somewhere, Surrounded, Or, Eventually, Always, Everywhere, Line, lineIn, lengthOf, Recording, Signal, verdicts, margins, value, valueAt}
+use Rattle.logic.specs.Formulas.{Operator, True, AtLeast, AtMost, Not, And, Until, Somewhere, Surrounded, Or, Eventually, Always, Everywhere, Line, lineIn, lengthOf, Recording, InBits}
+use Rattle.logic.specs.Table.{Signal, verdicts, margins, value, valueAt}
 use Rattle.logic.specs.Counts.{count, sumBelow, mostBelow, roundsAt}
 use Rattle.logic.proofs.Keeps.{same-kept, masked-kept}
 use Rattle.logic.proofs.Rounds.{rounds-same}
 use Rattle.logic.proofs.TableKeeps.{ConstantsIn}
-use Rattle.logic.proofs.Small.{InBits}
 use Rattle.sheet.proofs.AcceptedLines.{lengthsOf, Sound, GoodTable}
 use Rattle.values.specs.Chain.{chains, chainWord, chainVerdict, chainMargin}
 use Rattle.values.proofs.ChainTable.{chains-margin, chains-verdict}
@@ -45,7 +45,7 @@ module _ (N : Network) (T v k : ℕ) (lengths : ℕ → ℕ) (line line′ : ℕ
   rounds-alike (Always i lower upper) sound t l u = refl
   rounds-alike (Everywhere i lower upper) sound t l u = refl
 
-module _ (N : Network) (T : ℕ) (x : Recording) (samples : (s t l : ℕ) → InBits 26 (x s t l)) (lines : List Line) (constants : ConstantsIn (InBits 26) lines)
+module _ (N : Network) (T : ℕ) (x : Recording) (samples : (s t l : ℕ) → InBits 27 (x s t l)) (lines : List Line) (constants : ConstantsIn (InBits 27) lines)
     (v : ℕ) (good : GoodTable v T lines) (k : ℕ) (inside : k < length lines) (earlier : ℕ → Signal chains)
     (same : (i t l : ℕ) → i < k → t < lengthsOf lines i → l < N.places → earlier i t l ≡ valueAt chains N x lines i t l) where
   abbrev here : Signal chains

@@ -7,7 +7,7 @@ use Prim.Native.Nat.{ℕ, _+_, _*_, _≤_, _<_, _^_}
 use native.Mathlib.Nat.{mul-le-mul-right}
 use native.Mathlib.Omega.{arith}
 use lib.ListN.{length, getD}
-use Rattle.logic.specs.Table as Table
+use Rattle.logic.specs.Formulas as Formulas
 use Rattle.logic.specs.Counts.{roundsAt}
 use Rattle.sheet.specs.declared.check.Layout.{Layout}
 use Rattle.sheet.specs.declared.operator.Bounds.{Bounds}
@@ -77,7 +77,7 @@ module _ {s : List ℕ} {L : Layout} {distances words starts : List ℕ} (line :
 
   -- ---- every line
 
-  reads-by : (o : Operator) → Sound (L .signals) (ready .earlier) (operatorSaid o) → line .length ≡ Table.lengthOf (L .samples) (ready .lengths) (operatorSaid o)
+  reads-by : (o : Operator) → Sound (L .signals) (ready .earlier) (operatorSaid o) → line .length ≡ Formulas.lengthOf (L .samples) (ready .lengths) (operatorSaid o)
       → Reads s L distances words starts (line .length) o (wayOf starts o)
   unfolding lineRounds roundsAt
   reads-by True h e = (λ t b. tt, λ t l. refl)

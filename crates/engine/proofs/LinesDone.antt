@@ -10,11 +10,11 @@ use lib.ListN.{length, getD, set, take, replicate, length-append, length-set, le
 use lib.Seq.{length-take-le, getD-set-same, getD-set-other}
 use Rattle.words.specs.Rows.{concat, put}
 use Rattle.words.proofs.Puts.{put-nil, length-put, put-append}
-use Rattle.logic.specs.Table.{Line, lineIn, verdicts, margins, valueAt}
+use Rattle.logic.specs.Formulas.{Line, lineIn, InBits}
+use Rattle.logic.specs.Table.{verdicts, margins, valueAt}
 use Rattle.logic.specs.Counts.{count, sumBelow, mostBelow, roundsAt, greatestRounds, yesCount}
 use Rattle.logic.proofs.Tests.{below}
 use Rattle.logic.proofs.TableKeeps.{ConstantsIn}
-use Rattle.logic.proofs.Small.{InBits}
 use Rattle.sheet.specs.declared.check.Layout as Code
 use Rattle.sheet.specs.Limits.{mostPlaces, mostSamples, mostLines}
 use Rattle.sheet.specs.Checked.{wordAt}
@@ -79,11 +79,11 @@ all-done s layout distances answer words starts k to tally accepting last done =
     record { written = all .written; ends = all .ends; greatest = all .greatest; counted = all .counted }
 
 module _ (s : List ℕ) (layout : Code.Layout) (distances : List ℕ) (lines : List Line) (table : Table s layout distances lines) where
-  samples : (signal t l : ℕ) → InBits 26 (sheetRecording s layout signal t l)
+  samples : (signal t l : ℕ) → InBits 27 (sheetRecording s layout signal t l)
   unfolding sheetRecording
   samples signal t l = sample-bits (wordAt s (layout .recording + ((t * layout .places + l) * layout .signals + signal)))
 
-  constants : ConstantsIn (InBits 26) lines
+  constants : ConstantsIn (InBits 27) lines
   constants = good-constants (layout .signals) (layout .samples) lines (table .good)
 
   -- no line has more verdicts than the most samples at the most places

@@ -6,7 +6,7 @@ use native.Mathlib.Omega.{arith}
 use lib.ListN.{length}
 use Rattle.words.specs.Rows.{concat}
 use Rattle.logic.specs.Network.{Network}
-use Rattle.logic.specs.Table.{Line, Recording}
+use Rattle.logic.specs.Formulas.{Line, Recording}
 use Rattle.sheet.specs.declared.check.Layout as Code
 use Rattle.sheet.specs.Limits.{mostPlaces, mostLines, mostSamples}
 use Rattle.sheet.specs.Layout.{Layout}

@@ -10,7 +10,8 @@ use Rattle.logic.specs.Margin.{marginLattice}
 use Rattle.logic.specs.Network.{joined, within}
 use Rattle.logic.specs.Surround.{holds, boundary, allowed, regionValue, surround}
 use Rattle.logic.specs.Iteration.{masked}
-use Rattle.logic.specs.Table.{Surrounded, surroundAt, value}
+use Rattle.logic.specs.Formulas.{Surrounded}
+use Rattle.logic.specs.Table.{surroundAt, value}
 use Rattle.logic.specs.Counts.{roundsAt}
 use Rattle.logic.proofs.Keeps.{same-kept, least-kept, region-kept}
 use Rattle.logic.proofs.Rounds.{rounds-same}

@@ -6,7 +6,7 @@ use lib.ListN.{length, getD, take}
 use Rattle.words.specs.Word.{wordOf}
 use Rattle.words.specs.Rows.{rows, put}
 use Rattle.logic.specs.Counts.{count, sumBelow, mostBelow}
-use Rattle.logic.specs.Table.{Line}
+use Rattle.logic.specs.Formulas.{Line}
 use Rattle.sheet.specs.declared.check.Layout.{Layout}
 use Rattle.sheet.proofs.AcceptedLines.{GoodLine}
 use Rattle.values.specs.Chain.{chainWord, chainVerdict, Valid}

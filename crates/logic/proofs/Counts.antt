@@ -4,7 +4,8 @@ use Prim.Native.Nat.{ℕ, zero, suc, _≤_, zero-le}
 use native.Mathlib.Omega.{arith}
 use lib.ListN.{length}
 use Rattle.logic.specs.Network.{Network, joined}
-use Rattle.logic.specs.Table.{Operator, True, AtLeast, AtMost, Not, And, Until, Somewhere, Surrounded, Or, Eventually, Always, Everywhere, Line, lineIn, Signal, Recording, margins, valueAt}
+use Rattle.logic.specs.Formulas.{Operator, True, AtLeast, AtMost, Not, And, Until, Somewhere, Surrounded, Or, Eventually, Always, Everywhere, Line, lineIn, Recording}
+use Rattle.logic.specs.Table.{Signal, margins, valueAt}
 use Rattle.logic.specs.Counts.{mostBelow, roundsAt, greatestRounds}
 use Rattle.logic.proofs.Rounds.{rounds-bound}
 

@@ -12,7 +12,8 @@ use Rattle.logic.specs.Distance.{dist, none, direct, distance}
 use Rattle.logic.specs.Network.{Network, joined, distanceIn, within}
 use Rattle.logic.specs.Surround.{greatestRegion, boundary, allowed, regionValue, surround}
 use Rattle.logic.specs.Iteration.{iterate, masked, first, atRest, rounds}
-use Rattle.logic.specs.Table.{AtLeast, Not, Surrounded, Line, Signal, Recording, verdicts, margins, surroundAt, value, valuesAfter, valueAt}
+use Rattle.logic.specs.Formulas.{AtLeast, Not, Surrounded, Line, Recording}
+use Rattle.logic.specs.Table.{Signal, verdicts, margins, surroundAt, value, valuesAfter, valueAt}
 use Rattle.logic.specs.Counts.{roundsAt}
 
 -- places 0-1-2 with weights 1

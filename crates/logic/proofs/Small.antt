@@ -5,16 +5,12 @@ use native.Mathlib.Omega.{arith}
 use lib.IntN.{ℤ, pos, negsuc, natAbs, _-ℤ_}
 use Rattle.logic.specs.Margin.{Margin, minusInfinity, finite, plusInfinity, atMost, negate, marginLattice}
 use Rattle.logic.specs.Network.{Network}
-use Rattle.logic.specs.Table.{Line, Recording, margins, valueAt}
+use Rattle.logic.specs.Formulas.{Line, Recording, InBits}
+use Rattle.logic.specs.Table.{margins, valueAt}
 use Rattle.logic.proofs.Keeps.{Keeps}
 use Rattle.logic.proofs.Order.{UpZ, nearZ, atMost-trans, atMost-total}
 use Rattle.logic.proofs.Margins.{meet-by, join-by}
 use Rattle.logic.proofs.TableKeeps.{ConstantsIn, valueAt-kept}
-
--- from -2^width to 2^width - 1
-abbrev pub InBits : ℕ → ℤ → Type 0
-InBits width (pos x) = x < 2 ^ width
-InBits width (negsuc x) = x < 2 ^ width
 
 abbrev pub Small : Margin → Type 0
 Small minusInfinity = Unit {0}
@@ -36,18 +32,18 @@ small-kept = record {
   keeps-join = λ a b c d h k. join-by atMost minusInfinity plusInfinity atMost-trans atMost-total Small a b (λ _. k) (λ _. h);
 }
 
-up-small : (a b : ℤ) → InBits 26 a → InBits 26 b → UpZ 134217727 a b
+up-small : (a b : ℤ) → InBits 27 a → InBits 27 b → UpZ 134217727 a b
 up-small (pos a) (pos b) h k = omega arith
 up-small (pos a) (negsuc b) h k = omega arith
 up-small (negsuc a) (pos b) h k = tt
 up-small (negsuc a) (negsuc b) h k = omega arith
 
-pub difference-small : (a b : ℤ) → InBits 26 a → InBits 26 b → natAbs (a -ℤ b) < 2 ^ 27
+pub difference-small : (a b : ℤ) → InBits 27 a → InBits 27 b → natAbs (a -ℤ b) < 2 ^ 27
 difference-small a b h k =
     let s : natAbs (a -ℤ b) ≤ 134217727 = nearZ 134217727 a b .1 (up-small a b h k, up-small b a k h) in
     omega arith
 
-pub margins-small : (N : Network) (x : Recording) → ((s t l : ℕ) → InBits 26 (x s t l)) → (lines : List Line) → ConstantsIn (InBits 26) lines
+pub margins-small : (N : Network) (x : Recording) → ((s t l : ℕ) → InBits 27 (x s t l)) → (lines : List Line) → ConstantsIn (InBits 27) lines
     → (i t l : ℕ) → l < N.places → Small (valueAt margins N x lines i t l)
-margins-small N x h = valueAt-kept margins margins N (λ a _. Small a) small-kept (λ a _. small-negate a) (InBits 26) x x
+margins-small N x h = valueAt-kept margins margins N (λ a _. Small a) small-kept (λ a _. small-negate a) (InBits 27) x x
     (λ s t l c fit. difference-small (x s t l) c (h s t l) fit) (λ s t l c fit. difference-small c (x s t l) fit (h s t l))

@@ -6,7 +6,8 @@ use Prim.Native.Nat.{ℕ, _≤_, _<_}
 use lib.IntN.{ℤ, negℤ, natAbs, _-ℤ_, negℤ-+ℤ, negℤ-negℤ, +ℤ-assoc, +ℤ-comm, +ℤ-invl, +ℤ-idl}
 use Rattle.logic.specs.Margin.{finite}
 use Rattle.logic.specs.Network.{Network}
-use Rattle.logic.specs.Table.{Line, Recording, margins, valueAt}
+use Rattle.logic.specs.Formulas.{Line, Recording}
+use Rattle.logic.specs.Table.{margins, valueAt}
 use Rattle.logic.specs.Steadiness.{Near}
 use Rattle.logic.proofs.Margins.{near-kept, near-negate}
 use Rattle.logic.proofs.TableKeeps.{any-constants, valueAt-kept}

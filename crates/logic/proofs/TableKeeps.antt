@@ -3,9 +3,10 @@
 use mathlib.Core.List.{List, [], _∷_}
 use Prim.Native.Nat.{ℕ, suc, _+_, _<_}
 use lib.Dec.{leb}
-use lib.IntN.{ℤ}
+use lib.IntN.{ℤ, _-ℤ_}
 use Rattle.logic.specs.Network.{Network, joined, within}
-use Rattle.logic.specs.Table.{Operator, True, AtLeast, AtMost, Not, And, Until, Somewhere, Surrounded, Or, Eventually, Always, Everywhere, Line, Recording, Reading, Signal, untilAt, somewhereAt, surroundAt, value, valuesAfter, valueAt}
+use Rattle.logic.specs.Formulas.{Operator, True, AtLeast, AtMost, Not, And, Until, Somewhere, Surrounded, Or, Eventually, Always, Everywhere, Line, Recording}
+use Rattle.logic.specs.Table.{Reading, Signal, untilAt, somewhereAt, surroundAt, value, valuesAfter, valueAt}
 use Rattle.logic.proofs.Lists.{Each, All, none, more, each-append, each-at}
 use Rattle.logic.proofs.Keeps.{Keeps, least-kept, greatest-kept, surround-kept}
 
@@ -67,8 +68,8 @@ module _ (R M : Reading) (N : Network) (Rel : R.lattice.Value → M.lattice.Valu
 
   module _ (opposite-kept : (a : R.lattice.Value) (b : M.lattice.Value) → Rel a b → Rel (R.opposite a) (M.opposite b))
       (Fit : ℤ → Type 0) (x y : Recording)
-      (atLeast-kept : (s t l : ℕ) (c : ℤ) → Fit c → Rel (R.atLeast (x s t l) c) (M.atLeast (y s t l) c))
-      (atMost-kept : (s t l : ℕ) (c : ℤ) → Fit c → Rel (R.atMost (x s t l) c) (M.atMost (y s t l) c)) where
+      (atLeast-kept : (s t l : ℕ) (c : ℤ) → Fit c → Rel (R.atom (x s t l -ℤ c)) (M.atom (y s t l -ℤ c)))
+      (atMost-kept : (s t l : ℕ) (c : ℤ) → Fit c → Rel (R.atom (c -ℤ x s t l)) (M.atom (c -ℤ y s t l))) where
     pub value-kept : (line : ℕ → Signal R) (line′ : ℕ → Signal M) → ((i : ℕ) → Alike (line i) (line′ i)) → (o : Operator) → ConstantIn Fit o → Alike (value R N x line o) (value M N y line′ o)
     unfolding value
     value-kept line line′ h True fit t l b = K.keeps-top

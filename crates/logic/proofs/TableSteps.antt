@@ -7,7 +7,8 @@ use native.Mathlib.Omega.{arith}
 use lib.ListN.{length, getD, length-append, List·getD-append}
 use lib.Seq.{getD-at}
 use Rattle.logic.specs.Network.{Network}
-use Rattle.logic.specs.Table.{Line, lineIn, Recording, Reading, Signal, everTrue, value, valuesAfter}
+use Rattle.logic.specs.Formulas.{Line, lineIn, Recording}
+use Rattle.logic.specs.Table.{Reading, Signal, everTrue, value, valuesAfter}
 
 module _ (R : Reading) (N : Network) (x : Recording) where
   -- the value of a line after what is known

@@ -6,7 +6,8 @@ use lib.ListN.{length}
 use Rattle.logic.specs.Margin.{marginLattice}
 use Rattle.logic.specs.Network.{Network, joined, within}
 use Rattle.logic.specs.Iteration.{masked, rounds}
-use Rattle.logic.specs.Table.{Operator, True, AtLeast, AtMost, Not, And, Until, Somewhere, Surrounded, Or, Eventually, Always, Everywhere, Line, lineIn, Recording, Signal, verdicts, margins, valueAt}
+use Rattle.logic.specs.Formulas.{Operator, True, AtLeast, AtMost, Not, And, Until, Somewhere, Surrounded, Or, Eventually, Always, Everywhere, Line, lineIn, Recording}
+use Rattle.logic.specs.Table.{Signal, verdicts, margins, valueAt}
 
 -- the greatest of f below n, 0 for none; and the sum
 unfoldable pub mostBelow : (ℕ → ℕ) → ℕ → ℕ

@@ -1,68 +1,30 @@
 -- The meaning of a table of lines, codes 0 to 11 (Definitions 3.1 and 3.4), once for verdicts and margins: a reading says what values
--- are, how they are negated and what the two atoms are worth.
+-- are, how they are negated and what an atom is worth by its margin.
 use mathlib.Core.Bool.{not}
 use mathlib.Core.List.{List, [], _∷_, _++_}
-use Prim.Native.Nat.{ℕ, suc, _+_, _-_, min}
+use Prim.Native.Nat.{ℕ, suc, _+_}
 use lib.Dec.{leb}
 use lib.ListN.{getD}
-use lib.IntN.{ℤ, _-ℤ_}
+use lib.IntN.{ℤ, pos, _-ℤ_}
 use lib.Signed.{leZ}
+use Rattle.logic.specs.Formulas.{Operator, True, AtLeast, AtMost, Not, And, Until, Somewhere, Surrounded, Or, Eventually, Always, Everywhere, Line, Recording}
 use Rattle.logic.specs.Lattice.{Lattice, verdictLattice, leastOver, greatestOver}
 use Rattle.logic.specs.Margin.{finite, negate, marginLattice}
 use Rattle.logic.specs.Network.{Network, joined, within}
 use Rattle.logic.specs.Surround.{surround}
 
--- What a line says, in the order of the codes 0 to 11. Atoms have a signal and a constant; operands are numbers of earlier lines; bounds
--- come last, lower before upper.
-pub data Operator : Type 0 where
-  True : Operator
-  AtLeast AtMost : ℕ → ℤ → Operator
-  Not : ℕ → Operator
-  And : ℕ → ℕ → Operator
-  Until : ℕ → ℕ → ℕ → ℕ → Operator
-  Somewhere : ℕ → ℕ → ℕ → Operator
-  Surrounded : ℕ → ℕ → ℕ → ℕ → Operator
-  Or : ℕ → ℕ → Operator
-  Eventually Always Everywhere : ℕ → ℕ → ℕ → Operator
-
--- Length of a line, given T and the operands' lengths: verdicts are for the samples 0 to length - 1
-abbrev pub lengthOf : ℕ → (ℕ → ℕ) → Operator → ℕ
-lengthOf T operand True = T
-lengthOf T operand (AtLeast x c) = T
-lengthOf T operand (AtMost x c) = T
-lengthOf T operand (Not i) = operand i
-lengthOf T operand (And i j) = min (operand i) (operand j)
-lengthOf T operand (Until i j lower upper) = min (operand i) (operand j) - upper
-lengthOf T operand (Somewhere i lower upper) = operand i
-lengthOf T operand (Surrounded i j lower upper) = min (operand i) (operand j)
-lengthOf T operand (Or i j) = min (operand i) (operand j)
-lengthOf T operand (Eventually i lower upper) = operand i - upper
-lengthOf T operand (Always i lower upper) = operand i - upper
-lengthOf T operand (Everywhere i lower upper) = operand i
-
-pub record Line : Type 0 where
-  pub operator : Operator
-  pub length : ℕ
-
--- line i of a table; one that is not there has no sample
-abbrev pub lineIn : List Line → ℕ → Line
-lineIn lines i = getD lines i (record { operator = True; length = 0 })
-
--- What is recorded: signal, then sample, then place
-abbrev pub Recording : Type 0
-Recording = ℕ → ℕ → ℕ → ℤ
-
 pub record Reading : Type 1 where
   pub lattice : Lattice
   pub opposite : lattice .Value → lattice .Value
-  pub atLeast : ℤ → ℤ → lattice .Value
-  pub atMost : ℤ → ℤ → lattice .Value
+  pub atom : ℤ → lattice .Value
 
+-- Definition 3.1, Boolean semantics: an atom is a yes exactly where its margin is at least 0
 abbrev pub verdicts : Reading
-verdicts = record { lattice = verdictLattice; opposite = not; atLeast = λ x c. leZ c x; atMost = λ x c. leZ x c }
+verdicts = record { lattice = verdictLattice; opposite = not; atom = leZ (pos 0) }
 
+-- Definition 3.4, quantitative semantics
 abbrev pub margins : Reading
-margins = record { lattice = marginLattice; opposite = negate; atLeast = λ x c. finite (x -ℤ c); atMost = λ x c. finite (c -ℤ x) }
+margins = record { lattice = marginLattice; opposite = negate; atom = finite }
 
 -- the values of a line: sample, then place
 abbrev pub Signal : Reading → Type 0
@@ -81,9 +43,11 @@ module _ (R : Reading) where
   everTrue t l = R.lattice.top
 
 module _ (R : Reading) (N : Network) where
+  -- left at some place within range of the centre
   unfoldable pub somewhereAt : Signal R → ℕ → ℕ → Signal R
   somewhereAt left lower upper t l = greatestOver R.lattice (within N l lower upper) (left t) N.places
 
+  -- a region about the centre, within the upper bound, has left, and its outer boundary, within both bounds, has right
   unfoldable pub surroundAt : Signal R → Signal R → ℕ → ℕ → Signal R
   surroundAt left right lower upper t l =
       surround R.lattice (joined N) N.places (within N l 0 upper) (within N l lower upper) (left t) (right t) l
@@ -91,8 +55,8 @@ module _ (R : Reading) (N : Network) where
   -- the values of a line, given those of the lines before it
   unfoldable pub value : Recording → (ℕ → Signal R) → Operator → Signal R
   value x line True = everTrue R
-  value x line (AtLeast signal c) = λ t l. R.atLeast (x signal t l) c
-  value x line (AtMost signal c) = λ t l. R.atMost (x signal t l) c
+  value x line (AtLeast signal c) = λ t l. R.atom (x signal t l -ℤ c)
+  value x line (AtMost signal c) = λ t l. R.atom (c -ℤ x signal t l)
   value x line (Not i) = opposite R (line i)
   value x line (And i j) = λ t l. R.lattice.meet (line i t l) (line j t l)
   value x line (Until i j lower upper) = untilAt R (line i) (line j) lower upper
@@ -103,7 +67,7 @@ module _ (R : Reading) (N : Network) where
   value x line (Always i lower upper) = opposite R (untilAt R (everTrue R) (opposite R (line i)) lower upper)
   value x line (Everywhere i lower upper) = opposite R (somewhereAt (opposite R (line i)) lower upper)
 
-  -- the values of all lines, line 0 first, after those already known
+  -- the values of all lines, line 0 first, after those already known. An operand that is not there counts as ever true; no accepted sheet has one
   unfoldable pub valuesAfter : Recording → List (Signal R) → List Line → List (Signal R)
   valuesAfter x known [] = known
   valuesAfter x known (line ∷ lines) = valuesAfter x (known ++ (value x (λ i. getD known i (everTrue R)) (line .operator) ∷ [])) lines

@@ -3,7 +3,7 @@ use mathlib.Core.Path.{_≡_}
 use mathlib.Core.Bool.{Bool, true, false, cond}
 use mathlib.Core.List.{List}
 use Prim.Native.Nat.{ℕ, _<_}
-use lib.IntN.{ℤ}
+use lib.IntN.{ℤ, _-ℤ_}
 use lib.ListN.{getD}
 use Rattle.logic.specs.Table.{Signal, untilAt, everTrue}
 use Rattle.values.specs.Chain.{chains, chainLattice, chainOpposite}
@@ -19,8 +19,8 @@ turnedTo negated c = cond negated (chainOpposite c) c
 
 -- codes 1 and 2
 abbrev pub atomValue : Bool → ℤ → ℤ → ℕ
-atomValue true x c = chains .atLeast x c
-atomValue false x c = chains .atMost x c
+atomValue true x c = chains .atom (x -ℤ c)
+atomValue false x c = chains .atom (c -ℤ x)
 
 -- codes 4 and 8
 abbrev pub andAt : Bool → Signal chains → Signal chains → Signal chains

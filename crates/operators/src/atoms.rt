@@ -4,12 +4,12 @@ ghost use Prim.Native.Nat.{_+_, _*_, _≤_, _<_};
 ghost use lib.ListN.{length, getD};
 ghost use Rattle.words.specs.Word.{sampleOf};
 ghost use Rattle.words.specs.Bytes.{wordsOf};
-ghost use Rattle.logic.proofs.Small.{InBits};
+ghost use Rattle.logic.specs.Formulas.{InBits};
 ghost use Rattle.operators.specs.Rows.{Filled, atomValue};
 
 // The value of sample i, given the part of a sheet that begins with its samples.
 fn atom_at(samples: &[u8], i: usize, constant: i32, least: bool) -> u32
-    requires { ⌜ (i < length (wordsOf (now samples))) × InBits 26 constant ⌝ }
+    requires { ⌜ (i < length (wordsOf (now samples))) × InBits 27 constant ⌝ }
     ensures { λ r. ⌜ r ≡ atomValue least (sampleOf (getD (wordsOf (now (samples .entry))) i 0)) constant ⌝ }
 {
     let sample = words::sample(words::word_at(samples, i));
@@ -31,7 +31,7 @@ pub fn atom_row(
     t: usize,
     row: &mut [u32],
 )
-    requires { ⌜ (signal < signals) × ((t + 1) * places * signals ≤ length (wordsOf (now samples))) × InBits 26 constant × (places ≤ length (now row)) ⌝ }
+    requires { ⌜ (signal < signals) × ((t + 1) * places * signals ≤ length (wordsOf (now samples))) × InBits 27 constant × (places ≤ length (now row)) ⌝ }
     ensures { λ _. ⌜ Filled places (λ l. atomValue least (sampleOf (getD (wordsOf (now (samples .entry))) ((t * places + l) * signals + signal) 0)) constant) (now (row .exit)) ⌝ }
 {
     for l in 0..places {

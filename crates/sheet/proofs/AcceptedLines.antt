@@ -12,11 +12,10 @@ use lib.ListN.{length, length-append, List·getD-append, List·getD-eq-default}
 use lib.Seq.{getD-at}
 use lib.IntN.{ℤ, pos, negsuc}
 use Rattle.words.specs.Word.{bits, payloadOf, sampleOf}
-use Rattle.logic.specs.Table.{Operator, True, AtLeast, AtMost, Not, And, Until, Somewhere, Surrounded, Or, Eventually, Always, Everywhere, Line, lineIn, lengthOf}
+use Rattle.logic.specs.Formulas.{Operator, True, AtLeast, AtMost, Not, And, Until, Somewhere, Surrounded, Or, Eventually, Always, Everywhere, Line, lineIn, lengthOf, InBits}
 use Rattle.logic.proofs.Tests.{and-l, and-r, below}
 use Rattle.logic.proofs.Lists.{All, none, more, each-at}
 use Rattle.logic.proofs.TableKeeps.{ConstantIn, ConstantsIn}
-use Rattle.logic.proofs.Small.{InBits}
 use Rattle.sheet.specs.Limits.{mostLines}
 use Rattle.sheet.specs.Checked.{Checked, accepted, _>>=_, require, wordAt, isKind}
 use Rattle.sheet.specs.Codes.{Code, constant, atom, unary, binary, unaryBounded, binaryBounded, unknown, codes, codeOf}
@@ -29,10 +28,10 @@ pub record Bounds (lower upper : ℕ) : Type 0 where
   pub small : upper < 2 ^ 28
 
 -- ---- a constant is a number of 27 bits
-pub sample-bits : (w : ℕ) → InBits 26 (sampleOf w)
+pub sample-bits : (w : ℕ) → InBits 27 (sampleOf w)
 sample-bits w = go (ltb (w % 2 ^ 27) (2 ^ 26)) refl
   where
-    go : (t : Bool) → ltb (w % 2 ^ 27) (2 ^ 26) ≡ t → InBits 26 (cond t (pos (w % 2 ^ 27)) (negsuc (2 ^ 27 - suc (w % 2 ^ 27))))
+    go : (t : Bool) → ltb (w % 2 ^ 27) (2 ^ 26) ≡ t → InBits 27 (cond t (pos (w % 2 ^ 27)) (negsuc (2 ^ 27 - suc (w % 2 ^ 27))))
     go true e = ltb→lt (w % 2 ^ 27) (2 ^ 26) (rw e tt)
     go false e =
         let high : 2 ^ 26 ≤ w % 2 ^ 27 = nltb→le (w % 2 ^ 27) (2 ^ 26) (rw e tt) in
@@ -41,8 +40,8 @@ sample-bits w = go (ltb (w % 2 ^ 27) (2 ^ 26)) refl
 -- ---- what is sound of an operator among v signals and k earlier lines: each field below its limit, constants of 27 bits, bounds in order
 abbrev pub Sound : ℕ → ℕ → Operator → Type 0
 Sound v k True = Unit {0}
-Sound v k (AtLeast signal c) = (signal < v) × InBits 26 c
-Sound v k (AtMost signal c) = (signal < v) × InBits 26 c
+Sound v k (AtLeast signal c) = (signal < v) × InBits 27 c
+Sound v k (AtMost signal c) = (signal < v) × InBits 27 c
 Sound v k (Not i) = i < k
 Sound v k (And i j) = (i < k) × (j < k)
 Sound v k (Until i j lower upper) = (i < k) × (j < k) × Bounds lower upper
@@ -57,7 +56,7 @@ module _ (v k : ℕ) where
   -- what a code says is sound where its fields and parameters are
   abbrev Fits : Code → Type 0
   Fits (constant o) = Sound v k o
-  Fits (atom o) = (signal : ℕ) (c : ℤ) → signal < v → InBits 26 c → Sound v k (o signal c)
+  Fits (atom o) = (signal : ℕ) (c : ℤ) → signal < v → InBits 27 c → Sound v k (o signal c)
   Fits (unary o) = (i : ℕ) → i < k → Sound v k (o i)
   Fits (binary o) = (i j : ℕ) → i < k → j < k → Sound v k (o i j)
   Fits (unaryBounded o) = (i lower upper : ℕ) → i < k → Bounds lower upper → Sound v k (o i lower upper)
@@ -80,13 +79,13 @@ module _ (v k : ℕ) where
       (more {a = unaryBounded Always} (λ _ _ _ h b. (h, b))
       (more {a = unaryBounded Everywhere} (λ _ _ _ h b. (h, b)) none)))))))))))
 
-constant-fits : (s : List ℕ) (at : ℕ) (c : ℤ) → constantAt s at ≡ accepted c → InBits 26 c
+constant-fits : (s : List ℕ) (at : ℕ) (c : ℤ) → constantAt s at ≡ accepted c → InBits 27 c
 unfolding constantAt
 constant-fits s at c e =
     let clear : Bool = eqb (bits 27 1 (wordAt s at)) 0 in
     let rest = require-e (isKind 8 s at) 12 at (require clear 12 at (accepted (sampleOf (wordAt s at)))) c e .1 in
     let same = require-e clear 12 at (accepted (sampleOf (wordAt s at))) c rest .1 in
-    subst (InBits 26) (accepted-inj (sampleOf (wordAt s at)) c same) (sample-bits (wordAt s at))
+    subst (InBits 27) (accepted-inj (sampleOf (wordAt s at)) c same) (sample-bits (wordAt s at))
 
 bounds-fit : (s : List ℕ) (at : ℕ) (b : ℕ × ℕ) → boundsAt s at ≡ accepted b → Bounds (b .0) (b .1)
 unfolding boundsAt
@@ -262,7 +261,7 @@ pub table-good : (s : List ℕ) (v T at : ℕ) (found : List Line × ℕ) → li
 table-good s v T at found e = lines-good s v T mostLines [] at found (λ k h. absurd (not-suc-le-zero h)) (omega arith) e
 
 -- the constants of a good table are of 27 bits
-sound-constant : (v k : ℕ) (o : Operator) → Sound v k o → ConstantIn (InBits 26) o
+sound-constant : (v k : ℕ) (o : Operator) → Sound v k o → ConstantIn (InBits 27) o
 sound-constant v k True h = tt
 sound-constant v k (AtLeast x c) h = h .1
 sound-constant v k (AtMost x c) h = h .1
@@ -276,11 +275,11 @@ sound-constant v k (Eventually i lower upper) h = tt
 sound-constant v k (Always i lower upper) h = tt
 sound-constant v k (Everywhere i lower upper) h = tt
 
-constants-from : (v : ℕ) (lines : List Line) (n : ℕ) → ((k : ℕ) → k < length lines → Sound v (n + k) (lineIn lines k .operator)) → ConstantsIn (InBits 26) lines
+constants-from : (v : ℕ) (lines : List Line) (n : ℕ) → ((k : ℕ) → k < length lines → Sound v (n + k) (lineIn lines k .operator)) → ConstantsIn (InBits 27) lines
 constants-from v [] n sound = none
 constants-from v (line ∷ lines) n sound =
     more (sound-constant v (n + 0) (line .operator) (sound 0 (omega arith)))
     (constants-from v lines (suc n) (λ k h. subst (λ m. Sound v m (lineIn lines k .operator)) (omega arith) (sound (suc k) (suc-le-suc h))))
 
-pub good-constants : (v T : ℕ) (lines : List Line) → GoodTable v T lines → ConstantsIn (InBits 26) lines
+pub good-constants : (v T : ℕ) (lines : List Line) → GoodTable v T lines → ConstantsIn (InBits 27) lines
 good-constants v T lines good = constants-from v lines 0 (λ k h. subst (λ m. Sound v m (lineIn lines k .operator)) (sym (zero-add k)) (good k h .sound))

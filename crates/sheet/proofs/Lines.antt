@@ -8,7 +8,7 @@ use native.Mathlib.Omega.{arith}
 use lib.Dec.{ltb}
 use lib.ListN.{length, getD, set, replicate, length-append, length-set, length-replicate}
 use borrow.Author.Tests.{lt-ltb}
-use Rattle.logic.specs.Table.{Line, lineIn}
+use Rattle.logic.specs.Formulas.{Line, lineIn}
 use Rattle.sheet.specs.Limits.{mostLines}
 use Rattle.sheet.specs.Checked.{accepted, refused, _>>=_, require, isKind}
 use Rattle.sheet.specs.Lines.{lineAt, linesFrom}

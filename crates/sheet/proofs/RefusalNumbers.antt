@@ -5,7 +5,7 @@ use Prim.Native.Nat.{ℕ, zero, suc, _+_}
 use lib.Dec.{T}
 use lib.ListN.{length}
 use Rattle.words.specs.Word.{payloadOf}
-use Rattle.logic.specs.Table.{Line, lineIn}
+use Rattle.logic.specs.Formulas.{Line, lineIn}
 use Rattle.sheet.specs.Checked.{Checked, accepted, refused, _>>=_, require, between, wordAt, isKind}
 use Rattle.sheet.specs.Codes.{Code, constant, atom, unary, binary, unaryBounded, binaryBounded, unknown}
 use Rattle.sheet.specs.Lines.{constantAt, boundsAt, operatorBy, operatorAt, lineAt, linesFrom}

@@ -8,7 +8,7 @@ use Prim.Native.Nat.{ℕ, zero, suc, _+_, _-_}
 use lib.Dec.{T, eqb, ltb}
 use lib.ListN.{length}
 use Rattle.words.specs.Word.{bits, kindOf, payloadOf}
-use Rattle.logic.specs.Table.{Operator, Line, lineIn}
+use Rattle.logic.specs.Formulas.{Operator, Line, lineIn}
 use Rattle.sheet.specs.Limits.{mostLines}
 use Rattle.sheet.specs.Checked.{Checked, accepted, _>>=_, require, wordAt, isKind}
 use Rattle.sheet.specs.Codes.{Code, constant, atom, unary, binary, unaryBounded, binaryBounded, unknown, codeOf}

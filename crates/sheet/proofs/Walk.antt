@@ -9,7 +9,7 @@ use lib.Dec.{ltb}
 use lib.ListN.{length, getD, set, take, replicate, length-append, length-set, length-replicate}
 use lib.Seq.{length-take-le, take-length, take-take, take-append-seam, getD-take, getD-at}
 use borrow.Author.Tests.{ltb-true}
-use Rattle.logic.specs.Table.{Line, True, lineIn}
+use Rattle.logic.specs.Formulas.{Line, True, lineIn}
 use Rattle.sheet.specs.Limits.{mostLines}
 use Rattle.sheet.specs.Checked.{accepted, isKind}
 use Rattle.sheet.specs.Lines.{lineAt, linesFrom}

@@ -5,7 +5,7 @@ use mathlib.Core.List.{List}
 use lib.Dec.{ltb, eqb}
 use lib.ListN.{length}
 use Rattle.words.specs.Word.{bits, payloadOf}
-use Rattle.logic.specs.Table.{Line}
+use Rattle.logic.specs.Formulas.{Line}
 use Rattle.sheet.specs.declared.stages.Sizes as S
 use Rattle.sheet.specs.declared.stages.Head.{Head}
 use Rattle.sheet.specs.declared.stages.Head.the-variants as H

@@ -5,7 +5,7 @@ use mathlib.Core.List.{List}
 use lib.Dec.{ltb}
 use lib.IntN.{ℤ, pos}
 use Rattle.words.specs.Word.{bits}
-use Rattle.logic.specs.Table as Table
+use Rattle.logic.specs.Formulas as Formulas
 use Rattle.sheet.specs.declared.operator.Bounds.{Bounds}
 use Rattle.sheet.specs.declared.operator.Operator.{Operator}
 use Rattle.sheet.specs.declared.operator.Operator.the-variants.{True, AtLeast, AtMost, Not, And, Until, Somewhere, Surrounded, Or, Eventually, Always, Everywhere}
@@ -22,24 +22,24 @@ use Rattle.sheet.specs.Lines.{constantAt, boundsAt}
 
 -- ---- what the enums and structs of the code say
 
-abbrev pub operatorSaid : Operator → Table.Operator
-operatorSaid True = Table.True
-operatorSaid (AtLeast signal c) = Table.AtLeast signal c
-operatorSaid (AtMost signal c) = Table.AtMost signal c
-operatorSaid (Not left) = Table.Not left
-operatorSaid (And left right) = Table.And left right
-operatorSaid (Until left right b) = Table.Until left right (b .lower) (b .upper)
-operatorSaid (Somewhere left b) = Table.Somewhere left (b .lower) (b .upper)
-operatorSaid (Surrounded left right b) = Table.Surrounded left right (b .lower) (b .upper)
-operatorSaid (Or left right) = Table.Or left right
-operatorSaid (Eventually left b) = Table.Eventually left (b .lower) (b .upper)
-operatorSaid (Always left b) = Table.Always left (b .lower) (b .upper)
-operatorSaid (Everywhere left b) = Table.Everywhere left (b .lower) (b .upper)
+abbrev pub operatorSaid : Operator → Formulas.Operator
+operatorSaid True = Formulas.True
+operatorSaid (AtLeast signal c) = Formulas.AtLeast signal c
+operatorSaid (AtMost signal c) = Formulas.AtMost signal c
+operatorSaid (Not left) = Formulas.Not left
+operatorSaid (And left right) = Formulas.And left right
+operatorSaid (Until left right b) = Formulas.Until left right (b .lower) (b .upper)
+operatorSaid (Somewhere left b) = Formulas.Somewhere left (b .lower) (b .upper)
+operatorSaid (Surrounded left right b) = Formulas.Surrounded left right (b .lower) (b .upper)
+operatorSaid (Or left right) = Formulas.Or left right
+operatorSaid (Eventually left b) = Formulas.Eventually left (b .lower) (b .upper)
+operatorSaid (Always left b) = Formulas.Always left (b .lower) (b .upper)
+operatorSaid (Everywhere left b) = Formulas.Everywhere left (b .lower) (b .upper)
 
-abbrev pub lineSaid : Line → Table.Line
+abbrev pub lineSaid : Line → Formulas.Line
 lineSaid l = record { operator = operatorSaid (l .operator); length = l .length }
 
-abbrev pub decodedSaid : D.Decoded → Checked (Table.Line × ℕ)
+abbrev pub decodedSaid : D.Decoded → Checked (Formulas.Line × ℕ)
 decodedSaid (D.the-variants.Line line next) = accepted (lineSaid line, next)
 decodedSaid (D.the-variants.Refused fault place) = refused (faultNumber fault) place
 
@@ -51,7 +51,7 @@ abbrev pub boundsSaid : B.ReadBounds → Checked (ℕ × ℕ)
 boundsSaid (B.the-variants.Bounds b) = accepted (b .lower, b .upper)
 boundsSaid (B.the-variants.Refused fault place) = refused (faultNumber fault) place
 
-abbrev pub readSaid : O.ReadOperator → Checked (Table.Operator × ℕ)
+abbrev pub readSaid : O.ReadOperator → Checked (Formulas.Operator × ℕ)
 readSaid (O.the-variants.Operator operator next) = accepted (operatorSaid operator, next)
 readSaid (O.the-variants.Refused fault place) = refused (faultNumber fault) place
 
@@ -61,29 +61,29 @@ unfoldable pub fieldsOf : ℕ → Fields
 fieldsOf w = record { code = bits 20 8 w; left = bits 10 10 w; right = bits 0 10 w }
 
 -- what a code says of fields and parameters, those that it does not have left out
-abbrev pub operatorWith : Code → ℕ → ℕ → ℤ → ℕ → ℕ → Table.Operator
+abbrev pub operatorWith : Code → ℕ → ℕ → ℤ → ℕ → ℕ → Formulas.Operator
 operatorWith (constant o) left right c lower upper = o
 operatorWith (atom o) left right c lower upper = o left c
 operatorWith (unary o) left right c lower upper = o left
 operatorWith (binary o) left right c lower upper = o left right
 operatorWith (unaryBounded o) left right c lower upper = o left lower upper
 operatorWith (binaryBounded o) left right c lower upper = o left right lower upper
-operatorWith unknown left right c lower upper = Table.True
+operatorWith unknown left right c lower upper = Formulas.True
 
-abbrev pub operatorOf : Fields → ℤ → ℕ → ℕ → Table.Operator
+abbrev pub operatorOf : Fields → ℤ → ℕ → ℕ → Formulas.Operator
 operatorOf f c lower upper = operatorWith (codeOf (f .code)) (f .left) (f .right) c lower upper
 
 -- each field below its limit, else refusal 11; an unused field has the limit 1
-abbrev pub fieldsBelow : Fields → ℕ → ℕ → ℕ → Checked (Table.Operator × ℕ) → Checked (Table.Operator × ℕ)
+abbrev pub fieldsBelow : Fields → ℕ → ℕ → ℕ → Checked (Formulas.Operator × ℕ) → Checked (Formulas.Operator × ℕ)
 fieldsBelow f leftLimit rightLimit at next = require (ltb (f .left) leftLimit && ltb (f .right) rightLimit) 11 at next
 
-unfoldable pub plainRead : Fields → ℕ → ℕ → ℕ → Checked (Table.Operator × ℕ)
+unfoldable pub plainRead : Fields → ℕ → ℕ → ℕ → Checked (Formulas.Operator × ℕ)
 plainRead f leftLimit rightLimit at = fieldsBelow f leftLimit rightLimit at (accepted (operatorOf f (pos 0) 0 0, at + 1))
 
 module _ (s : List ℕ) where
-  unfoldable pub atomRead : Fields → ℕ → ℕ → Checked (Table.Operator × ℕ)
+  unfoldable pub atomRead : Fields → ℕ → ℕ → Checked (Formulas.Operator × ℕ)
   atomRead f signals at = fieldsBelow f signals 1 at (constantAt s (at + 1) >>= λ c. accepted (operatorOf f c 0 0, at + 2))
 
-  unfoldable pub boundedRead : Fields → ℕ → ℕ → ℕ → Checked (Table.Operator × ℕ)
+  unfoldable pub boundedRead : Fields → ℕ → ℕ → ℕ → Checked (Formulas.Operator × ℕ)
   boundedRead f leftLimit rightLimit at =
       fieldsBelow f leftLimit rightLimit at (boundsAt s (at + 1) >>= λ b. accepted (operatorOf f (pos 0) (b .0) (b .1), at + 3))

@@ -5,7 +5,7 @@ use mathlib.Core.List.{List, []}
 use lib.Dec.{ltb, leb, eqb}
 use lib.ListN.{length}
 use Rattle.words.specs.Word.{bits, payloadOf}
-use Rattle.logic.specs.Table.{Line}
+use Rattle.logic.specs.Formulas.{Line}
 use Rattle.sheet.specs.Limits.{mostPlaces, mostSignals, mostSamples, mostLines, leastDistances}
 use Rattle.sheet.specs.Checked.{Checked, accepted, _>>=_, require, between, wordAt, isKind}
 use Rattle.sheet.specs.Lines.{linesFrom}

@@ -6,7 +6,7 @@ use lib.Dec.{ltb, leb, eqb}
 use lib.ListN.{length}
 use lib.IntN.{ℤ}
 use Rattle.words.specs.Word.{bits, payloadOf, sampleOf}
-use Rattle.logic.specs.Table.{Operator, Line, lineIn, lengthOf}
+use Rattle.logic.specs.Formulas.{Operator, Line, lineIn, lengthOf}
 use Rattle.sheet.specs.Checked.{Checked, accepted, refused, _>>=_, require, wordAt, isKind}
 use Rattle.sheet.specs.Codes.{Code, constant, atom, unary, binary, unaryBounded, binaryBounded, unknown, codeOf}
 

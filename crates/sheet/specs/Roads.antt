@@ -7,7 +7,7 @@ use Rattle.words.specs.Word.{payloadOf, sampleOf}
 use Rattle.words.specs.Rows.{rows}
 use Rattle.logic.specs.Distance.{Distance, dist, none}
 use Rattle.logic.specs.Network.{Network, distanceIn}
-use Rattle.logic.specs.Table.{Recording}
+use Rattle.logic.specs.Formulas.{Recording}
 use Rattle.sheet.specs.Checked.{wordAt, isKind}
 use Rattle.sheet.specs.Layout.{Layout, roadAt, weightAt, firstPlace, secondPlace}
 

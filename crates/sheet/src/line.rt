@@ -7,7 +7,7 @@ ghost use mathlib.Core.Path.{_≡_};
 ghost use Prim.Native.Nat.{_-_, _≤_, _<_, min};
 ghost use lib.ListN.{length, getD};
 ghost use Rattle.words.specs.Bytes.{wordsOf};
-ghost use Rattle.logic.specs.Table.{lengthOf};
+ghost use Rattle.logic.specs.Formulas.{lengthOf};
 ghost use Rattle.sheet.specs.Limits.{mostSamples};
 ghost use Rattle.sheet.specs.Lines.{lineAt};
 ghost use Rattle.sheet.specs.Decoding.{operatorSaid, decodedSaid};

@@ -53,12 +53,7 @@ abbrev pub chainDifference : ℤ → ℕ
 chainDifference z = chainOf (leZ (pos 0) z) (finite z)
 
 abbrev pub chains : Reading
-chains = record {
-  lattice = chainLattice;
-  opposite = chainOpposite;
-  atLeast = λ x c. chainDifference (x -ℤ c);
-  atMost = λ x c. chainDifference (c -ℤ x);
-}
+chains = record { lattice = chainLattice; opposite = chainOpposite; atom = chainDifference }
 
 -- the word of a chain number, and the number of a word
 unfoldable pub chainWord : ℕ → ℕ

@@ -3,7 +3,7 @@ ghost use mathlib.Core.Path.{_≡_};
 ghost use Prim.Native.Nat.{_-_, _≤_, _<_, _^_};
 ghost use lib.IntN.{_-ℤ_, natAbs};
 ghost use Rattle.logic.specs.Margin.{finite, negate};
-ghost use Rattle.logic.proofs.Small.{InBits};
+ghost use Rattle.logic.specs.Formulas.{InBits};
 ghost use Rattle.values.specs.Chain.{marginCode, marginAt, highest, chainOf, chainVerdict, chainLattice, chainOpposite, chainDifference, chainWord, wordChain};
 
 // A margin by its place in the order of margins: 0 is minus infinity, 2^27 + z the number z, 2^28 plus infinity.
@@ -65,7 +65,7 @@ pub fn yes(c: u32) -> bool
 
 // What an atom is worth, by the difference of a sample and a constant.
 pub fn difference(x: i32, c: i32) -> u32
-    requires { ⌜ InBits 26 x × InBits 26 c ⌝ }
+    requires { ⌜ InBits 27 x × InBits 27 c ⌝ }
     ensures { λ r. ⌜ r ≡ chainDifference (x -ℤ c) ⌝ }
 {
     let z = x - c;

@@ -7,9 +7,10 @@ use native.Mathlib.Nat.{le-of-lt}
 use lib.Dec.{T, ltb, ltb→lt}
 use lib.ListN.{length}
 use Rattle.logic.specs.Network.{Network}
-use Rattle.logic.specs.Table.{Line, lineIn, Recording, verdicts, margins, valueAt}
+use Rattle.logic.specs.Formulas.{Line, lineIn, Recording, InBits}
+use Rattle.logic.specs.Table.{verdicts, margins, valueAt}
 use Rattle.logic.proofs.Agreement.{agreement}
-use Rattle.logic.proofs.Small.{InBits, margins-small}
+use Rattle.logic.proofs.Small.{margins-small}
 use Rattle.logic.proofs.TableKeeps.{ConstantsIn}
 use Rattle.sheet.specs.Checked.{wordAt}
 use Rattle.values.specs.Said.{Said, says, nothing, saidBy}
@@ -27,7 +28,7 @@ same-choice p q r true true false a b c e f g h = rw (e, f tt, g) refl
 same-choice p q r true true true a b c e f g h = rw (e, f tt, g) (h tt tt tt)
 
 module _ (N : Network) (T : ℕ) (x : Recording) (lines : List Line) (room : ℕ) (fits : InFields (N.places) T lines)
-    (samples : (s t l : ℕ) → InBits 26 (x s t l)) (constants : ConstantsIn (InBits 26) lines) where
+    (samples : (s t l : ℕ) → InBits 27 (x s t l)) (constants : ConstantsIn (InBits 27) lines) where
   -- verdict and margin of the definition
   abbrev pub meant : ℕ → ℕ → ℕ → Said
   meant i t l = says (valueAt verdicts N x lines i t l) (valueAt margins N x lines i t l)

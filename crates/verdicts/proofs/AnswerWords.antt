@@ -11,7 +11,7 @@ use Rattle.words.specs.Rows.{concat, padded}
 use Rattle.words.proofs.Rows.{length-rows, getD-rows, in-table}
 use Rattle.words.proofs.Concat.{concat-length, start-below, concat-at}
 use Rattle.logic.specs.Network.{Network}
-use Rattle.logic.specs.Table.{Line, lineIn, Recording}
+use Rattle.logic.specs.Formulas.{Line, lineIn, Recording}
 use Rattle.logic.specs.Counts.{sumBelow}
 use Rattle.sheet.specs.Checked.{wordAt}
 use Rattle.verdicts.specs.Answer.{lineIndex, wordFor, lineWords, headWord, answerWords}

@@ -7,7 +7,8 @@ use Prim.Native.Nat.{ℕ, _+_}
 use lib.ListN.{replicate}
 use lib.IntN.{pos, negsuc}
 use Rattle.logic.specs.Margin.{minusInfinity, finite, plusInfinity}
-use Rattle.logic.specs.Table.{AtLeast, Surrounded, margins, valueAt}
+use Rattle.logic.specs.Formulas.{AtLeast, Surrounded}
+use Rattle.logic.specs.Table.{margins, valueAt}
 use Rattle.logic.specs.Counts.{roundsAt}
 use Rattle.sheet.specs.Checked.{Checked, accepted, refused}
 use Rattle.sheet.specs.Layout.{Layout, checked}

@@ -10,7 +10,8 @@ use lib.Dec.{ltb, ltb→lt, T}
 use lib.ListN.{length, getD}
 use borrow.Author.Tests.{lt-ltb}
 use Rattle.logic.specs.Network.{Network}
-use Rattle.logic.specs.Table.{Operator, Line, lineIn, lengthOf, Recording, Reading, Signal, everTrue, value, valuesAfter, valueAt}
+use Rattle.logic.specs.Formulas.{Operator, Line, lineIn, lengthOf, Recording}
+use Rattle.logic.specs.Table.{Reading, Signal, everTrue, value, valuesAfter, valueAt}
 use Rattle.logic.proofs.TableSteps.{before}
 use Rattle.logic.proofs.ValueSame.{value-same}
 use Rattle.sheet.proofs.AcceptedLines.{lengthsOf, GoodLine, GoodTable, length-same}

@@ -19,9 +19,10 @@ use Rattle.words.proofs.Words.{words-drop}
 use Rattle.logic.specs.Distance.{Distance, dist, none, inRange}
 use Rattle.logic.specs.Lattice.{greatestOver}
 use Rattle.logic.specs.Network.{distanceIn, within}
-use Rattle.logic.specs.Table.{Operator, True, AtLeast, AtMost, Not, And, Until, Somewhere, Surrounded, Or, Eventually, Always, Everywhere, Signal, somewhereAt}
+use Rattle.logic.specs.Formulas.{Operator, True, AtLeast, AtMost, Not, And, Until, Somewhere, Surrounded, Or, Eventually, Always, Everywhere, InBits}
+use Rattle.logic.specs.Table.{Signal, somewhereAt}
 use Rattle.logic.proofs.Keeps.{surround-kept}
-use Rattle.logic.proofs.Small.{InBits, difference-small}
+use Rattle.logic.proofs.Small.{difference-small}
 use Rattle.logic.proofs.TableKeeps.{ConstantIn, value-kept}
 use Rattle.sheet.specs.declared.check.Layout.{Layout}
 use Rattle.sheet.specs.Checked.{wordAt}
@@ -45,7 +46,7 @@ surround-bound words left right n sheet roads distances lower upper t centre = s
     (signalIn words left n t) (signalIn words right n t) (signalIn words left n t) (signalIn words right n t)
     (λ k _. signal-bound words left n t k) (λ k _. signal-bound words right n t k) _ _ centre
 
-readable-constant : (L : Layout) (words starts : List ℕ) (o : Operator) (t : ℕ) → Readable L words starts o t → ConstantIn (InBits 26) o
+readable-constant : (L : Layout) (words starts : List ℕ) (o : Operator) (t : ℕ) → Readable L words starts o t → ConstantIn (InBits 27) o
 readable-constant L words starts True t r = tt
 readable-constant L words starts (AtLeast x c) t r = r .2
 readable-constant L words starts (AtMost x c) t r = r .2
@@ -60,13 +61,13 @@ readable-constant L words starts (Always i lower upper) t r = tt
 readable-constant L words starts (Everywhere i lower upper) t r = tt
 
 module _ (s : List ℕ) (L : Layout) where
-  recording-bits : (x t l : ℕ) → InBits 26 (sheetRecording s L x t l)
+  recording-bits : (x t l : ℕ) → InBits 27 (sheetRecording s L x t l)
   unfolding sheetRecording
   recording-bits x t l = sample-bits (wordAt s (L .recording + ((t * L .places + l) * L .signals + x)))
 
   pub line-bound : (words starts : List ℕ) (o : Operator) (t l : ℕ) → Readable L words starts o t → l < L .places → lineValue s L words starts o t l ≤ highest
   unfolding lineValue
-  line-bound words starts o t l r b = value-kept chains chains (sheetNetwork s L) (λ c _. c ≤ highest) bounded-kept (λ c _ _. omega arith) (InBits 26)
+  line-bound words starts o t l r b = value-kept chains chains (sheetNetwork s L) (λ c _. c ≤ highest) bounded-kept (λ c _ _. omega arith) (InBits 27)
       (sheetRecording s L) (sheetRecording s L)
       (λ x u k c fit. valid-difference (sheetRecording s L x u k -ℤ c) (difference-small (sheetRecording s L x u k) c (recording-bits x u k) fit) .bounded)
       (λ x u k c fit. valid-difference (c -ℤ sheetRecording s L x u k) (difference-small c (sheetRecording s L x u k) fit (recording-bits x u k)) .bounded)
@@ -83,7 +84,7 @@ sample-inside L {t} h =
     rw e at (mul-le-mul-right (L .signals) (mul-le-mul-right (L .places) later))
 
 -- a constant as the machine holds it is the constant
-pub constant-kept : (c : ℤ) → InBits 26 c → toZ w32 (ofZ w32 c) ≡ c
+pub constant-kept : (c : ℤ) → InBits 27 c → toZ w32 (ofZ w32 c) ≡ c
 constant-kept (pos x) h = toZ-ofZ (small-fits (pos x) (omega arith))
 constant-kept (negsuc x) h = toZ-ofZ (small-fits (negsuc x) (omega arith))
 

@@ -10,7 +10,8 @@ use lib.ListN.{length}
 use lib.IntN.{natAbs, _-ℤ_}
 use Rattle.logic.specs.Margin.{Margin}
 use Rattle.logic.specs.Network.{Network}
-use Rattle.logic.specs.Table.{Line, lineIn, Recording, verdicts, margins, valueAt}
+use Rattle.logic.specs.Formulas.{Line, lineIn, Recording}
+use Rattle.logic.specs.Table.{verdicts, margins, valueAt}
 use Rattle.logic.proofs.Tests.{and-r}
 use Rattle.logic.proofs.Steadiness.{steady}
 use Rattle.logic.proofs.Agreement.{agreement, same-verdict}

@@ -11,10 +11,9 @@ use lib.ListN.{length}
 use Rattle.words.specs.Word.{bits, kindOf, payloadOf, wordOf}
 use Rattle.logic.specs.Lattice.{verdictLattice, leastOver}
 use Rattle.logic.specs.Network.{Network}
-use Rattle.logic.specs.Table.{Line, lineIn, Recording}
+use Rattle.logic.specs.Formulas.{Line, lineIn, Recording, InBits}
 use Rattle.logic.specs.Counts.{sumBelow}
 use Rattle.logic.proofs.Tests.{and-i, all-i}
-use Rattle.logic.proofs.Small.{InBits}
 use Rattle.logic.proofs.TableKeeps.{ConstantsIn}
 use Rattle.sheet.specs.Limits.{mostPlaces, mostLines}
 use Rattle.sheet.specs.Checked.{between, wordAt, isKind}
@@ -59,7 +58,7 @@ index-bound n horizon lines sizes (suc i) h =
     omega (arith, index-bound n horizon lines sizes i (le-of-lt h))
 
 module _ (N : Network) (horizon : ℕ) (x : Recording) (lines : List Line) (room : ℕ) (fits : InFields (N.places) horizon lines)
-    (samples : (s t l : ℕ) → InBits 26 (x s t l)) (constants : ConstantsIn (InBits 26) lines) (sizes : InAnswer (N.places) horizon lines) where
+    (samples : (s t l : ℕ) → InBits 27 (x s t l)) (constants : ConstantsIn (InBits 27) lines) (sizes : InAnswer (N.places) horizon lines) where
   abbrev a : List ℕ
   a = answer N horizon x lines room fits
 

@@ -5,7 +5,8 @@ use lib.ListN.{length}
 use Rattle.words.specs.Word.{wordOf}
 use Rattle.words.specs.Rows.{concat, rows}
 use Rattle.logic.specs.Network.{Network}
-use Rattle.logic.specs.Table.{Line, lineIn, Recording, verdicts, margins, valueAt}
+use Rattle.logic.specs.Formulas.{Line, lineIn, Recording}
+use Rattle.logic.specs.Table.{verdicts, margins, valueAt}
 use Rattle.logic.specs.Counts.{sumBelow}
 use Rattle.values.specs.Said.{verdictWord}
 

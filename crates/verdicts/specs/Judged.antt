@@ -7,7 +7,7 @@ use lib.Dec.{leb}
 use lib.ListN.{length, replicate}
 use Rattle.words.specs.Rows.{padded}
 use Rattle.logic.specs.Network.{Network}
-use Rattle.logic.specs.Table.{Recording}
+use Rattle.logic.specs.Formulas.{Recording}
 use Rattle.logic.specs.Counts.{greatestRounds, yesCount}
 use Rattle.sheet.specs.Checked.{Checked, accepted, refused}
 use Rattle.sheet.specs.Layout.{Layout, checked}

@@ -6,9 +6,9 @@ use mathlib.Core.Path.{_≡_}
 use lib.ListN.{length, getD}
 use Rattle.words.specs.Word.{sampleOf}
 use Rattle.logic.specs.Network.{Network, distanceIn}
-use Rattle.logic.specs.Table.{Operator, True, AtLeast, AtMost, Not, And, Until, Somewhere, Surrounded, Or, Eventually, Always, Everywhere, Recording, Signal, value}
+use Rattle.logic.specs.Formulas.{Operator, True, AtLeast, AtMost, Not, And, Until, Somewhere, Surrounded, Or, Eventually, Always, Everywhere, Recording, InBits}
+use Rattle.logic.specs.Table.{Signal, value}
 use Rattle.logic.specs.Counts.{roundsAt}
-use Rattle.logic.proofs.Small.{InBits}
 use Rattle.sheet.specs.declared.check.Layout.{Layout}
 use Rattle.sheet.specs.Checked.{wordAt}
 use Rattle.sheet.specs.Limits.{mostPlaces, mostSignals, mostSamples}
@@ -55,8 +55,8 @@ pub record Written (L : Layout) (words starts : List ℕ) (j t : ℕ) : Type 0 w
 -- what an operator reads at sample t is there; those over space are not evaluated sample by sample
 abbrev pub Readable : Layout → List ℕ → List ℕ → Operator → ℕ → Type 0
 Readable L words starts True t = Unit {0}
-Readable L words starts (AtLeast signal c) t = (signal < L .signals) × (t < L .samples) × InBits 26 c
-Readable L words starts (AtMost signal c) t = (signal < L .signals) × (t < L .samples) × InBits 26 c
+Readable L words starts (AtLeast signal c) t = (signal < L .signals) × (t < L .samples) × InBits 27 c
+Readable L words starts (AtMost signal c) t = (signal < L .signals) × (t < L .samples) × InBits 27 c
 Readable L words starts (Not i) t = Written L words starts i t
 Readable L words starts (And i j) t = Written L words starts i t × Written L words starts j t
 Readable L words starts (Until i j lower upper) t = (lower ≤ upper) × Written L words starts i (t + upper) × Written L words starts j (t + upper)

@@ -13,7 +13,7 @@ ghost use Prim.Native.Nat.{ℕ, suc, _+_, _*_, _≤_, _<_};
 ghost use lib.ListN.{length};
 ghost use Rattle.words.specs.Bytes.{wordsOf};
 ghost use Rattle.logic.specs.Table.{untilAt, opposite};
-ghost use Rattle.logic.proofs.Small.{InBits};
+ghost use Rattle.logic.specs.Formulas.{InBits};
 ghost use Rattle.sheet.specs.Decoding.{operatorSaid};
 ghost use Rattle.values.specs.Chain.{chains};
 ghost use Rattle.operators.specs.Rows.{Filled, atomValue, andAt, eventuallyAt};
@@ -29,7 +29,7 @@ fn recorded_row(
     t: usize,
     row: &mut [u32],
 )
-    requires { ⌜ (signal < layout .signals) × (layout .recording + (t + 1) * layout .places * layout .signals ≤ length (wordsOf (now sheet))) × InBits 26 constant × (layout .places ≤ length (now row)) ⌝ }
+    requires { ⌜ (signal < layout .signals) × (layout .recording + (t + 1) * layout .places * layout .signals ≤ length (wordsOf (now sheet))) × InBits 27 constant × (layout .places ≤ length (now row)) ⌝ }
     ensures { λ _. ⌜ Filled (layout .places) (λ l. atomValue least (sheetRecording (wordsOf (now (sheet .entry))) layout signal t l) constant) (now (row .exit)) ⌝ }
 {
     let begin = layout.recording * 4;

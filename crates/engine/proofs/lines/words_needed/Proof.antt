@@ -6,7 +6,7 @@ use native.Mathlib.Omega.{arith}
 use lib.ListN.{length}
 use borrow.Author.Needs.{needs}
 use Rattle.words.specs.Bytes.{wordsOf, numbersOf}
-use Rattle.logic.specs.Table.{Line}
+use Rattle.logic.specs.Formulas.{Line}
 use Rattle.logic.specs.Counts.{sumBelow}
 use Rattle.sheet.specs.declared.check.Layout.{Layout}
 use Rattle.sheet.specs.Limits.{mostLines}

@@ -6,7 +6,7 @@ use native.Mathlib.Omega.{arith}
 use lib.ListN.{length, set}
 use borrow.Author.Needs.{needs}
 use Rattle.words.specs.Bytes.{wordsOf, numbersOf}
-use Rattle.logic.specs.Table.{Line}
+use Rattle.logic.specs.Formulas.{Line}
 use Rattle.sheet.specs.Limits.{mostLines}
 use Rattle.sheet.proofs.Walk.{Walk, walk-step}
 use Rattle.verdicts.specs.Tally.{together}

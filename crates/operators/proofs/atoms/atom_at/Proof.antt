@@ -9,7 +9,7 @@ use mir.Facts.{toZ-ofZ}
 use borrow.Author.Needs.{needs}
 use Rattle.words.specs.Word.{sampleOf}
 use Rattle.words.specs.Bytes.{wordsOf}
-use Rattle.logic.proofs.Small.{InBits}
+use Rattle.logic.specs.Formulas.{InBits}
 use Rattle.sheet.proofs.AcceptedLines.{sample-bits}
 use Rattle.values.specs.Chain.{chainDifference}
 use Rattle.operators.proofs.atoms.atom_at.Statement.{statement}
@@ -34,10 +34,10 @@ module _ (c : tie.After-sample) where
   compared : toZ w32 (ofZ w32 (start .args .constant)) ≡ start .args .constant
   compared = toZ-ofZ (start .fits .constant)
 
-  sample-fits : InBits 26 (toZ w32 (ofZ w32 (c .sample .result)))
+  sample-fits : InBits 27 (toZ w32 (ofZ w32 (c .sample .result)))
   sample-fits = rw sampled (sample-bits word)
 
-  constant-fits : InBits 26 (toZ w32 (ofZ w32 (start .args .constant)))
+  constant-fits : InBits 27 (toZ w32 (ofZ w32 (start .args .constant)))
   constant-fits = rw compared (start .pre .1)
 
 difference-requires : tie.Need-difference-requires

@@ -3,7 +3,7 @@ use mathlib.Core.Path.{_≡_, sym, _∙_, ap}
 use Prim.Native.Nat.{ℕ, _-_}
 use mathlib.Core.List.{List}
 use lib.ListN.{getD}
-use Rattle.logic.specs.Table.{lengthOf}
+use Rattle.logic.specs.Formulas.{lengthOf}
 use Rattle.sheet.specs.declared.operator.Operator.{Operator}
 use Rattle.sheet.specs.Decoding.{operatorSaid}
 use borrow.Author.Needs.{needs}

@@ -3,14 +3,14 @@ use mathlib.Core.Path.{_≡_, sym, ap, subst, _∙_}
 use mathlib.Core.List.{List}
 use Prim.Native.Nat.{ℕ, suc, _+_, _*_, _≤_, _<_}
 use native.Mathlib.Omega.{arith}
-use lib.IntN.{ℤ}
+use lib.IntN.{ℤ, _-ℤ_}
 use lib.ListN.{length}
 use mir.Syntax.{w32}
 use mir.Val.{toZ, ofZ}
 use borrow.Author.Needs.{needs}
 use Rattle.words.specs.Bytes.{wordsOf}
 use Rattle.logic.specs.Table.{value}
-use Rattle.logic.proofs.Small.{InBits}
+use Rattle.logic.specs.Formulas.{InBits}
 use Rattle.sheet.specs.declared.operator.Operator.{Operator}
 use Rattle.sheet.specs.Decoding.{operatorSaid}
 use Rattle.values.specs.Chain.{chains}
@@ -47,9 +47,9 @@ module _ (c : tie.After-slice-known) where
   told : {o : Operator} {row : List ℕ} → start .args .operator ≡ o → Row (Value o (start .args .t)) row → Row (Value (start .args .operator) (start .args .t)) row
   told {o} {row} e filled = subst (λ p. Row (Value p (start .args .t)) row) (sym e) filled
 
-  atoms-inside : {x : ℕ} (k : ℤ) → (x < start .args .layout .signals) × (start .args .t < start .args .layout .samples) × InBits 26 k → (x < start .args .layout .signals)
+  atoms-inside : {x : ℕ} (k : ℤ) → (x < start .args .layout .signals) × (start .args .t < start .args .layout .samples) × InBits 27 k → (x < start .args .layout .signals)
       × (start .args .layout .recording + (start .args .t + 1) * start .args .layout .places * start .args .layout .signals ≤ length (wordsOf (start .args .sheet .now)))
-      × InBits 26 (toZ w32 (ofZ w32 k)) × (start .args .layout .places ≤ length (start .args .row .now))
+      × InBits 27 (toZ w32 (ofZ w32 k)) × (start .args .layout .places ≤ length (start .args .row .now))
   atoms-inside k (signal, sample, bits) =
       (signal, omega (arith, sample-inside (start .args .layout) sample, start .pre .0 .recorded), rw (constant-kept k bits) bits, start .pre .3)
 
@@ -145,7 +145,7 @@ unfolding lineValue value
 returns-2 c =
     let known = c .before .before .before .before .before .before .before in
     let which = c .before .before .before .before .before .operator .given in
-    told known (which .1) (record { at = λ l b. c .before .before .recorded-row .ensures .at l b ∙ ap (chains .atLeast (Sample known (which .0 .0) l)) (constant-kept (which .0 .1 .0) (readable known (which .1) .2)) })
+    told known (which .1) (record { at = λ l b. c .before .before .recorded-row .ensures .at l b ∙ ap (λ k. chains .atom (Sample known (which .0 .0) l -ℤ k)) (constant-kept (which .0 .1 .0) (readable known (which .1) .2)) })
 
 same-length-3 : tie.Need-same-length-3
 same-length-3 c = search needs
@@ -155,7 +155,7 @@ unfolding lineValue value
 returns-3 c =
     let known = c .before .before .before .before .before .before .before in
     let which = c .before .before .before .before .before .operator2 .given in
-    told known (which .1) (record { at = λ l b. c .before .before .recorded-row2 .ensures .at l b ∙ ap (chains .atMost (Sample known (which .0 .0) l)) (constant-kept (which .0 .1 .0) (readable known (which .1) .2)) })
+    told known (which .1) (record { at = λ l b. c .before .before .recorded-row2 .ensures .at l b ∙ ap (λ k. chains .atom (k -ℤ Sample known (which .0 .0) l)) (constant-kept (which .0 .1 .0) (readable known (which .1) .2)) })
 
 same-length-4 : tie.Need-same-length-4
 same-length-4 c = search needs
