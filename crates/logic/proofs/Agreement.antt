@@ -17,7 +17,7 @@ use Rattle.logic.specs.Table.{verdicts, margins, valueAt}
 use Rattle.logic.specs.Steadiness.{Near, Beyond, Agree}
 use Rattle.logic.proofs.Keeps.{Keeps}
 use Rattle.logic.proofs.Order.{Up, le→up, up→le, up-negate, atMost-trans, atMost-total, near}
-use Rattle.logic.proofs.Margins.{meet-by, join-by}
+use Rattle.logic.proofs.TotalOrder.{meet-by, join-by}
 use Rattle.logic.proofs.TableKeeps.{any-constants, valueAt-kept}
 
 abbrev zeroMargin : Margin

@@ -6,7 +6,7 @@ use mathlib.Core.List.{List, [], _∷_}
 use Prim.Native.Nat.{ℕ, zero, suc, _<_}
 use native.Mathlib.Nat.{lt-suc-self, le-suc, le-trans}
 use Rattle.logic.specs.Lattice.{Lattice, leastOver, greatestOver}
-use Rattle.logic.specs.Surround.{holds, greatestRegion, allowed, regionValue, surround, unbounded}
+use Rattle.logic.specs.Surround.{holds, greatestRegion, allowed, regionValue, surround}
 use Rattle.logic.specs.Iteration.{iterate, masked}
 
 pub record Keeps (L M : Lattice) (R : L.Value → M.Value → Type 0) : Type 0 where
@@ -53,10 +53,6 @@ module _ (L M : Lattice) (R : L.Value → M.Value → Type 0) (K : Keeps L M R) 
     pub regionValue-kept : (A : ℕ → Bool) → R (regionValue L joined n p q A) (regionValue M joined n p′ q′ A)
     unfolding regionValue
     regionValue-kept A = K.keeps-meet _ _ _ _ (least-kept A p p′ n hp) (least-kept _ q q′ n hq)
-
-    pub unbounded-kept : (l : ℕ) → R (unbounded L joined n p q l) (unbounded M joined n p′ q′ l)
-    unfolding unbounded
-    unbounded-kept l = region-kept n _ _ (λ A. cond-kept (holds A l) _ _ _ _ (regionValue-kept (holds A)) K.keeps-bottom)
 
     pub surround-kept : (inside edge : ℕ → Bool) (l : ℕ) → R (surround L joined n inside edge p q l) (surround M joined n inside edge p′ q′ l)
     unfolding surround

@@ -3,11 +3,12 @@ use mathlib.Core.Path.{_≡_, refl, sym, ap, _∙_}
 use mathlib.Core.Bool.{Bool, true, false, cond, _&&_, and-false}
 use Prim.Native.Nat.{ℕ}
 use Rattle.logic.specs.Lattice.{Lattice, verdictLattice, leastOver}
-use Rattle.logic.specs.Surround.{holds, greatestRegion, allowed, regionValue, surround, unbounded}
+use Rattle.logic.specs.Surround.{holds, greatestRegion, allowed, regionValue, surround}
 use Rattle.logic.specs.Iteration.{masked}
 use Rattle.logic.proofs.Tests.{bool-ext, and-i, and-l, and-r, when-e, when-i, all-e, all-i}
-use Rattle.logic.proofs.Keeps.{unbounded-kept, surround-kept, masked-kept}
+use Rattle.logic.proofs.Keeps.{surround-kept, masked-kept}
 use Rattle.logic.proofs.Thresholds.{Apart, Reads}
+use Rattle.logic.proofs.Unbounded.{unboundedSurround, unbounded-kept}
 
 all-masked : (A t f : ℕ → Bool) (n : ℕ) → leastOver verdictLattice A (masked verdictLattice t f) n ≡ (leastOver verdictLattice A t n && leastOver verdictLattice A f n)
 unfolding masked
@@ -26,8 +27,8 @@ regroup true true false u v = sym (and-false u)
 regroup true true true u v = refl
 
 bool-masked : (joined : ℕ → ℕ → Bool) (n : ℕ) (inside edge p q : ℕ → Bool) (l : ℕ)
-    → surround verdictLattice joined n inside edge p q l ≡ unbounded verdictLattice joined n (masked verdictLattice inside p) (masked verdictLattice edge q) l
-unfolding surround unbounded allowed regionValue
+    → surround verdictLattice joined n inside edge p q l ≡ unboundedSurround verdictLattice joined n (masked verdictLattice inside p) (masked verdictLattice edge q) l
+unfolding surround unboundedSurround allowed regionValue
 bool-masked joined n inside edge p q l = ap (greatestRegion verdictLattice n) (λ i R. each (holds R) i)
   where
     each : (A : ℕ → Bool) → cond (allowed joined n inside edge l A) (regionValue verdictLattice joined n p q A) false
@@ -35,7 +36,7 @@ bool-masked joined n inside edge p q l = ap (greatestRegion verdictLattice n) (�
     each A = simp (all-masked, regroup)
 
 module _ (L : Lattice) (apart : Apart L) (joined : ℕ → ℕ → Bool) (n : ℕ) (inside edge : ℕ → Bool) (p q : ℕ → L.Value) where
-  pub corollary : (l : ℕ) → surround L joined n inside edge p q l ≡ unbounded L joined n (masked L inside p) (masked L edge q) l
+  pub corollary : (l : ℕ) → surround L joined n inside edge p q l ≡ unboundedSurround L joined n (masked L inside p) (masked L edge q) l
   corollary l = apart _ _ (λ h K.
       surround-kept L verdictLattice (Reads L h) K joined n p q (λ k. h (p k)) (λ k. h (q k)) (λ _ _. refl) (λ _ _. refl) inside edge l
       ∙ bool-masked joined n inside edge (λ k. h (p k)) (λ k. h (q k)) l

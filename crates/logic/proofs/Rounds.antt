@@ -6,15 +6,15 @@ use native.Mathlib.Nat.{not-suc-le-zero, le-of-suc-le-suc, le-antisymm}
 use native.Mathlib.Omega.{arith}
 use lib.Dec.{T, T-not}
 use Rattle.logic.specs.Margin.{Margin, atMost, marginLattice}
-use Rattle.logic.specs.Surround.{surround, unbounded}
+use Rattle.logic.specs.Surround.{surround}
 use Rattle.logic.specs.Iteration.{iterate, masked, first, atRest, rounds}
 use Rattle.logic.proofs.Tests.{and-l, and-r, and-i, all-e, all-i}
 use Rattle.logic.proofs.Keeps.{same-kept, iterate-kept}
 use Rattle.logic.proofs.Resting.{Rests, rests-on}
 use Rattle.logic.proofs.Order.{atMost-anti}
 use Rattle.logic.proofs.Margins.{margin-apart, margin-refl}
-use Rattle.logic.proofs.Thresholds.{limit-at, settled}
-use Rattle.logic.proofs.Masking.{corollary}
+use Rattle.logic.proofs.Thresholds.{settled}
+use Rattle.logic.proofs.Limit.{rested}
 
 -- ---- the first number that passes
 pub first-le : (t : ℕ → Bool) (d : ℕ) → first t d ≤ d
@@ -90,11 +90,6 @@ module _ (joined : ℕ → ℕ → Bool) (n : ℕ) (p q : ℕ → Margin) where
   unfolding rounds
   rounds-least i h = let late : i < first (atRest joined n p q) (pred n) → ⊥ = λ b. T-not (atRest joined n p q i) (first-not (atRest joined n p q) (pred n) i b) (rest-i i h) in omega arith
 
-  -- Theorem 4.5 for margins: what the last round leaves is the unbounded
-  pub theorem : (l : ℕ) → l < n → iterate marginLattice joined n p q (rounds joined n p q) l ≡ unbounded marginLattice joined n p q l
-  unfolding rounds last
-  theorem l b = rest-e last at-last l b ∙ limit-at marginLattice margin-apart joined n p q last (rest-e last at-last) l b
-
 -- the rounds depend on the margins of the n places alone
 module _ (joined : ℕ → ℕ → Bool) (n : ℕ) where
   rounds-at-most : (p q p′ q′ : ℕ → Margin) → ((l : ℕ) → l < n → p l ≡ p′ l) → ((l : ℕ) → l < n → q l ≡ q′ l) → rounds joined n p q ≤ rounds joined n p′ q′
@@ -107,9 +102,14 @@ module _ (joined : ℕ → ℕ → Bool) (n : ℕ) where
   pub rounds-same : (p q p′ q′ : ℕ → Margin) → ((l : ℕ) → l < n → p l ≡ p′ l) → ((l : ℕ) → l < n → q l ≡ q′ l) → rounds joined n p q ≡ rounds joined n p′ q′
   rounds-same p q p′ q′ hp hq = le-antisymm (rounds-at-most p q p′ q′ hp hq) (rounds-at-most p′ q′ p q (λ l b. sym (hp l b)) (λ l b. sym (hq l b)))
 
--- with Corollary 4.6: the unbounded within bounds, by the iteration on the masked values
-pub theorem-in : (joined : ℕ → ℕ → Bool) (n : ℕ) (inside edge : ℕ → Bool) (p q : ℕ → Margin) (l : ℕ) → l < n
-    → iterate marginLattice joined n (masked marginLattice inside p) (masked marginLattice edge q) (rounds joined n (masked marginLattice inside p) (masked marginLattice edge q)) l
-    ≡ surround marginLattice joined n inside edge p q l
-theorem-in joined n inside edge p q l b =
-    theorem joined n (masked marginLattice inside p) (masked marginLattice edge q) l b ∙ sym (corollary marginLattice margin-apart joined n inside edge p q l)
+-- what the last round leaves on the masked margins is the surround
+module _ (joined : ℕ → ℕ → Bool) (n : ℕ) (inside edge : ℕ → Bool) (left right : ℕ → Margin) where
+  abbrev p : ℕ → Margin
+  p = masked marginLattice inside left
+
+  abbrev q : ℕ → Margin
+  q = masked marginLattice edge right
+
+  pub last-round : (l : ℕ) → l < n → iterate marginLattice joined n p q (rounds joined n p q) l ≡ surround marginLattice joined n inside edge left right l
+  unfolding rounds last
+  last-round l b = let rest = rest-e joined n p q (last joined n p q) (at-last joined n p q) in rest l b ∙ rested marginLattice margin-apart joined n inside edge left right (last joined n p q) rest l b

@@ -1,6 +1,6 @@
 -- Margins of samples and constants of 27 bits are below 2^27 in size, over every table: so they fit 28 bits and never are -2^27.
 use mathlib.Core.List.{List}
-use Prim.Native.Nat.{ℕ, zero, suc, _<_, _≤_, _^_}
+use Prim.Native.Nat.{ℕ, zero, suc, _-_, _<_, _≤_, _^_}
 use native.Mathlib.Omega.{arith}
 use lib.IntN.{ℤ, pos, negsuc, natAbs, _-ℤ_}
 use Rattle.logic.specs.Margin.{Margin, minusInfinity, finite, plusInfinity, atMost, negate, marginLattice}
@@ -9,7 +9,7 @@ use Rattle.logic.specs.Formulas.{Line, Recording, InBits}
 use Rattle.logic.specs.Table.{margins, valueAt}
 use Rattle.logic.proofs.Keeps.{Keeps}
 use Rattle.logic.proofs.Order.{UpZ, nearZ, atMost-trans, atMost-total}
-use Rattle.logic.proofs.Margins.{meet-by, join-by}
+use Rattle.logic.proofs.TotalOrder.{each-kept}
 use Rattle.logic.proofs.TableKeeps.{ConstantsIn, valueAt-kept}
 
 abbrev pub Small : Margin → Type 0
@@ -25,14 +25,9 @@ small-negate (finite (negsuc x)) h = h
 small-negate plusInfinity h = tt
 
 small-kept : Keeps marginLattice marginLattice (λ a _. Small a)
-small-kept = record {
-  keeps-top = tt;
-  keeps-bottom = tt;
-  keeps-meet = λ a b c d h k. meet-by atMost minusInfinity plusInfinity atMost-trans atMost-total Small a b (λ _. h) (λ _. k);
-  keeps-join = λ a b c d h k. join-by atMost minusInfinity plusInfinity atMost-trans atMost-total Small a b (λ _. k) (λ _. h);
-}
+small-kept = each-kept atMost minusInfinity plusInfinity atMost-trans atMost-total Small tt tt
 
-up-small : (a b : ℤ) → InBits 27 a → InBits 27 b → UpZ 134217727 a b
+up-small : (a b : ℤ) → InBits 27 a → InBits 27 b → UpZ (2 ^ 27 - 1) a b
 up-small (pos a) (pos b) h k = omega arith
 up-small (pos a) (negsuc b) h k = omega arith
 up-small (negsuc a) (pos b) h k = tt
@@ -40,7 +35,7 @@ up-small (negsuc a) (negsuc b) h k = omega arith
 
 pub difference-small : (a b : ℤ) → InBits 27 a → InBits 27 b → natAbs (a -ℤ b) < 2 ^ 27
 difference-small a b h k =
-    let s : natAbs (a -ℤ b) ≤ 134217727 = nearZ 134217727 a b .1 (up-small a b h k, up-small b a k h) in
+    let s : natAbs (a -ℤ b) ≤ (2 ^ 27 - 1) = nearZ (2 ^ 27 - 1) a b .1 (up-small a b h k, up-small b a k h) in
     omega arith
 
 pub margins-small : (N : Network) (x : Recording) → ((s t l : ℕ) → InBits 27 (x s t l)) → (lines : List Line) → ConstantsIn (InBits 27) lines

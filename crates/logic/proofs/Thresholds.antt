@@ -5,12 +5,12 @@ use mathlib.Core.Bool.{Bool}
 use Prim.Native.Nat.{ℕ, suc, _<_, _≤_}
 use lib.Dec.{T}
 use Rattle.logic.specs.Lattice.{Lattice, verdictLattice}
-use Rattle.logic.specs.Surround.{unbounded}
 use Rattle.logic.specs.Iteration.{iterate}
 use Rattle.logic.proofs.Tests.{bool-ext}
 use Rattle.logic.proofs.VerdictLimit.{limit, step-e}
 use Rattle.logic.proofs.Settling.{settles}
-use Rattle.logic.proofs.Keeps.{Keeps, iterate-kept, unbounded-kept}
+use Rattle.logic.proofs.Keeps.{Keeps, iterate-kept}
+use Rattle.logic.proofs.Unbounded.{unboundedSurround, unbounded-kept}
 
 abbrev pub Reads : (L : Lattice) → (L.Value → Bool) → L.Value → Bool → Type 0
 Reads L h a b = h a ≡ b
@@ -26,8 +26,8 @@ module _ (L : Lattice) (apart : Apart L) (joined : ℕ → ℕ → Bool) (n : �
   read : (h : L.Value → Bool) → Threshold L h → (i l : ℕ) → l < n → h (iterate L joined n p q i l) ≡ iterate verdictLattice joined n (λ k. h (p k)) (λ k. h (q k)) i l
   read h K = iterate-kept L verdictLattice (Reads L h) K joined n p q (λ k. h (p k)) (λ k. h (q k)) (λ _ _. refl) (λ _ _. refl)
 
-  -- once at rest, the iteration is the unbounded
-  pub limit-at : (i : ℕ) → ((l : ℕ) → l < n → iterate L joined n p q (suc i) l ≡ iterate L joined n p q i l) → (l : ℕ) → l < n → iterate L joined n p q i l ≡ unbounded L joined n p q l
+  -- once at rest, the iteration is the surround without bounds (Theorem 4.5)
+  pub limit-at : (i : ℕ) → ((l : ℕ) → l < n → iterate L joined n p q (suc i) l ≡ iterate L joined n p q i l) → (l : ℕ) → l < n → iterate L joined n p q i l ≡ unboundedSurround L joined n p q l
   limit-at i r l b = apart _ _ (λ h K.
       read h K i l b
       ∙ limit joined n (λ k. h (p k)) (λ k. h (q k)) i (λ k c u. subst T (sym (read h K i k c) ∙ ap h (sym (r k c)) ∙ read h K (suc i) k c) u) l b

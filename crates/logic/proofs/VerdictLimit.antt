@@ -6,16 +6,17 @@ use mathlib.Core.Bool.{Bool, not, _||_}
 use Prim.Native.Nat.{ℕ, zero, suc, _<_}
 use lib.Dec.{T, T-not}
 use Rattle.logic.specs.Lattice.{verdictLattice, leastOver}
-use Rattle.logic.specs.Surround.{holds, boundary, regionValue, unbounded}
+use Rattle.logic.specs.Surround.{holds, boundary, regionValue}
 use Rattle.logic.specs.Iteration.{iterate}
 use Rattle.logic.proofs.Tests.{and-i, and-l, and-r, or-l, or-r, or-e, decT, bool-ext, when-e, when-i, all-e, all-i, some-e, some-i}
 use Rattle.logic.proofs.Regions.{region, holds-region, region-e, region-i}
+use Rattle.logic.proofs.Unbounded.{unboundedSurround}
 
 module _ (joined : ℕ → ℕ → Bool) (n : ℕ) (p q : ℕ → Bool) where
+  -- the place l is still held at step i
   abbrev pub held : ℕ → ℕ → Bool
   held i l = iterate verdictLattice joined n p q i l
 
-  -- the place l is still held at step i
   -- what one step asks of a place
   pub step-e : (i l : ℕ) → T (held (suc i) l) → T (held i l) × ((k : ℕ) → k < n → T (joined l k) → T (held i k || q k))
   unfolding iterate
@@ -53,9 +54,9 @@ module _ (joined : ℕ → ℕ → Bool) (n : ℕ) (p q : ℕ → Bool) where
       (or-e (held i k) (q k) (step-e i j (r j b (rw (e j b) at a)) .1 k c t))))
 
   -- Theorem 4.5, for verdicts
-  pub limit : (i : ℕ) → ((l : ℕ) → l < n → T (held i l) → T (held (suc i) l)) → (l : ℕ) → l < n → held i l ≡ unbounded verdictLattice joined n p q l
-  unfolding unbounded
-  limit i r l b = bool-ext (held i l) (unbounded verdictLattice joined n p q l)
+  pub limit : (i : ℕ) → ((l : ℕ) → l < n → T (held i l) → T (held (suc i) l)) → (l : ℕ) → l < n → held i l ≡ unboundedSurround verdictLattice joined n p q l
+  unfolding unboundedSurround
+  limit i r l b = bool-ext (held i l) (unboundedSurround verdictLattice joined n p q l)
       (λ h. region-i n _ (held i) (when-i (holds (region n (held i)) l) _ (rw (holds-region n (held i) l b) h) (rests i r (holds (region n (held i))) (holds-region n (held i)))))
       (λ h. let (A, u) = region-e n _ h in
       let (a, v) = when-e (holds A l) _ u in

@@ -42,7 +42,7 @@ pub record Line : Type 0 where
 abbrev pub lineIn : List Line → ℕ → Line
 lineIn lines i = getD lines i (record { operator = True; length = 0 })
 
--- What is recorded: signal, then sample, then place
+-- What is recorded (the source's trace): signal, then sample, then place
 abbrev pub Recording : Type 0
 Recording = ℕ → ℕ → ℕ → ℤ
 

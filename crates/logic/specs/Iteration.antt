@@ -28,6 +28,7 @@ module _ (joined : ℕ → ℕ → Bool) (n : ℕ) (left right : ℕ → Margin)
       let next : ℕ → Margin = iterate marginLattice joined n left right (suc i) in
       leastOver verdictLattice (λ _. true) (λ l. atMost (next l) (former l) && atMost (former l) (next l)) n
 
-  -- 1 plus the least i at which step i + 1 equals step i; there is one below n (proofs/Rounds.antt)
+  -- 1 plus the least i at which step i + 1 equals step i: there is one below n, and none before it (`rests-after` and `rounds-least` in
+  -- proofs/Rounds.antt)
   unfoldable pub rounds : ℕ
   rounds = suc (first atRest (pred n))

@@ -1,4 +1,5 @@
--- Definition 2.1: a network is its places, numbered from 0, and the weight of the road between two of them.
+-- Definition 2.1: a network is its places (the source's locations), numbered from 0, and the weight of the road (edge) between two of them. A
+-- sheet's roads run both ways and have weights above 0: that is said where they are read (sheet/specs/Roads.antt).
 use mathlib.Core.Bool.{Bool, true, false}
 use Prim.Native.Nat.{ℕ}
 use Rattle.logic.specs.Distance.{Distance, dist, none, inRange, distance}
@@ -18,6 +19,6 @@ joined N a b = isRoad (N.weight a b)
 unfoldable pub distanceIn : Network → ℕ → ℕ → Distance
 distanceIn N a b = distance N.weight N.places a b
 
--- place k lies within lower..upper of the centre
+-- the range after Remark 2.3: place k lies within lower..upper of the centre
 unfoldable pub within : Network → ℕ → ℕ → ℕ → ℕ → Bool
 within N centre lower upper k = inRange lower upper (distanceIn N centre k)

@@ -1,4 +1,4 @@
--- The words of demand 3 and of Remark 3.5: when two margins are near, when a margin is beyond a distance, when a margin and a verdict agree.
+-- The words of demand 3 and of Remarks 3.5 and 3.6: when two margins are near, when a margin is beyond a distance, when a margin and a verdict agree.
 use mathlib.Core.Bool.{Bool, true, false}
 use lib.Dec.{T}
 use Prim.Native.Nat.{ℕ, _≤_, _<_}

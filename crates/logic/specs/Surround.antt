@@ -1,4 +1,4 @@
--- Regions, their outer boundary (Definition 2.4) and the surround (Definitions 3.1 and 3.4): the greatest over all regions.
+-- Regions, their outer boundary (Definition 2.4, the source's external boundary) and the surround (Definitions 3.1 and 3.4): the greatest over all regions.
 -- Places are the numbers below n; `joined a b` tests whether a road leads from a to b.
 use mathlib.Core.Bool.{Bool, true, false, not, cond, _&&_}
 use mathlib.Core.List.{List, [], _∷_}
@@ -33,7 +33,3 @@ module _ (L : Lattice) (joined : ℕ → ℕ → Bool) (n : ℕ) where
   unfoldable pub surround : (ℕ → Bool) → (ℕ → Bool) → (ℕ → L.Value) → (ℕ → L.Value) → ℕ → L.Value
   surround inside edge left right centre = greatestRegion L n
       (λ A. cond (allowed joined n inside edge centre (holds A)) (regionValue left right (holds A)) L.bottom)
-
-  -- Theorem 4.5's s: the same without bounds
-  unfoldable pub unbounded : (ℕ → L.Value) → (ℕ → L.Value) → ℕ → L.Value
-  unbounded left right centre = greatestRegion L n (λ A. cond (holds A centre) (regionValue left right (holds A)) L.bottom)

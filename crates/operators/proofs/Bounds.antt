@@ -12,7 +12,7 @@ use Rattle.words.proofs.Rows.{in-table}
 use Rattle.logic.specs.Lattice.{greatestOver}
 use Rattle.logic.specs.Table.{Signal}
 use Rattle.logic.proofs.Keeps.{Keeps, greatest-kept}
-use Rattle.logic.proofs.Margins.{meet-by, join-by}
+use Rattle.logic.proofs.TotalOrder.{each-kept}
 use Rattle.values.specs.Chain.{chains, chainLattice, highest}
 use Rattle.values.specs.Signals.{signalIn, turned}
 use Rattle.values.proofs.Naturals.{leb-trans, leb-total}
@@ -32,12 +32,7 @@ turned-bound false words start n t l = signal-bound words start n t l
 -- ---- no fold leads beyond `highest`
 
 pub bounded-kept : Keeps chainLattice chainLattice (λ c _. c ≤ highest)
-bounded-kept = record {
-  keeps-top = omega arith;
-  keeps-bottom = zero-le;
-  keeps-meet = λ a b c d h k. meet-by leb 0 highest leb-trans leb-total (λ c. c ≤ highest) a b (λ _. h) (λ _. k);
-  keeps-join = λ a b c d h k. join-by leb 0 highest leb-trans leb-total (λ c. c ≤ highest) a b (λ _. k) (λ _. h);
-}
+bounded-kept = each-kept leb 0 highest leb-trans leb-total (λ c. c ≤ highest) (omega arith) zero-le
 
 pub meet-bound : (a b : ℕ) → a ≤ highest → b ≤ highest → chainLattice .meet a b ≤ highest
 meet-bound a b h k = bounded-kept .keeps-meet a b a b h k

@@ -10,7 +10,7 @@ use lib.Dec.{leb, leb→le}
 use borrow.Author.Tests.{le-leb, lt-leb}
 use Rattle.logic.specs.Lattice.{leastOver, greatestOver}
 use Rattle.logic.specs.Table.{Signal, untilAt, everTrue}
-use Rattle.logic.proofs.Margins.{meet-by, join-by}
+use Rattle.logic.proofs.TotalOrder.{meet-by, join-by}
 use Rattle.values.specs.Chain.{chains, chainLattice, highest}
 use Rattle.values.proofs.Naturals.{leb-trans, leb-total, join-max}
 use Rattle.operators.specs.Rows.{ahead}

@@ -5,7 +5,7 @@ use Prim.Native.Nat.{ℕ, _<_, _≤_, min, max}
 use native.Mathlib.Nat.{le-trans}
 use native.Mathlib.Omega.{arith}
 use lib.Dec.{T, leb, le→leb, leb→le, nleb→lt}
-use Rattle.logic.proofs.Margins.{meet-by, join-by}
+use Rattle.logic.proofs.TotalOrder.{meet-by, join-by}
 use Rattle.logic.proofs.Tests.{decT}
 use Rattle.values.specs.Chain.{chainLattice, highest}
 

@@ -14,7 +14,7 @@ use Rattle.logic.specs.Margin.{Margin, minusInfinity, finite, plusInfinity, atM
 use Rattle.logic.proofs.Keeps.{Keeps}
 use Rattle.logic.proofs.Order.{atMost-trans, atMost-anti, atMost-total}
 use Rattle.logic.proofs.Small.{Small}
-use Rattle.logic.proofs.Margins.{atLeast}
+use Rattle.logic.proofs.TotalOrder.{atLeast}
 use Rattle.logic.proofs.Monotone.{monotone-kept}
 use Rattle.values.specs.Chain.{marginCode, marginAt, highest, chainOf, chainMargin, chainVerdict, chainLattice, chainOpposite, chainDifference}
 use Rattle.values.proofs.Naturals.{le-or-lt, leb-trans, leb-total}

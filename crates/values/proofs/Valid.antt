@@ -8,7 +8,7 @@ use lib.Dec.{leb}
 use lib.IntN.{ℤ, pos, negsuc, natAbs}
 use borrow.Author.Tests.{lt-ltb, le-ltb, le-leb}
 use Rattle.logic.proofs.Keeps.{Keeps}
-use Rattle.logic.proofs.Margins.{meet-by, join-by}
+use Rattle.logic.proofs.TotalOrder.{each-kept}
 use Rattle.values.specs.Chain.{highest, chainOf, chainMargin, chainVerdict, Valid, chainLattice, chainOpposite, chainDifference}
 use Rattle.values.proofs.Naturals.{le-or-lt, leb-trans, leb-total}
 use Rattle.values.proofs.Codes.{code-at}
@@ -28,12 +28,7 @@ kinds c valid = ⊎-elim
 
 -- ---- they are kept
 pub valid-kept : Keeps chainLattice chainLattice (λ c _. Valid c)
-valid-kept = record {
-  keeps-top = valid-yes highest (omega arith) (omega arith) refl;
-  keeps-bottom = valid-no 0 zero-le refl;
-  keeps-meet = λ a b c d h k. meet-by leb 0 highest leb-trans leb-total Valid a b (λ _. h) (λ _. k);
-  keeps-join = λ a b c d h k. join-by leb 0 highest leb-trans leb-total Valid a b (λ _. k) (λ _. h);
-}
+valid-kept = each-kept leb 0 highest leb-trans leb-total Valid (valid-yes highest (omega arith) (omega arith) refl) (valid-no 0 zero-le refl)
 
 pub valid-opposite : (c : ℕ) → Valid c → Valid (chainOpposite c)
 valid-opposite c valid = let b = valid .bounded in ⊎-elim
