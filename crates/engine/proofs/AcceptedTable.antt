@@ -10,6 +10,7 @@ use Rattle.words.specs.Rows.{rows, padded}
 use Rattle.words.proofs.Rows.{in-table, length-rows, getD-rows}
 use Rattle.logic.specs.Network.{Network, distanceIn}
 use Rattle.logic.specs.Formulas.{Line, lineIn}
+use Rattle.logic.proofs.Totals.{sum-more}
 use Rattle.sheet.specs.declared.check.Layout as Code
 use Rattle.sheet.specs.declared.line.Line as Read
 use Rattle.sheet.specs.declared.line.Decoded.{Decoded}
@@ -30,7 +31,6 @@ use Rattle.surround.specs.Steps.{RoadsIn}
 use Rattle.surround.proofs.SheetRoads.{good-roads}
 use Rattle.verdicts.specs.Answer.{lineIndex}
 use Rattle.verdicts.specs.Writing.{Surveyed}
-use Rattle.verdicts.proofs.LineRows.{sum-more}
 use Rattle.verdicts.proofs.WholeAnswer.{InAnswer, index-bound}
 use Rattle.verdicts.proofs.Accepted.{table, sizes}
 use Rattle.engine.specs.Lines.{found, Accepting}

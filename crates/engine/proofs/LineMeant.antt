@@ -14,13 +14,12 @@ use Rattle.logic.specs.Counts.{count, sumBelow, mostBelow, roundsAt}
 use Rattle.logic.proofs.Keeps.{same-kept, masked-kept}
 use Rattle.logic.proofs.Rounds.{rounds-same}
 use Rattle.logic.proofs.TableKeeps.{ConstantsIn}
+use Rattle.logic.proofs.Totals.{sum-same, most-same}
 use Rattle.sheet.proofs.AcceptedLines.{lengthsOf, Sound, GoodTable}
 use Rattle.values.specs.Chain.{chains, chainWord, chainVerdict, chainMargin}
 use Rattle.values.proofs.ChainTable.{chains-margin, chains-verdict}
-use Rattle.surround.proofs.Greatest.{most-same}
 use Rattle.verdicts.specs.Answer.{wordFor}
 use Rattle.verdicts.proofs.LineValues.{operands-same, value-step}
-use Rattle.verdicts.proofs.LineRows.{sum-same}
 use Rattle.engine.proofs.EarlierLines.{word-meant}
 
 -- the rounds of a line depend on its operands within their lengths alone

@@ -15,6 +15,7 @@ use Rattle.logic.specs.Table.{verdicts, margins, valueAt}
 use Rattle.logic.specs.Counts.{count, sumBelow, mostBelow, roundsAt, greatestRounds, yesCount}
 use Rattle.logic.proofs.Tests.{below}
 use Rattle.logic.proofs.TableKeeps.{ConstantsIn}
+use Rattle.logic.proofs.Totals.{sum-more, sum-bound, table-yes-bound, most-more}
 use Rattle.sheet.specs.declared.check.Layout as Code
 use Rattle.sheet.specs.Limits.{mostPlaces, mostSamples, mostLines}
 use Rattle.sheet.specs.Checked.{wordAt}
@@ -22,14 +23,12 @@ use Rattle.sheet.specs.Layout.{Layout}
 use Rattle.sheet.specs.Roads.{network, recording}
 use Rattle.sheet.proofs.AcceptedLines.{sample-bits, lengthsOf, good-length, good-constants}
 use Rattle.values.specs.Chain.{chains, Valid}
-use Rattle.values.proofs.Machine.{byte-count}
 use Rattle.values.proofs.ChainTable.{chains-valid}
 use Rattle.verdicts.specs.declared.tally.Tally.{Tally}
 use Rattle.verdicts.specs.Tally.{together}
 use Rattle.verdicts.specs.Answer.{lineIndex, lineWords}
 use Rattle.verdicts.specs.Writing.{sheetNetwork, sheetRecording, earlier, lineValue, lineRounds}
 use Rattle.verdicts.proofs.AnswerWords.{lines-size, sizes-below}
-use Rattle.verdicts.proofs.LineRows.{sum-more, sum-bound, most-more}
 use Rattle.engine.specs.Line.{LineReady, LineWritten, firstWord, wordsUpTo, valueHere, roundsHere}
 use Rattle.engine.specs.Lines.{found, Accepting, LinesWritten}
 use Rattle.engine.proofs.AcceptedTable.{Table, line-ends}
@@ -88,16 +87,14 @@ module _ (s : List ℕ) (layout : Code.Layout) (distances : List ℕ) (lines : L
 
   -- no line has more verdicts than the most samples at the most places
   pub yes-few : (k : ℕ) → k < mostLines → sumBelow (yesOfLine s layout lines) (k + 1) ≤ mostLines * (mostSamples * mostPlaces)
-  yes-few k h = omega (arith, sum-bound (yesOfLine s layout lines) (mostSamples * mostPlaces) one (k + 1))
+  yes-few k h = omega (arith, sum-bound (yesOfLine s layout lines) (k + 1) (mostSamples * mostPlaces) (λ i _. one i))
     where
       one : (i : ℕ) → yesOfLine s layout lines i ≤ mostSamples * mostPlaces
       one i =
           let n : ℕ = layout .places in
-          let row : (t : ℕ) → sumBelow (λ l. count (valueAt verdicts (sheetNetwork s layout) (sheetRecording s layout) lines i t l)) n ≤ n * 1
-          = λ t. sum-bound _ 1 (λ l. byte-count (valueAt verdicts (sheetNetwork s layout) (sheetRecording s layout) lines i t l) .1) n in
           let long : lineIn lines i .length ≤ mostSamples = omega (arith, good-length (layout .signals) (layout .samples) lines (table .good) i, table .sizes .samples) in
-          let wide : n * 1 ≤ mostPlaces = omega (arith, table .sizes .places) in
-          omega (arith, sum-bound _ (n * 1) row (lineIn lines i .length), mul-le-mul long wide)
+          let wide : n ≤ mostPlaces = omega (arith, table .sizes .places) in
+          omega (arith, table-yes-bound (valueAt verdicts (sheetNetwork s layout) (sheetRecording s layout) lines i) (lineIn lines i .length) n, mul-le-mul long wide)
 
   module _ (answer : List ℕ) (enough : lineIndex (layout .places) lines (layout .lines) ≤ length answer)
       (k : ℕ) (inside : k < length lines) (words starts : List ℕ) (to : ℕ) (tally : Tally) (done : LinesDone s layout lines answer k words starts to tally) where

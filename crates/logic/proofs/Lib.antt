@@ -1,6 +1,7 @@
 pub mod Tests
 pub mod Regions
 pub mod Lists
+pub mod Totals
 pub mod Keeps
 pub mod Unbounded
 pub mod Resting

@@ -1,4 +1,4 @@
--- The two counts of a result ("Answer" of document 01): the rounds of the surrounds and the yes verdicts.
+-- The two counts of a result ("The answer" of document 01): the rounds of the surrounds and the yes verdicts.
 use mathlib.Core.Bool.{Bool, true, false}
 use mathlib.Core.List.{List}
 use Prim.Native.Nat.{ℕ, zero, suc, _+_, max}

@@ -16,7 +16,7 @@ use Rattle.values.proofs.Valid.{valid-kept}
 use Rattle.surround.specs.Lanes.{lanes, laneOf, joinedBy, surroundValue, surroundRounds, blockRounds}
 use Rattle.surround.specs.Steps.{ValidRow}
 use Rattle.surround.specs.Blocks.{RowOf, laneSignal, laneSurround, laneRounds, CentresDone, BlockReady, BlockDone}
-use Rattle.surround.proofs.Greatest.{most-same, most-front}
+use Rattle.logic.proofs.Totals.{most-same, most-front}
 
 -- ---- one row
 module _ (words : List ℕ) (start n first count : ℕ) (row : List ℕ) (w : RowOf (laneSignal words start n first count) row n) where

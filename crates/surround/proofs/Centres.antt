@@ -18,7 +18,7 @@ use Rattle.surround.specs.Lanes.{lanes, laneOf, joinedBy}
 use Rattle.surround.specs.Steps.{ValidRow, Settled, roundsIn}
 use Rattle.surround.specs.Blocks.{RowOf, laneSurround, laneRounds, CentreDone, CentresDone}
 use Rattle.surround.specs.Strips.{Written}
-use Rattle.surround.proofs.Greatest.{most-same}
+use Rattle.logic.proofs.Totals.{most-same}
 use Rattle.surround.proofs.RowLaws.{row-none, row-more}
 
 abbrev MaskedRow : (ℕ → Bool) → List ℕ → List ℕ → ℕ → Type 0

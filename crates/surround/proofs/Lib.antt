@@ -1,7 +1,6 @@
 pub mod StripLaws
 pub mod Least
 pub mod Outside
-pub mod Greatest
 pub mod Settling
 pub mod RowLaws
 pub mod Centres

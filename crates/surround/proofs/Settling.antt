@@ -4,39 +4,19 @@ use mathlib.Core.Path.{_≡_, refl, sym, ap, ap₂, _∙_}
 use mathlib.Core.Bool.{Bool, true, false}
 use mathlib.Core.List.{List}
 use mathlib.Core.Logic.{_⊎_, inl, inr, ⊎-elim}
-use Prim.Native.Nat.{ℕ, zero, suc, _+_, _*_, _/_, _<_, _≤_, zero-le}
-use native.Mathlib.Nat.{not-suc-le-zero, suc-mul, le-antisymm}
+use Prim.Native.Nat.{ℕ, suc, _+_, _*_, _/_, _<_, _≤_}
+use native.Mathlib.Nat.{le-antisymm}
 use native.Mathlib.Omega.{arith}
 use Rattle.logic.specs.Iteration.{iterate, masked, rounds}
 use Rattle.logic.specs.Counts.{mostBelow, sumBelow}
 use Rattle.logic.proofs.Keeps.{same-kept, least-kept}
-use Rattle.logic.proofs.Tests.{below}
+use Rattle.logic.proofs.Totals.{sum-le, sum-lt, sum-bound, most-le, le-most}
 use Rattle.values.specs.Chain.{chainLattice, highest}
 use Rattle.values.proofs.ChainSurround.{halves-rest-after, rounds-of-halves}
 use Rattle.surround.specs.Lanes.{lanes, laneOf, joinedBy}
 use Rattle.surround.specs.Strips.{RowsApart}
 use Rattle.surround.specs.Steps.{Bounded, ValidRow, Round, stepIn, roundsIn, Settled}
 use Rattle.values.proofs.Naturals.{meet-min}
-use Rattle.surround.proofs.Greatest.{most-le, le-most}
-
--- ---- sums
-sum-le : (f g : ℕ → ℕ) (n : ℕ) → ((i : ℕ) → i < n → f i ≤ g i) → sumBelow f n ≤ sumBelow g n
-unfolding sumBelow
-sum-le f g zero h = zero-le
-sum-le f g (suc n) h = omega (arith, sum-le f g n (λ i l. h i (omega arith)), h n (omega arith))
-
-sum-lt : (f g : ℕ → ℕ) (n k : ℕ) → ((i : ℕ) → i < n → f i ≤ g i) → k < n → f k < g k → sumBelow f n < sumBelow g n
-unfolding sumBelow
-sum-lt f g zero k h b l = absurd (not-suc-le-zero b)
-sum-lt f g (suc n) k h b l = ⊎-elim
-    (λ e. let m : f n < g n = rw e at l in omega (arith, sum-le f g n (λ i c. h i (omega arith))))
-    (λ c. omega (arith, sum-lt f g n k (λ i d. h i (omega arith)) c l, h n (omega arith)))
-    (below b)
-
-sum-bound : (f : ℕ → ℕ) (n b : ℕ) → ((i : ℕ) → i < n → f i ≤ b) → sumBelow f n ≤ n * b
-unfolding sumBelow
-sum-bound f zero b h = zero-le
-sum-bound f (suc n) b h = rw suc-mul (omega (arith, sum-bound f n b (λ i l. h i (omega arith)), h n (omega arith)))
 
 -- the sum of all numbers of n places
 pub total : List ℕ → ℕ → ℕ

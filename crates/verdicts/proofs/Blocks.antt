@@ -3,29 +3,27 @@ use mathlib.Core.Path.{_≡_, refl, sym, ap, ap₂, _∙_}
 use mathlib.Core.Bool.{Bool, true, false}
 use mathlib.Core.List.{List, _++_, append-assoc, append-nil}
 use Prim.Native.Nat.{ℕ, zero, suc, _+_, _*_, _≤_, max}
-use native.Mathlib.Nat.{add-zero, add-suc, le-trans, le-antisymm, mul-le-mul-right}
+use native.Mathlib.Nat.{add-zero, add-suc, mul-le-mul-right}
 use native.Mathlib.Omega.{arith}
 use lib.ListN.{length}
 use Rattle.words.specs.Rows.{concat, rows, put}
 use Rattle.words.proofs.Puts.{put-nil, put-append}
 use Rattle.words.proofs.Rows.{length-rows, rows-ext}
 use Rattle.logic.specs.Counts.{count, sumBelow, mostBelow}
+use Rattle.logic.proofs.Totals.{sum-parts, sum-same, table-yes-bound, most-parts, most-swap, most-none}
 use Rattle.sheet.specs.declared.check.Layout.{Layout}
 use Rattle.sheet.specs.declared.operator.Bounds.{Bounds}
 use Rattle.sheet.specs.Limits.{mostPlaces}
 use Rattle.values.specs.Chain.{highest, chainWord, chainVerdict}
-use Rattle.values.proofs.Machine.{byte-count}
 use Rattle.operators.proofs.Bounds.{signal-bound, greatest-bound}
 use Rattle.surround.specs.Lanes.{lanes, laneOf, surroundRounds, blockRounds}
 use Rattle.surround.specs.Blocks.{BlockReady, BlockDone}
 use Rattle.surround.specs.Ranges.{RangeReady, RangeDone}
-use Rattle.surround.proofs.Greatest.{most-le, le-most}
 use Rattle.verdicts.specs.declared.tally.Tally.{Tally}
 use Rattle.verdicts.specs.Tally.{together}
 use Rattle.verdicts.specs.declared.around.Around.{Around}
 use Rattle.verdicts.specs.declared.around.Around.the-variants.{Surround, Range}
 use Rattle.verdicts.specs.Around.{LanesBounded, AroundReads, AroundReady, SamplesWritten, aroundValue, aroundRounds, BlockFilled}
-use Rattle.verdicts.proofs.LineRows.{sum-bound, sum-same}
 use Rattle.verdicts.proofs.Points.{surround-bound}
 
 -- ---- a + b samples
@@ -34,16 +32,6 @@ concat-parts : {A : Type 0} (f : ℕ → List A) (a b : ℕ) → concat f (a + b
 unfolding concat
 concat-parts f a zero = rw (add-zero a) (sym (append-nil (concat f a)))
 concat-parts f a (suc b) = rw (add-suc a b) (ap (λ s. s ++ f (a + b)) (concat-parts f a b) ∙ append-assoc (concat f a) (concat (λ i. f (a + i)) b) (f (a + b)))
-
-sum-parts : (f : ℕ → ℕ) (a b : ℕ) → sumBelow f (a + b) ≡ sumBelow f a + sumBelow (λ i. f (a + i)) b
-unfolding sumBelow
-sum-parts f a zero = rw (add-zero a) (omega arith)
-sum-parts f a (suc b) = rw (add-suc a b) (omega (arith, sum-parts f a b))
-
-most-parts : (f : ℕ → ℕ) (a b : ℕ) → mostBelow f (a + b) ≡ max (mostBelow f a) (mostBelow (λ i. f (a + i)) b)
-unfolding mostBelow
-most-parts f a zero = rw (add-zero a) (omega arith)
-most-parts f a (suc b) = rw (add-suc a b) (omega (arith, most-parts f a b))
 
 module _ (value roundsAt : ℕ → ℕ → ℕ) (n : ℕ) (answer : List ℕ) (begin : ℕ) where
   pub no-samples : SamplesWritten value roundsAt n answer begin 0 answer (record { rounds = 0; yes = 0 })
@@ -65,26 +53,11 @@ module _ (value roundsAt : ℕ → ℕ → ℕ) (n : ℕ) (answer : List ℕ) (b
       put-after : put (put answer begin (rows words a n)) (begin + a * n) (rows (λ t. words (a + t)) b n) ≡ put answer begin (rows words (a + b) n)
       put-after = rw (← length-rows words a n) (put-append answer begin (rows words a n) _ h) ∙ ap (put answer begin) (sym (concat-parts _ a b))
 
--- a sample has at most a yes for each place
-pub yes-bound : (value : ℕ → ℕ → ℕ) (n samples : ℕ) → sumBelow (λ t. sumBelow (λ l. count (chainVerdict (value t l))) n) samples ≤ samples * n
-yes-bound value n samples = sum-bound _ n (λ t. omega (arith, sum-bound _ 1 (λ l. byte-count (chainVerdict (value t l)) .1) n)) samples
-
 pub few-yes : {value roundsAt : ℕ → ℕ → ℕ} {n : ℕ} {answer : List ℕ} {begin samples : ℕ} {after : List ℕ} {tally : Tally}
     → SamplesWritten value roundsAt n answer begin samples after tally → tally .yes ≤ samples * n
-few-yes {value} w = rw (w .counted) (yes-bound value _ _)
+few-yes {value} w = rw (w .counted) (table-yes-bound (λ t l. chainVerdict (value t l)) _ _)
 
 -- ---- a block
-
--- the greatest of a table, by rows or by columns
-most-swap-le : (f : ℕ → ℕ → ℕ) (n m : ℕ) → mostBelow (λ i. mostBelow (f i) m) n ≤ mostBelow (λ j. mostBelow (λ i. f i j) n) m
-most-swap-le f n m = most-le _ n _ (λ i a. most-le (f i) m _ (λ j b. le-trans (le-most (λ k. f k j) n i a) (le-most (λ k. mostBelow (λ i. f i k) n) m j b)))
-
-most-swap : (f : ℕ → ℕ → ℕ) (n m : ℕ) → mostBelow (λ i. mostBelow (f i) m) n ≡ mostBelow (λ j. mostBelow (λ i. f i j) n) m
-most-swap f n m = le-antisymm (most-swap-le f n m) (most-swap-le (λ j i. f i j) m n)
-
--- no rounds at all
-pub most-none : (n m : ℕ) → 0 ≡ mostBelow (λ _. mostBelow (λ _. 0) m) n
-most-none n m = omega (arith, most-le (λ _. mostBelow (λ _. 0) m) n 0 (λ _ _. most-le (λ _. 0) m 0 (λ _ _. omega arith)))
 
 reads-fewer : (words : List ℕ) (L : Layout) (sheet : List ℕ) (around : Around) (samples k : ℕ) → AroundReads words L sheet around samples → k ≤ samples → AroundReads words L sheet around k
 reads-fewer words L sheet (Surround left right b) samples k reads h =

@@ -10,10 +10,10 @@ use Rattle.words.specs.Rows.{row, concat, rows, put}
 use Rattle.words.proofs.Puts.{put-nil}
 use Rattle.words.proofs.Words.{words-count}
 use Rattle.logic.specs.Counts.{count, sumBelow}
+use Rattle.logic.proofs.Totals.{sum-more, table-yes-bound}
 use Rattle.values.specs.Chain.{chainWord, chainVerdict}
 use Rattle.surround.specs.Lanes.{laneOf}
-use Rattle.verdicts.proofs.LineRows.{put-row, sum-more}
-use Rattle.verdicts.proofs.Blocks.{yes-bound}
+use Rattle.verdicts.proofs.LineRows.{put-row}
 use Rattle.verdicts.proofs.around.write_lanes.Statement.{statement}
 use Rattle.verdicts.proofs.around.write_lanes.Tie as tie
 
@@ -56,7 +56,7 @@ add-yes : tie.Need-add-yes Inv-loop μ-loop
 add-yes c =
     let start = c .before .before .before .before .before .before .before .before in
     let loop = c .before .before .before .before .before .loop in
-    omega (arith, total c, yes-bound (laneOf (start .args .out .now)) (start .args .places) (loop .lane + 1), room (c .before .before .before .before), words-count (loop .answer))
+    omega (arith, total c, table-yes-bound (λ lane l. chainVerdict (laneOf (start .args .out .now) lane l)) (loop .lane + 1) (start .args .places), room (c .before .before .before .before), words-count (loop .answer))
 
 add-at : tie.Need-add-at Inv-loop μ-loop
 add-at c = omega (arith, room (c .before .before .before .before), words-count (c .before .before .before .before .before .loop .answer))

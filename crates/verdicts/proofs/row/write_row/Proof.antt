@@ -11,12 +11,13 @@ use Rattle.words.specs.Rows.{put}
 use Rattle.words.proofs.Rows.{row-ext}
 use Rattle.words.proofs.Words.{words-count, words-take}
 use Rattle.logic.specs.Counts.{count}
+use Rattle.logic.proofs.Totals.{sum-same}
 use Rattle.sheet.specs.Decoding.{operatorSaid}
 use Rattle.values.specs.Chain.{chainWord, chainVerdict}
 use Rattle.operators.specs.Rows.{Filled}
 use Rattle.verdicts.specs.Sample.{entry}
 use Rattle.verdicts.specs.Writing.{lineValue, Readable}
-use Rattle.verdicts.proofs.LineRows.{entry-one, sum-same}
+use Rattle.verdicts.proofs.LineRows.{entry-one}
 use Rattle.verdicts.proofs.Points.{line-bound}
 use Rattle.verdicts.proofs.row.write_row.Statement.{statement}
 use Rattle.verdicts.proofs.row.write_row.Tie as tie

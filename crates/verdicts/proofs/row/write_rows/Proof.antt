@@ -12,13 +12,13 @@ use Rattle.words.specs.Rows.{row, concat, rows, put}
 use Rattle.words.proofs.Puts.{put-nil, take-put}
 use Rattle.words.proofs.Words.{words-count}
 use Rattle.logic.specs.Counts.{count, sumBelow}
+use Rattle.logic.proofs.Totals.{sum-more, sum-bound, yes-bound}
 use Rattle.sheet.specs.Decoding.{operatorSaid}
 use Rattle.sheet.specs.Limits.{mostPlaces}
 use Rattle.values.specs.Chain.{chainWord, chainVerdict}
-use Rattle.values.proofs.Machine.{byte-count}
 use Rattle.operators.specs.Rows.{Filled}
 use Rattle.verdicts.specs.Writing.{lineValue, Readable}
-use Rattle.verdicts.proofs.LineRows.{put-row, sum-more, sum-bound}
+use Rattle.verdicts.proofs.LineRows.{put-row}
 use Rattle.verdicts.proofs.row.write_rows.Statement.{statement}
 use Rattle.verdicts.proofs.row.write_rows.Tie as tie
 
@@ -41,7 +41,7 @@ module _ (c : tie.Start Inv-loop μ-loop) where
   Yes words t = sumBelow (λ l. count (chainVerdict (Value words t l))) (c .args .layout .places)
 
   few : (words : List ℕ) (t : ℕ) → Yes words t ≤ mostPlaces
-  few words t = omega (arith, sum-bound _ 1 (λ l. byte-count (chainVerdict (Value words t l)) .1) (c .args .layout .places), c .pre .0 .places)
+  few words t = omega (arith, yes-bound (λ l. chainVerdict (Value words t l)) (c .args .layout .places), c .pre .0 .places)
 
 module _ (c : tie.In-loop Inv-loop μ-loop) where
   abbrev start : tie.Start Inv-loop μ-loop
@@ -84,7 +84,7 @@ add-yes c =
     let turn = c .before .before .before .before .before .before in
     let begin = start turn in
     let loop = turn .before .loop in
-    let all : loop .yes ≤ loop .t * mostPlaces = rw (loop .inv .4) (sum-bound _ mostPlaces (few begin (take (begin .args .begin) (wordsOf (begin .args .answer .now)))) (loop .t)) in
+    let all : loop .yes ≤ loop .t * mostPlaces = rw (loop .inv .4) (sum-bound _ (loop .t) mostPlaces (λ t _. few begin (take (begin .args .begin) (wordsOf (begin .args .answer .now))) t)) in
     let one : c .before .before .before .write-row .result ≤ mostPlaces = rw (c .before .before .before .write-row .ensures .1 .0) (few begin _ (loop .t)) in
     omega (arith, begin .pre .3)
 

@@ -9,10 +9,10 @@ use Rattle.words.specs.Rows.{row, put}
 use Rattle.words.proofs.Puts.{put-nil, put-more}
 use Rattle.words.proofs.Words.{words-count}
 use Rattle.logic.specs.Counts.{count, sumBelow}
+use Rattle.logic.proofs.Totals.{sum-more, yes-bound}
 use Rattle.values.specs.Chain.{chainWord, chainVerdict}
 use Rattle.values.proofs.Machine.{byte-count}
 use Rattle.verdicts.specs.Sample.{entry}
-use Rattle.verdicts.proofs.LineRows.{sum-more, sum-bound}
 use Rattle.verdicts.proofs.sample.write_sample.Statement.{statement}
 use Rattle.verdicts.proofs.sample.write_sample.Tie as tie
 
@@ -75,7 +75,7 @@ add-yes : tie.Need-add-yes Inv-loop μ-loop
 add-yes c =
     let start = c .before .before .before .before .before .before .before .before .before .before .before in
     let loop = c .before .before .before .before .before .before .before .before .loop in
-    let small : loop .yes ≤ loop .l * 1 = rw (loop .inv .3) (sum-bound _ 1 (λ k. byte-count (chainVerdict (Value start k)) .1) (loop .l)) in
+    let small : loop .yes ≤ loop .l = rw (loop .inv .3) (yes-bound (λ k. chainVerdict (Value start k)) (loop .l)) in
     omega (arith, byte-count (c .yes .result), start .pre .0 .few-places)
 
 add-l : tie.Need-add-l Inv-loop μ-loop
