@@ -19,10 +19,10 @@ use Rattle.sheet.specs.declared.fault.Fault.{Fault}
 use Rattle.sheet.specs.Limits.{mostLines}
 use Rattle.sheet.specs.Layout.{Layout}
 use Rattle.sheet.specs.Lines.{lineAt}
+use Rattle.sheet.specs.GoodLines.{GoodTable}
 use Rattle.sheet.specs.Roads.{network, distanceNumber, distanceTable}
 use Rattle.sheet.specs.Decoding.{lineSaid, decodedSaid}
 use Rattle.sheet.specs.Checking.{layoutOf}
-use Rattle.sheet.proofs.AcceptedLines.{GoodTable}
 use Rattle.sheet.proofs.AcceptedRoads.{accepted-roads}
 use Rattle.sheet.proofs.Checks.{never, same-accepted}
 use Rattle.sheet.proofs.Walk.{Walk, Step, walk-start, walk-step}

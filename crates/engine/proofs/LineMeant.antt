@@ -15,7 +15,7 @@ use Rattle.logic.proofs.Keeps.{same-kept, masked-kept}
 use Rattle.logic.proofs.Rounds.{rounds-same}
 use Rattle.logic.proofs.TableKeeps.{ConstantsIn}
 use Rattle.logic.proofs.Totals.{sum-same, most-same}
-use Rattle.sheet.proofs.AcceptedLines.{lengthsOf, Sound, GoodTable}
+use Rattle.sheet.specs.GoodLines.{lengthsOf, Sound, GoodTable}
 use Rattle.values.specs.Chain.{chains, chainWord, chainVerdict, chainMargin}
 use Rattle.values.proofs.ChainTable.{chains-margin, chains-verdict}
 use Rattle.verdicts.specs.Answer.{wordFor}

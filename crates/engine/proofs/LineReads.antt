@@ -15,7 +15,7 @@ use Rattle.sheet.specs.declared.operator.Operator.{Operator}
 use Rattle.sheet.specs.declared.operator.Operator.the-variants.{True, AtLeast, AtMost, Not, And, Until, Somewhere, Surrounded, Or, Eventually, Always, Everywhere}
 use Rattle.sheet.specs.declared.line.Line.{Line}
 use Rattle.sheet.specs.Decoding.{operatorSaid, lineSaid}
-use Rattle.sheet.proofs.AcceptedLines.{Sound}
+use Rattle.sheet.specs.GoodLines.{Sound}
 use Rattle.verdicts.specs.Writing.{lineValue, lineRounds, Written, Readable}
 use Rattle.verdicts.specs.declared.around.Around.{Around}
 use Rattle.verdicts.specs.declared.around.Around.the-variants.{Surround, Range}

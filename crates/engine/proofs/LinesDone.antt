@@ -19,9 +19,10 @@ use Rattle.logic.proofs.Totals.{sum-more, sum-bound, table-yes-bound, most-more
 use Rattle.sheet.specs.declared.check.Layout as Code
 use Rattle.sheet.specs.Limits.{mostPlaces, mostSamples, mostLines}
 use Rattle.sheet.specs.Checked.{wordAt}
+use Rattle.sheet.specs.GoodLines.{lengthsOf}
 use Rattle.sheet.specs.Layout.{Layout}
 use Rattle.sheet.specs.Roads.{network, recording}
-use Rattle.sheet.proofs.AcceptedLines.{sample-bits, lengthsOf, good-length, good-constants}
+use Rattle.sheet.proofs.AcceptedLines.{sample-bits, good-length, good-constants}
 use Rattle.values.specs.Chain.{chains, Valid}
 use Rattle.values.proofs.ChainTable.{chains-valid}
 use Rattle.verdicts.specs.declared.tally.Tally.{Tally}

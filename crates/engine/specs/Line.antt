@@ -8,7 +8,7 @@ use Rattle.words.specs.Rows.{rows, put}
 use Rattle.logic.specs.Counts.{count, sumBelow, mostBelow}
 use Rattle.logic.specs.Formulas.{Line}
 use Rattle.sheet.specs.declared.check.Layout.{Layout}
-use Rattle.sheet.proofs.AcceptedLines.{GoodLine}
+use Rattle.sheet.specs.GoodLines.{GoodLine}
 use Rattle.values.specs.Chain.{chainWord, chainVerdict, Valid}
 use Rattle.values.specs.Signals.{signalIn}
 use Rattle.surround.specs.Steps.{RoadsIn}

@@ -11,7 +11,7 @@ use borrow.Author.Tests.{leb-true, eqb-true}
 use Rattle.words.specs.Word.{bits, payloadOf}
 use Rattle.sheet.specs.Limits.{mostPlaces, mostSignals, mostSamples}
 use Rattle.sheet.specs.Checked.{accepted, require, between, wordAt, isKind}
-use Rattle.sheet.specs.Layout.{Sizes, sampleCount, headSizes, headChecked, samplesFrom, endChecked}
+use Rattle.sheet.specs.Layout.{Sizes, sampleCount, sizesOf, headChecked, samplesFrom, endChecked}
 use Rattle.sheet.specs.Checking.{mapped}
 use Rattle.sheet.proofs.Checks.{same-accepted, require-accepted}
 use Rattle.sheet.proofs.Tests.{and-true}
@@ -33,7 +33,7 @@ between-told low high x e =
 pub head-accepted : (s : List ℕ) {z : Sizes} → headChecked s ≡ accepted z → SizesWithin z
 unfolding headChecked
 head-accepted s {z} e =
-    let sizes = headSizes s in
+    let sizes = sizesOf (wordAt s 0) in
     let kind = require-accepted (isKind 1 s 0) 2 0 _ e in
     let places = between 1 mostPlaces (sizes .places) in
     let signals = between 1 mostSignals (sizes .signals) in

@@ -19,13 +19,9 @@ use Rattle.logic.proofs.TableKeeps.{ConstantIn, ConstantsIn}
 use Rattle.sheet.specs.Limits.{mostLines}
 use Rattle.sheet.specs.Checked.{Checked, accepted, _>>=_, require, wordAt, isKind}
 use Rattle.sheet.specs.Codes.{Code, constant, atom, unary, binary, unaryBounded, binaryBounded, unknown, codes, codeOf}
-use Rattle.sheet.specs.Lines.{constantAt, boundsAt, operatorBy, operatorAt, lineAt, linesFrom}
+use Rattle.sheet.specs.Lines.{codeField, leftField, rightField, unused, plain, constantAt, boundsAt, withConstant, withBounds, operatorBy, operatorAt, lineAt, linesFrom}
+use Rattle.sheet.specs.GoodLines.{Bounds, Sound, lengthsOf, GoodLine, GoodTable, GoodLines}
 use Rattle.sheet.proofs.Checks.{never, require-e, bind-e, accepted-inj}
-
--- lower at most upper, of 28 bits
-pub record Bounds (lower upper : ℕ) : Type 0 where
-  pub order : lower ≤ upper
-  pub small : upper < 2 ^ 28
 
 -- ---- a constant is a number of 27 bits
 pub sample-bits : (w : ℕ) → InBits 27 (sampleOf w)
@@ -36,21 +32,6 @@ sample-bits w = go (ltb (w % 2 ^ 27) (2 ^ 26)) refl
     go false e =
         let high : 2 ^ 26 ≤ w % 2 ^ 27 = nltb→le (w % 2 ^ 27) (2 ^ 26) (rw e tt) in
         omega arith
-
--- ---- what is sound of an operator among v signals and k earlier lines: each field below its limit, constants of 27 bits, bounds in order
-abbrev pub Sound : ℕ → ℕ → Operator → Type 0
-Sound v k True = Unit {0}
-Sound v k (AtLeast signal c) = (signal < v) × InBits 27 c
-Sound v k (AtMost signal c) = (signal < v) × InBits 27 c
-Sound v k (Not i) = i < k
-Sound v k (And i j) = (i < k) × (j < k)
-Sound v k (Until i j lower upper) = (i < k) × (j < k) × Bounds lower upper
-Sound v k (Somewhere i lower upper) = (i < k) × Bounds lower upper
-Sound v k (Surrounded i j lower upper) = (i < k) × (j < k) × Bounds lower upper
-Sound v k (Or i j) = (i < k) × (j < k)
-Sound v k (Eventually i lower upper) = (i < k) × Bounds lower upper
-Sound v k (Always i lower upper) = (i < k) × Bounds lower upper
-Sound v k (Everywhere i lower upper) = (i < k) × Bounds lower upper
 
 module _ (v k : ℕ) where
   -- what a code says is sound where its fields and parameters are
@@ -105,25 +86,25 @@ module _ (s : List ℕ) (v k : ℕ) where
 
   by-code : (code : Code) → Fits v k code → (at left right : ℕ) (read : Operator × ℕ) → operatorBy s code at left right v k ≡ accepted read → SoundRead read
   by-code (constant o) fit at left right read e =
-      let same = require-e (eqb left 0 && eqb right 0) 11 at (accepted (o, at + 1)) read e .1 in
+      let same = require-e (ltb left unused && ltb right unused) 11 at (plain at o) read e .1 in
       subst SoundRead (accepted-inj (o, at + 1) read same) fit
   by-code (atom o) fit at left right read e =
-      let (fields, rest) = require-e (ltb left v && eqb right 0) 11 at (constantAt s (at + 1) >>= λ c. accepted (o left c, at + 2)) read e in
+      let (fields, rest) = require-e (ltb left v && ltb right unused) 11 at (withConstant s at (o left)) read e in
       let (c, hc, same) = bind-e (constantAt s (at + 1)) (λ c. accepted (o left c, at + 2)) read rest in
       subst SoundRead (accepted-inj (o left c, at + 2) read same) (fit left c (ltb→lt left v (and-l (ltb left v) _ fields)) (constant-fits s (at + 1) c hc))
   by-code (unary o) fit at left right read e =
-      let (fields, same) = require-e (ltb left k && eqb right 0) 11 at (accepted (o left, at + 1)) read e in
+      let (fields, same) = require-e (ltb left k && ltb right unused) 11 at (plain at (o left)) read e in
       subst SoundRead (accepted-inj (o left, at + 1) read same) (fit left (ltb→lt left k (and-l (ltb left k) _ fields)))
   by-code (binary o) fit at left right read e =
-      let (fields, same) = require-e (ltb left k && ltb right k) 11 at (accepted (o left right, at + 1)) read e in
+      let (fields, same) = require-e (ltb left k && ltb right k) 11 at (plain at (o left right)) read e in
       subst SoundRead (accepted-inj (o left right, at + 1) read same) (fit left right (ltb→lt left k (and-l (ltb left k) _ fields)) (ltb→lt right k (and-r (ltb left k) _ fields)))
   by-code (unaryBounded o) fit at left right read e =
-      let (fields, rest) = require-e (ltb left k && eqb right 0) 11 at (boundsAt s (at + 1) >>= λ b. accepted (o left (b .0) (b .1), at + 3)) read e in
+      let (fields, rest) = require-e (ltb left k && ltb right unused) 11 at (withBounds s at (o left)) read e in
       let (b, hb, same) = bind-e (boundsAt s (at + 1)) (λ b. accepted (o left (b .0) (b .1), at + 3)) read rest in
       subst SoundRead (accepted-inj (o left (b .0) (b .1), at + 3) read same)
       (fit left (b .0) (b .1) (ltb→lt left k (and-l (ltb left k) _ fields)) (bounds-fit s (at + 1) b hb))
   by-code (binaryBounded o) fit at left right read e =
-      let (fields, rest) = require-e (ltb left k && ltb right k) 11 at (boundsAt s (at + 1) >>= λ b. accepted (o left right (b .0) (b .1), at + 3)) read e in
+      let (fields, rest) = require-e (ltb left k && ltb right k) 11 at (withBounds s at (o left right)) read e in
       let (b, hb, same) = bind-e (boundsAt s (at + 1)) (λ b. accepted (o left right (b .0) (b .1), at + 3)) read rest in
       subst SoundRead (accepted-inj (o left right (b .0) (b .1), at + 3) read same)
       (fit left right (b .0) (b .1) (ltb→lt left k (and-l (ltb left k) _ fields)) (ltb→lt right k (and-r (ltb left k) _ fields)) (bounds-fit s (at + 1) b hb))
@@ -133,7 +114,7 @@ module _ (s : List ℕ) (v k : ℕ) where
   unfolding operatorAt
   operator-sound at read e =
       let w : ℕ = wordAt s at in
-      by-code (codeOf (bits 20 8 w)) (each-at (codes-fit v k) (bits 20 8 w) unknown unknown tt) at (bits 10 10 w) (bits 0 10 w) read e
+      by-code (codeOf (codeField w)) (each-at (codes-fit v k) (codeField w) unknown unknown tt) at (leftField w) (rightField w) read e
 
 -- ---- the length of a line is at most T where the operands' lengths are
 length-bound : (T : ℕ) (operand : ℕ → ℕ) → ((i : ℕ) → operand i ≤ T) → (o : Operator) → lengthOf T operand o ≤ T
@@ -166,20 +147,6 @@ length-same T v k f g h (Always i lower upper) b = ap (λ m. m - upper) (h i (b 
 length-same T v k f g h (Everywhere i lower upper) b = h i (b .0)
 
 -- ---- a line, and all lines
--- the lengths of a table's lines
-abbrev pub lengthsOf : List Line → ℕ → ℕ
-lengthsOf lines i = lineIn lines i .length
-
--- line k of a table whose lines have the lengths given
-pub record GoodLine (v T : ℕ) (lengths : ℕ → ℕ) (k : ℕ) (line : Line) : Type 0 where
-  pub least : 1 ≤ line .length
-  pub most : line .length ≤ T
-  pub extent : line .length ≡ lengthOf T lengths (line .operator)
-  pub sound : Sound v k (line .operator)
-
-abbrev pub GoodTable : ℕ → ℕ → List Line → Type 0
-GoodTable v T lines = (k : ℕ) → k < length lines → GoodLine v T (lengthsOf lines) k (lineIn lines k)
-
 -- also of a line that is not there
 pub good-length : (v T : ℕ) (lines : List Line) → GoodTable v T lines → (i : ℕ) → lineIn lines i .length ≤ T
 good-length v T lines good i = go (decLt i (length lines))
@@ -226,11 +193,6 @@ good-more v T lines line good last k h =
     (below (omega arith))
 
 -- the lines that are read are good, at least one and at most as many as there was room for
-pub record GoodLines (v T most : ℕ) (lines : List Line) : Type 0 where
-  pub good : GoodTable v T lines
-  pub some : 1 ≤ length lines
-  pub bound : length lines ≤ most
-
 lines-good : (s : List ℕ) (v T room : ℕ) (lines : List Line) (at : ℕ) (found : List Line × ℕ) → GoodTable v T lines → 1 ≤ room + length lines
     → linesFrom s v T room lines at ≡ accepted found → GoodLines v T (room + length lines) (found .0)
 unfolding linesFrom

@@ -21,11 +21,6 @@ pub require-accepted : {A : Type 0} (test : Bool) (number place : ℕ) (next : C
 require-accepted true number place next e = (refl, e)
 require-accepted false number place next e = absurd (never e)
 
-pub require-bind : {A B : Type 0} (test : Bool) (number place : ℕ) (next : Checked A) (f : A → Checked B)
-    → (require test number place next >>= f) ≡ require test number place (next >>= f)
-require-bind true number place next f = refl
-require-bind false number place next f = refl
-
 pub bind-accepted : {A B : Type 0} (first : Checked A) (f : A → Checked B) {b : B} → (first >>= f) ≡ accepted b
     → (a : A) × (first ≡ accepted a) × (f a ≡ accepted b)
 bind-accepted (accepted a) f e = (a, refl, e)

@@ -1,23 +1,16 @@
 -- The operator at a line word, by its code: which of the three kinds of lines it is, and with which limits of its fields.
-use Prim.Native.Nat.{ℕ, zero, suc, _+_, _<_, _≤_}
+use Prim.Native.Nat.{ℕ, _+_, _<_, _≤_}
 use mathlib.Core.List.{List}
 use mathlib.Core.Logic.{_⊎_, inl, inr, ⊎-elim}
-use mathlib.Core.Path.{_≡_, refl, sym, _∙_}
+use mathlib.Core.Path.{_≡_}
 use native.Mathlib.Decide.{ℕ-discrete}
 use native.Mathlib.Omega.{arith}
-use lib.Dec.{ltb, eqb}
 use lib.ListN.{getD, List·getD-eq-default}
-use borrow.Author.Tests.{le-ltb, ne-eqb}
 use Rattle.sheet.specs.declared.operator.Fields.{Fields}
 use Rattle.sheet.specs.Checked.{refused, wordAt}
 use Rattle.sheet.specs.Codes.{codes, unknown}
 use Rattle.sheet.specs.Lines.{operatorAt}
 use Rattle.sheet.specs.Decoding.{fieldsOf, plainRead, atomRead, boundedRead}
-
--- an unused field is zero: it is below the limit 1
-unused : (x : ℕ) → eqb x 0 ≡ ltb x 1
-unused zero = refl
-unused (suc x) = ne-eqb (suc x) 0 (λ e. omega arith) ∙ sym (le-ltb (suc x) 1 (omega arith))
 
 -- a number of a range is its lowest, or of the range without that
 lowest : {n : ℕ} (low : ℕ) → low ≤ n → (n ≡ low) ⊎ (low + 1 ≤ n)
@@ -33,11 +26,11 @@ module _ (s : List ℕ) (v lines at : ℕ) {f : Fields} (read : f ≡ fieldsOf (
 
   pub true-read : f .code ≡ 0 → plainRead f 1 1 at ≡ operatorAt s v lines at
   unfolding plainRead operatorAt fieldsOf codes
-  true-read key = rw (read, code-read 0 key) (simp unused)
+  true-read key = rw (read, code-read 0 key)
 
   pub not-read : f .code ≡ 3 → plainRead f lines 1 at ≡ operatorAt s v lines at
   unfolding plainRead operatorAt fieldsOf codes
-  not-read key = rw (read, code-read 3 key) (simp unused)
+  not-read key = rw (read, code-read 3 key)
 
   pub binary-read : (f .code ≡ 4) ⊎ (f .code ≡ 8) → plainRead f lines lines at ≡ operatorAt s v lines at
   unfolding plainRead operatorAt fieldsOf codes
@@ -46,7 +39,7 @@ module _ (s : List ℕ) (v lines at : ℕ) {f : Fields} (read : f ≡ fieldsOf (
   pub atom-read : 1 ≤ f .code → f .code < 3 → atomRead s f v at ≡ operatorAt s v lines at
   unfolding atomRead operatorAt fieldsOf codes
   atom-read least most =
-      ⊎-elim (λ key. rw (read, code-read 1 key) (simp unused)) (λ above. rw (read, code-read 2 (omega arith)) (simp unused)) (lowest 1 least)
+      ⊎-elim (λ key. rw (read, code-read 1 key)) (λ above. rw (read, code-read 2 (omega arith))) (lowest 1 least)
 
   pub binary-bounded-read : (f .code ≡ 5) ⊎ (f .code ≡ 7) → boundedRead s f lines lines at ≡ operatorAt s v lines at
   unfolding boundedRead operatorAt fieldsOf codes
@@ -54,14 +47,14 @@ module _ (s : List ℕ) (v lines at : ℕ) {f : Fields} (read : f ≡ fieldsOf (
 
   pub somewhere-read : f .code ≡ 6 → boundedRead s f lines 1 at ≡ operatorAt s v lines at
   unfolding boundedRead operatorAt fieldsOf codes
-  somewhere-read key = rw (read, code-read 6 key) (simp unused)
+  somewhere-read key = rw (read, code-read 6 key)
 
   pub unary-bounded-read : 9 ≤ f .code → f .code < 12 → boundedRead s f lines 1 at ≡ operatorAt s v lines at
   unfolding boundedRead operatorAt fieldsOf codes
   unary-bounded-read least most =
-      ⊎-elim (λ key. rw (read, code-read 9 key) (simp unused))
+      ⊎-elim (λ key. rw (read, code-read 9 key))
       (λ above.
-      ⊎-elim (λ key. rw (read, code-read 10 key) (simp unused)) (λ last. rw (read, code-read 11 (omega arith)) (simp unused)) (lowest 10 above))
+      ⊎-elim (λ key. rw (read, code-read 10 key)) (λ last. rw (read, code-read 11 (omega arith))) (lowest 10 above))
       (lowest 9 least)
 
   pub unknown-read : 12 ≤ f .code → refused 11 at ≡ operatorAt s v lines at

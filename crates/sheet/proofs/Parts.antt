@@ -8,9 +8,9 @@ use lib.Dec.{ltb, eqb}
 use lib.ListN.{length}
 use Rattle.words.specs.Word.{bits, payloadOf}
 use Rattle.sheet.specs.Checked.{accepted, refused, _>>=_, require, wordAt, isKind}
-use Rattle.sheet.specs.Layout.{roadAt, weightAt, firstPlace, secondPlace, roadsFrom, samplesFrom}
-use Rattle.sheet.specs.Checking.{mapped, roadChecked}
-use Rattle.sheet.proofs.Checks.{require-accepted, require-bind}
+use Rattle.sheet.specs.Layout.{roadAt, firstPlace, secondPlace, roadChecked, roadsFrom, samplesFrom}
+use Rattle.sheet.specs.Checking.{mapped}
+use Rattle.sheet.proofs.Checks.{require-accepted}
 use Rattle.sheet.proofs.Tests.{and-true, kind-told}
 
 -- ---- roads
@@ -33,10 +33,8 @@ roads-end s n (suc room) r last other = rw (other, roadsFrom)
 
 pub road-more : (s : List ℕ) (n room r last : ℕ) → isKind 2 s (roadAt r) ≡ true
     → roadsFrom s n (suc room) r last ≡ (roadChecked s n (roadAt r) last >>= λ payload. roadsFrom s n room (suc r) payload)
-unfolding roadsFrom roadChecked
-road-more s n room r last kind-2 =
-    let weight : roadAt r + 1 ≡ weightAt r = omega arith in
-    rw (kind-2, roadsFrom) (simp (require-bind, weight))
+unfolding roadsFrom
+road-more s n room r last kind-2 = rw (kind-2, roadsFrom)
 
 -- the loop over the roads: how many were passed, and that what is left decides the whole
 pub record Roads (s : List ℕ) (n at last : ℕ) : Type 0 where

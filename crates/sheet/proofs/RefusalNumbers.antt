@@ -4,12 +4,11 @@ use mathlib.Core.List.{List, [], _∷_, _++_}
 use Prim.Native.Nat.{ℕ, zero, suc, _+_}
 use lib.Dec.{T}
 use lib.ListN.{length}
-use Rattle.words.specs.Word.{payloadOf}
 use Rattle.logic.specs.Formulas.{Line, lineIn}
-use Rattle.sheet.specs.Checked.{Checked, accepted, refused, _>>=_, require, between, wordAt, isKind}
+use Rattle.sheet.specs.Checked.{Checked, accepted, refused, _>>=_, require, between, isKind}
 use Rattle.sheet.specs.Codes.{Code, constant, atom, unary, binary, unaryBounded, binaryBounded, unknown}
 use Rattle.sheet.specs.Lines.{constantAt, boundsAt, operatorBy, operatorAt, lineAt, linesFrom}
-use Rattle.sheet.specs.Layout.{Layout, headChecked, roadAt, roadsFrom, samplesFrom, endChecked, checked}
+use Rattle.sheet.specs.Layout.{Layout, headChecked, roadAt, roadChecked, roadsFrom, samplesFrom, endChecked, checked}
 
 abbrev Number : ℕ → Type 0
 Number k = T (between 1 14 k)
@@ -69,12 +68,16 @@ module _ (s : List ℕ) where
   samples-numbered zero at = accepts
   samples-numbered (suc count) at = let onward = samples-numbered count (at + 1) in search (required)
 
+  road-numbered : (n at last : ℕ) → Numbered (roadChecked s n at last)
+  unfolding roadChecked
+  road-numbered n at last = search (required, accepts)
+
   roads-numbered : (n words r last : ℕ) → Numbered (roadsFrom s n words r last)
   unfolding roadsFrom
   roads-numbered n zero r last = accepts
   roads-numbered n (suc words) r last =
-      let onward = roads-numbered n words (suc r) (payloadOf (wordAt s (roadAt r))) in
-      chosen (isKind 2 s (roadAt r)) _ _ (search required) accepts
+      let onward = roads-numbered n words (suc r) in
+      chosen (isKind 2 s (roadAt r)) _ _ (bound _ _ (road-numbered n (roadAt r) last) onward) accepts
 
   end-numbered : (at : ℕ) (L : Layout) → Numbered (endChecked s at L)
   unfolding endChecked

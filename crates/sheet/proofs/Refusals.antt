@@ -7,11 +7,11 @@ use lib.ListN.{replicate}
 use Rattle.sheet.specs.Checked.{Checked, refused, isKind}
 use Rattle.sheet.specs.Codes.{codes}
 use Rattle.sheet.specs.Lines.{constantAt, boundsAt, operatorAt, lineAt, linesFrom}
-use Rattle.sheet.specs.Layout.{Layout, headSizes, headChecked, roadsFrom, samplesFrom, endChecked, checked}
+use Rattle.sheet.specs.Layout.{Layout, sizesOf, headChecked, roadChecked, roadsFrom, samplesFrom, endChecked, checked}
 
 -- the check with enough distances lent
 outcome : List ℕ → Checked Layout
-unfolding isKind codes constantAt boundsAt operatorAt lineAt linesFrom headSizes headChecked roadsFrom samplesFrom endChecked checked
+unfolding isKind codes constantAt boundsAt operatorAt lineAt linesFrom sizesOf headChecked roadChecked roadsFrom samplesFrom endChecked checked
 outcome s = checked s 4096
 
 -- what one place with one signal and one sample begins with, and three places

@@ -7,13 +7,13 @@ use mathlib.Core.List.{List, [], _∷_, _++_}
 use Prim.Native.Nat.{ℕ, zero, suc, _+_, _-_}
 use lib.Dec.{T, eqb, ltb}
 use lib.ListN.{length}
-use Rattle.words.specs.Word.{bits, kindOf, payloadOf}
+use Rattle.words.specs.Word.{kindOf, payloadOf}
 use Rattle.logic.specs.Formulas.{Operator, Line, lineIn}
 use Rattle.sheet.specs.Limits.{mostLines}
 use Rattle.sheet.specs.Checked.{Checked, accepted, _>>=_, require, wordAt, isKind}
 use Rattle.sheet.specs.Codes.{Code, constant, atom, unary, binary, unaryBounded, binaryBounded, unknown, codeOf}
-use Rattle.sheet.specs.Lines.{constantAt, boundsAt, operatorBy, operatorAt, lineAt, linesFrom}
-use Rattle.sheet.specs.Layout.{Sizes, Layout, headSizes, headChecked, roadAt, weightAt, firstPlace, secondPlace, roadsFrom, sampleCount}
+use Rattle.sheet.specs.Lines.{codeField, leftField, rightField, constantAt, boundsAt, operatorBy, operatorAt, lineAt, linesFrom}
+use Rattle.sheet.specs.Layout.{Sizes, Layout, headChecked, roadAt, roadChecked, roadsFrom, sampleCount}
 use Rattle.sheet.specs.Apart.{SamplesApart}
 use Rattle.sheet.proofs.Checks.{accepted-inj}
 use Rattle.sheet.specs.Checking.{layoutOf}
@@ -39,14 +39,9 @@ choice-same : {A : Type 0} (t u : Bool) (a b c : Checked A) → t ≡ u → (T u
 choice-same t true a b c e h = rw e (h tt)
 choice-same t false a b c e h = rw e refl
 
--- what is checked of road r, and then the roads after it
-abbrev road : List ℕ → ℕ → ℕ → ℕ → ℕ → ℕ → Checked ℕ
-road s n words r last w =
-    require (eqb (bits 16 12 w) 0) 4 (roadAt r)
-    (require (ltb (firstPlace w) (secondPlace w) && ltb (secondPlace w) n) 5 (roadAt r)
-    (require (ltb last (payloadOf w)) 6 (roadAt r)
-    (require (isKind 3 s (weightAt r) && ltb 0 (payloadOf (wordAt s (weightAt r)))) 7 (weightAt r)
-    (roadsFrom s n words (suc r) (payloadOf w)))))
+-- road r, and then the roads after it
+abbrev roadThen : List ℕ → ℕ → ℕ → ℕ → ℕ → Checked ℕ
+roadThen s n words r last = roadChecked s n (roadAt r) last >>= λ payload. roadsFrom s n words (suc r) payload
 
 -- the line at an index, and then the lines after it
 abbrev lineThen : List ℕ → ℕ → ℕ → ℕ → List Line → ℕ → Checked (List Line × ℕ)
@@ -82,16 +77,19 @@ module _ (d : ℕ) (X Y : List ℕ) (apart : SamplesApart d X Y) where
 
   -- ---- the stages
   head-same : headChecked X ≡ headChecked Y
-  unfolding headChecked headSizes
+  unfolding headChecked
   head-same = require-same (isKind 1 X 0) (isKind 1 Y 0) 2 0 _ _ (kind-same 1 0 tt) (λ h. rw (word-same 1 0 tt h) refl)
+
+  road-same : (n at last : ℕ) → wordAt X at ≡ wordAt Y at → roadChecked X n at last ≡ roadChecked Y n at last
+  unfolding roadChecked
+  road-same n at last e = rw (e, test-same 3 (at + 1) (λ w. ltb 0 (payloadOf w)) tt) refl
 
   roads-same : (n words r last : ℕ) → roadsFrom X n words r last ≡ roadsFrom Y n words r last
   unfolding roadsFrom
   roads-same n zero r last = refl
-  roads-same n (suc words) r last = choice-same (isKind 2 X (roadAt r)) (isKind 2 Y (roadAt r))
-      (road X n words r last (wordAt X (roadAt r))) (road Y n words r last (wordAt Y (roadAt r))) (accepted r)
+  roads-same n (suc words) r last = choice-same (isKind 2 X (roadAt r)) (isKind 2 Y (roadAt r)) (roadThen X n words r last) (roadThen Y n words r last) (accepted r)
       (kind-same 2 (roadAt r) tt)
-      (λ h. rw (word-same 2 (roadAt r) tt h, test-same 3 (weightAt r) (λ w. ltb 0 (payloadOf w)) tt, roads-same n words (suc r) (payloadOf (wordAt Y (roadAt r)))) refl)
+      (λ h. bind-same _ _ _ _ (road-same n (roadAt r) last (word-same 2 (roadAt r) tt h)) (λ payload. roads-same n words (suc r) payload))
 
   constant-same : (at : ℕ) → constantAt X at ≡ constantAt Y at
   unfolding constantAt
@@ -115,10 +113,10 @@ module _ (d : ℕ) (X Y : List ℕ) (apart : SamplesApart d X Y) where
   line-same : (v T lines : ℕ) (lengths : ℕ → ℕ) (at : ℕ) → wordAt X at ≡ wordAt Y at → lineAt X v T lines lengths at ≡ lineAt Y v T lines lengths at
   unfolding lineAt operatorAt
   line-same v T lines lengths at e =
-      let by : ℕ → Checked (Operator × ℕ) = λ w. operatorBy X (codeOf (bits 20 8 w)) at (bits 10 10 w) (bits 0 10 w) v lines in
+      let by : ℕ → Checked (Operator × ℕ) = λ w. operatorBy X (codeOf (codeField w)) at (leftField w) (rightField w) v lines in
       let w : ℕ = wordAt Y at in
       bind-same (operatorAt X v lines at) (operatorAt Y v lines at) _ _
-      (ap by e ∙ operator-same (codeOf (bits 20 8 w)) at (bits 10 10 w) (bits 0 10 w) v lines) (λ _. refl)
+      (ap by e ∙ operator-same (codeOf (codeField w)) at (leftField w) (rightField w) v lines) (λ _. refl)
 
   lines-same : (v T room : ℕ) (lines : List Line) (at : ℕ) → linesFrom X v T room lines at ≡ linesFrom Y v T room lines at
   unfolding linesFrom

@@ -1,10 +1,7 @@
 -- What the code's answers of the check say, in the terms of `Layout`.
 use Prim.Native.Nat.{ℕ, _+_}
-use mathlib.Core.Bool.{_&&_}
 use mathlib.Core.List.{List}
-use lib.Dec.{ltb, eqb}
 use lib.ListN.{length}
-use Rattle.words.specs.Word.{bits, payloadOf}
 use Rattle.logic.specs.Formulas.{Line}
 use Rattle.sheet.specs.declared.stages.Sizes as S
 use Rattle.sheet.specs.declared.stages.Head.{Head}
@@ -17,17 +14,14 @@ use Rattle.sheet.specs.declared.check.Layout as F
 use Rattle.sheet.specs.declared.check.Check.{Check}
 use Rattle.sheet.specs.declared.check.Check.the-variants as C
 use Rattle.sheet.specs.Faults.{faultNumber}
-use Rattle.sheet.specs.Checked.{Checked, accepted, refused, _>>=_, require, wordAt, isKind}
-use Rattle.sheet.specs.Layout.{Sizes, Layout, roadAt, sampleCount, firstPlace, secondPlace}
+use Rattle.sheet.specs.Checked.{Checked, accepted, refused, _>>=_}
+use Rattle.sheet.specs.Layout.{Sizes, Layout, roadAt, sampleCount}
 
 -- what is made of what was accepted
 abbrev pub mapped : {A B : Type 0} → (A → B) → Checked A → Checked B
 mapped f checked = checked >>= λ found. accepted (f found)
 
 -- ---- the parts of a sheet
-
-unfoldable pub sizesOf : ℕ → S.Sizes
-sizesOf w = record { places = bits 20 8 w; signals = bits 12 8 w; samples = bits 0 12 w }
 
 abbrev pub sizesSaid : S.Sizes → Sizes
 sizesSaid z = record { places = z .places; signals = z .signals; samples = z .samples }
@@ -47,16 +41,6 @@ tableSaid (T.Refused fault place) = refused (faultNumber fault) place
 -- of the lines that were read the code keeps their count
 abbrev pub lineCount : List Line × ℕ → ℕ × ℕ
 lineCount found = (length (found .0), found .1)
-
--- the road at an index, after one with the payload `last`: its payload
-unfoldable pub roadChecked : List ℕ → ℕ → ℕ → ℕ → Checked ℕ
-roadChecked s n at last =
-    let w : ℕ = wordAt s at in
-    require (eqb (bits 16 12 w) 0) 4 at
-    (require (ltb (firstPlace w) (secondPlace w) && ltb (secondPlace w) n) 5 at
-    (require (ltb last (payloadOf w)) 6 at
-    (require (isKind 3 s (at + 1) && ltb 0 (payloadOf (wordAt s (at + 1)))) 7 (at + 1)
-    (accepted (payloadOf w)))))
 
 -- ---- the whole sheet
 

@@ -1,10 +1,7 @@
 -- What the code's decoded lines say, in the terms of `Lines`, and the parts in which the code reads an operator.
-use Prim.Native.Nat.{ℕ, _+_}
-use mathlib.Core.Bool.{_&&_}
+use Prim.Native.Nat.{ℕ}
 use mathlib.Core.List.{List}
-use lib.Dec.{ltb}
 use lib.IntN.{ℤ, pos}
-use Rattle.words.specs.Word.{bits}
 use Rattle.logic.specs.Formulas as Formulas
 use Rattle.sheet.specs.declared.operator.Bounds.{Bounds}
 use Rattle.sheet.specs.declared.operator.Operator.{Operator}
@@ -16,9 +13,9 @@ use Rattle.sheet.specs.declared.operator.ReadConstant as C
 use Rattle.sheet.specs.declared.operator.ReadBounds as B
 use Rattle.sheet.specs.declared.operator.ReadOperator as O
 use Rattle.sheet.specs.Faults.{faultNumber}
-use Rattle.sheet.specs.Checked.{Checked, accepted, refused, _>>=_, require}
+use Rattle.sheet.specs.Checked.{Checked, accepted, refused}
 use Rattle.sheet.specs.Codes.{Code, constant, atom, unary, binary, unaryBounded, binaryBounded, unknown, codeOf}
-use Rattle.sheet.specs.Lines.{constantAt, boundsAt}
+use Rattle.sheet.specs.Lines.{codeField, leftField, rightField, Read, unused, fieldsBelow, plain, withConstant, withBounds}
 
 -- ---- what the enums and structs of the code say
 
@@ -51,14 +48,14 @@ abbrev pub boundsSaid : B.ReadBounds → Checked (ℕ × ℕ)
 boundsSaid (B.the-variants.Bounds b) = accepted (b .lower, b .upper)
 boundsSaid (B.the-variants.Refused fault place) = refused (faultNumber fault) place
 
-abbrev pub readSaid : O.ReadOperator → Checked (Formulas.Operator × ℕ)
+abbrev pub readSaid : O.ReadOperator → Checked Read
 readSaid (O.the-variants.Operator operator next) = accepted (operatorSaid operator, next)
 readSaid (O.the-variants.Refused fault place) = refused (faultNumber fault) place
 
 -- ---- the fields of a line word, and the three kinds of lines: with no parameter, with a constant, with bounds
 
 unfoldable pub fieldsOf : ℕ → Fields
-fieldsOf w = record { code = bits 20 8 w; left = bits 10 10 w; right = bits 0 10 w }
+fieldsOf w = record { code = codeField w; left = leftField w; right = rightField w }
 
 -- what a code says of fields and parameters, those that it does not have left out
 abbrev pub operatorWith : Code → ℕ → ℕ → ℤ → ℕ → ℕ → Formulas.Operator
@@ -73,17 +70,12 @@ operatorWith unknown left right c lower upper = Formulas.True
 abbrev pub operatorOf : Fields → ℤ → ℕ → ℕ → Formulas.Operator
 operatorOf f c lower upper = operatorWith (codeOf (f .code)) (f .left) (f .right) c lower upper
 
--- each field below its limit, else refusal 11; an unused field has the limit 1
-abbrev pub fieldsBelow : Fields → ℕ → ℕ → ℕ → Checked (Formulas.Operator × ℕ) → Checked (Formulas.Operator × ℕ)
-fieldsBelow f leftLimit rightLimit at next = require (ltb (f .left) leftLimit && ltb (f .right) rightLimit) 11 at next
-
-unfoldable pub plainRead : Fields → ℕ → ℕ → ℕ → Checked (Formulas.Operator × ℕ)
-plainRead f leftLimit rightLimit at = fieldsBelow f leftLimit rightLimit at (accepted (operatorOf f (pos 0) 0 0, at + 1))
+unfoldable pub plainRead : Fields → ℕ → ℕ → ℕ → Checked Read
+plainRead f leftLimit rightLimit at = fieldsBelow (f .left) leftLimit (f .right) rightLimit at (plain at (operatorOf f (pos 0) 0 0))
 
 module _ (s : List ℕ) where
-  unfoldable pub atomRead : Fields → ℕ → ℕ → Checked (Formulas.Operator × ℕ)
-  atomRead f signals at = fieldsBelow f signals 1 at (constantAt s (at + 1) >>= λ c. accepted (operatorOf f c 0 0, at + 2))
+  unfoldable pub atomRead : Fields → ℕ → ℕ → Checked Read
+  atomRead f signals at = fieldsBelow (f .left) signals (f .right) unused at (withConstant s at (λ c. operatorOf f c 0 0))
 
-  unfoldable pub boundedRead : Fields → ℕ → ℕ → ℕ → Checked (Formulas.Operator × ℕ)
-  boundedRead f leftLimit rightLimit at =
-      fieldsBelow f leftLimit rightLimit at (boundsAt s (at + 1) >>= λ b. accepted (operatorOf f (pos 0) (b .0) (b .1), at + 3))
+  unfoldable pub boundedRead : Fields → ℕ → ℕ → ℕ → Checked Read
+  boundedRead f leftLimit rightLimit at = fieldsBelow (f .left) leftLimit (f .right) rightLimit at (withBounds s at (operatorOf f (pos 0)))

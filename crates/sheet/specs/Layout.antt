@@ -27,11 +27,16 @@ abbrev pub roadAt : ℕ → ℕ
 roadAt r = 1 + 2 * r
 
 abbrev pub weightAt : ℕ → ℕ
-weightAt r = 2 + 2 * r
+weightAt r = roadAt r + 1
 
 abbrev pub sampleCount : Sizes → ℕ
 sampleCount z = z .signals * z .places * z .samples
 
+-- of the head
+unfoldable pub sizesOf : ℕ → Sizes
+sizesOf w = record { places = bits 20 8 w; signals = bits 12 8 w; samples = bits 0 12 w }
+
+-- of a road's first word
 abbrev pub firstPlace : ℕ → ℕ
 firstPlace w = bits 8 8 w
 
@@ -39,30 +44,32 @@ abbrev pub secondPlace : ℕ → ℕ
 secondPlace w = bits 0 8 w
 
 module _ (s : List ℕ) where
-  -- kind 1: bits 27..20 places, 19..12 signals, 11..0 samples
-  unfoldable pub headSizes : Sizes
-  headSizes = record { places = bits 20 8 (wordAt s 0); signals = bits 12 8 (wordAt s 0); samples = bits 0 12 (wordAt s 0) }
-
+  -- kind 1
   unfoldable pub headChecked : Checked Sizes
   headChecked =
+      let sizes : Sizes = sizesOf (wordAt s 0) in
       require (isKind 1 s 0) 2 0
-      (require (between 1 mostPlaces (headSizes .places) && (between 1 mostSignals (headSizes .signals) && between 1 mostSamples (headSizes .samples))) 3 0
-      (accepted headSizes))
+      (require (between 1 mostPlaces (sizes .places) && (between 1 mostSignals (sizes .signals) && between 1 mostSamples (sizes .samples))) 3 0
+      (accepted sizes))
 
-  -- How many roads there are, r of them read, the last with this payload (0 before the first): the first word that is not of kind 2 ends them.
-  -- With bits 27..16 zero, the order of pairs is the order of payloads. `words` bounds the roads that may come.
+  -- The road at an index, after one with the payload `last` (0 before the first): its payload. With bits 27..16 zero, the order of pairs is the
+  -- order of payloads.
+  unfoldable pub roadChecked : ℕ → ℕ → ℕ → Checked ℕ
+  roadChecked n at last =
+      let w : ℕ = wordAt s at in
+      require (eqb (bits 16 12 w) 0) 4 at
+      (require (ltb (firstPlace w) (secondPlace w) && ltb (secondPlace w) n) 5 at
+      (require (ltb last (payloadOf w)) 6 at
+      (require (isKind 3 s (at + 1) && ltb 0 (payloadOf (wordAt s (at + 1)))) 7 (at + 1)
+      (accepted (payloadOf w)))))
+
+  -- how many roads there are, r of them read: the first word that is not of kind 2 ends them. `words` bounds the roads that may come.
   unfoldable pub roadsFrom : ℕ → ℕ → ℕ → ℕ → Checked ℕ
   roadsFrom n zero r last = accepted r
-  roadsFrom n (suc words) r last =
-      let w : ℕ = wordAt s (roadAt r) in
-      elim (isKind 2 s (roadAt r)) [
-        | true ↦ require (eqb (bits 16 12 w) 0) 4 (roadAt r)
-            (require (ltb (firstPlace w) (secondPlace w) && ltb (secondPlace w) n) 5 (roadAt r)
-            (require (ltb last (payloadOf w)) 6 (roadAt r)
-            (require (isKind 3 s (weightAt r) && ltb 0 (payloadOf (wordAt s (weightAt r)))) 7 (weightAt r)
-            (roadsFrom n words (suc r) (payloadOf w)))))
-        | false ↦ accepted r
-      ]
+  roadsFrom n (suc words) r last = elim (isKind 2 s (roadAt r)) [
+    | true ↦ roadChecked n (roadAt r) last >>= λ payload. roadsFrom n words (suc r) payload
+    | false ↦ accepted r
+  ]
 
   -- `count` samples from an index on, and the index after them: kind 4, bit 27 zero
   unfoldable pub samplesFrom : ℕ → ℕ → Checked ℕ

@@ -2,6 +2,7 @@ pub mod Limits
 pub mod Checked
 pub mod Codes
 pub mod Lines
+pub mod GoodLines
 pub mod Layout
 pub mod Roads
 pub mod DistanceStages

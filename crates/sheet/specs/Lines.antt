@@ -1,4 +1,4 @@
--- The lines of a sheet: kind 5, bits 27..20 the code, 19..10 left, 9..0 right, then the code's parameters.
+-- The lines of the table ("The sheet"; refusals 10 to 13): kind 5, bits 27..20 the code, 19..10 left, 9..0 right, then the code's parameters.
 use Prim.Native.Nat.{ℕ, zero, suc, _+_}
 use mathlib.Core.Bool.{true, false, not, _&&_}
 use mathlib.Core.List.{List, [], _∷_, _++_}
@@ -10,14 +10,30 @@ use Rattle.logic.specs.Formulas.{Operator, Line, lineIn, lengthOf}
 use Rattle.sheet.specs.Checked.{Checked, accepted, refused, _>>=_, require, wordAt, isKind}
 use Rattle.sheet.specs.Codes.{Code, constant, atom, unary, binary, unaryBounded, binaryBounded, unknown, codeOf}
 
-abbrev codeField : ℕ → ℕ
+abbrev pub codeField : ℕ → ℕ
 codeField w = bits 20 8 w
 
-abbrev leftField : ℕ → ℕ
+abbrev pub leftField : ℕ → ℕ
 leftField w = bits 10 10 w
 
-abbrev rightField : ℕ → ℕ
+abbrev pub rightField : ℕ → ℕ
 rightField w = bits 0 10 w
+
+-- an operator and the index after its last word
+abbrev pub Read : Type 0
+Read = Operator × ℕ
+
+-- an unused field is zero: it has the limit 1
+abbrev pub unused : ℕ
+unused = 1
+
+-- refusal 11: a field that is not below its limit
+abbrev pub fieldsBelow : ℕ → ℕ → ℕ → ℕ → ℕ → Checked Read → Checked Read
+fieldsBelow left leftLimit right rightLimit at next = require (ltb left leftLimit && ltb right rightLimit) 11 at next
+
+-- a line word with no parameter after it
+abbrev pub plain : ℕ → Operator → Checked Read
+plain at o = accepted (o, at + 1)
 
 module _ (s : List ℕ) where
   -- kind 8, a constant laid out as a sample
@@ -34,21 +50,21 @@ module _ (s : List ℕ) where
       (require (leb lower upper) 12 (at + 1)
       (accepted (lower, upper))))
 
-  -- an operator and the index after its last word
-  abbrev pub Read : Type 0
-  Read = Operator × ℕ
+  -- a line word with a constant after it; with two bounds
+  abbrev pub withConstant : ℕ → (ℤ → Operator) → Checked Read
+  withConstant at o = constantAt (at + 1) >>= λ c. accepted (o c, at + 2)
 
-  -- the line word at an index, with v signals and `lines` earlier lines: a used field is below its limit, an unused one zero
+  abbrev pub withBounds : ℕ → (ℕ → ℕ → Operator) → Checked Read
+  withBounds at o = boundsAt (at + 1) >>= λ b. accepted (o (b .0) (b .1), at + 3)
+
+  -- the line word at an index, with v signals and `lines` earlier lines
   abbrev pub operatorBy : Code → ℕ → ℕ → ℕ → ℕ → ℕ → Checked Read
-  operatorBy (constant o) at left right v lines = require (eqb left 0 && eqb right 0) 11 at (accepted (o, at + 1))
-  operatorBy (atom o) at left right v lines =
-      require (ltb left v && eqb right 0) 11 at (constantAt (at + 1) >>= λ c. accepted (o left c, at + 2))
-  operatorBy (unary o) at left right v lines = require (ltb left lines && eqb right 0) 11 at (accepted (o left, at + 1))
-  operatorBy (binary o) at left right v lines = require (ltb left lines && ltb right lines) 11 at (accepted (o left right, at + 1))
-  operatorBy (unaryBounded o) at left right v lines =
-      require (ltb left lines && eqb right 0) 11 at (boundsAt (at + 1) >>= λ b. accepted (o left (b .0) (b .1), at + 3))
-  operatorBy (binaryBounded o) at left right v lines =
-      require (ltb left lines && ltb right lines) 11 at (boundsAt (at + 1) >>= λ b. accepted (o left right (b .0) (b .1), at + 3))
+  operatorBy (constant o) at left right v lines = fieldsBelow left unused right unused at (plain at o)
+  operatorBy (atom o) at left right v lines = fieldsBelow left v right unused at (withConstant at (o left))
+  operatorBy (unary o) at left right v lines = fieldsBelow left lines right unused at (plain at (o left))
+  operatorBy (binary o) at left right v lines = fieldsBelow left lines right lines at (plain at (o left right))
+  operatorBy (unaryBounded o) at left right v lines = fieldsBelow left lines right unused at (withBounds at (o left))
+  operatorBy (binaryBounded o) at left right v lines = fieldsBelow left lines right lines at (withBounds at (o left right))
   operatorBy unknown at left right v lines = refused 11 at
 
   unfoldable pub operatorAt : ℕ → ℕ → ℕ → Checked Read

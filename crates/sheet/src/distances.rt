@@ -1,13 +1,16 @@
 // The distances of all places, computed within the lent table: n * n numbers of 64 bits, row by row, 2^64 - 1 for none.
 // Paths are let through one more place at a time (Floyd and Warshall). Within one table this is right because the row and the
 // column of the place that is let in do not change in its turn.
+use crate::road::first_place;
+use crate::road::road_word;
+use crate::road::second_place;
+use crate::road::weight;
 ghost use mathlib.Core.Path.{_≡_};
 ghost use Prim.Native.Nat.{ℕ, _+_, _-_, _*_, _<_, _≤_, _^_, min};
 ghost use lib.ListN.{length, set, drop, replicate};
 ghost use Rattle.words.specs.Bytes.{wordsOf, numbersOf};
 ghost use Rattle.words.specs.Rows.{padded};
 ghost use Rattle.logic.specs.Distance.{Distance, none};
-ghost use Rattle.sheet.specs.Layout.{firstPlace, secondPlace};
 ghost use Rattle.sheet.specs.Roads.{GoodRoad, weightAmong, networkOf, distanceTable};
 ghost use Rattle.sheet.specs.DistanceStages.{stage, lettingIn, broughtDown};
 
@@ -34,24 +37,6 @@ fn start(n: usize, table: &mut [u8])
     }
 }
 
-fn first_place(road: u32) -> usize
-    ensures { λ r. ⌜ r ≡ firstPlace road ⌝ }
-{
-    (road / 256 % 256) as usize
-}
-
-fn second_place(road: u32) -> usize
-    ensures { λ r. ⌜ r ≡ secondPlace road ⌝ }
-{
-    (road % 256) as usize
-}
-
-fn wide(x: u32) -> u64
-    ensures { λ r. ⌜ r ≡ x ⌝ }
-{
-    x as u64
-}
-
 // A weight from a to b and back.
 fn put_both(n: usize, a: usize, b: usize, weight: u64, table: &mut [u8])
     requires { ⌜ (a < n) × (b < n) × (length (numbersOf (wordsOf (now table))) ≡ n * n) ⌝ }
@@ -66,13 +51,12 @@ fn put_road(s: &[u8], n: usize, r: usize, table: &mut [u8])
     requires { ⌜ GoodRoad (wordsOf (now s)) n r × (numbersOf (wordsOf (now table)) ≡ stage (weightAmong (wordsOf (now s)) r) n 0) ⌝ }
     ensures { λ _. ⌜ numbersOf (wordsOf (now (table .exit))) ≡ stage (weightAmong (wordsOf (now (s .entry))) (r + 1)) n 0 ⌝ }
 {
-    let road = words::word_at(s, 1 + 2 * r);
-    let weight = words::payload(words::word_at(s, 2 + 2 * r));
+    let road = road_word(s, r);
     put_both(
         n,
         first_place(road),
         second_place(road),
-        wide(weight),
+        weight(s, r),
         table,
     );
 }

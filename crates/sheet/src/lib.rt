@@ -5,6 +5,7 @@ pub mod fault;
 pub mod limits;
 pub mod line;
 pub mod operator;
+pub mod road;
 mod stages;
 pub mod survey;
 pub mod word;

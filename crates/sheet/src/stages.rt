@@ -7,6 +7,8 @@ use crate::limits::MOST_SIGNALS;
 use crate::limits::within;
 use crate::line::Decoded;
 use crate::line::decode_line;
+use crate::road::first_place;
+use crate::road::second_place;
 use crate::word::is_end;
 use crate::word::is_kind;
 use crate::word::spare_bit_zero;
@@ -17,8 +19,8 @@ ghost use lib.ListN.{length};
 ghost use Rattle.words.specs.Bytes.{wordsOf};
 ghost use Rattle.sheet.specs.Limits.{mostSamples, mostLines};
 ghost use Rattle.sheet.specs.Lines.{linesFrom};
-ghost use Rattle.sheet.specs.Layout.{roadAt, headChecked, roadsFrom, samplesFrom, endChecked};
-ghost use Rattle.sheet.specs.Checking.{sizesOf, headSaid, stageSaid, tableSaid, mapped, lineCount, roadChecked};
+ghost use Rattle.sheet.specs.Layout.{roadAt, sizesOf, headChecked, roadChecked, roadsFrom, samplesFrom, endChecked};
+ghost use Rattle.sheet.specs.Checking.{sizesSaid, headSaid, stageSaid, tableSaid, mapped, lineCount};
 
 pub(crate) struct Sizes {
     pub places: usize,
@@ -44,7 +46,7 @@ pub(crate) enum Table {
 }
 
 fn sizes_of(w: u32) -> Sizes
-    ensures { λ r. ⌜ r ≡ sizesOf w ⌝ }
+    ensures { λ r. ⌜ sizesSaid r ≡ sizesOf w ⌝ }
 {
     Sizes {
         places: (w / 1048576 % 256) as usize,
@@ -81,11 +83,11 @@ fn check_road(s: &[u8], at: usize, places: usize, last: usize) -> Stage
     if w / 65536 % 4096 != 0 {
         return Stage::Refused(Fault::RoadSpareBits, at);
     }
-    let second = w % 256;
-    if second <= w / 256 % 256 {
+    let second = second_place(w);
+    if second <= first_place(w) {
         return Stage::Refused(Fault::RoadPlaces, at);
     }
-    if places <= second as usize {
+    if places <= second {
         return Stage::Refused(Fault::RoadPlaces, at);
     }
     let payload = words::payload(w) as usize;

@@ -11,12 +11,13 @@ use Rattle.logic.specs.Table.{verdicts, margins, valueAt}
 use Rattle.logic.proofs.Counts.{rounds-at-most-places}
 use Rattle.sheet.specs.Limits.{mostLines}
 use Rattle.sheet.specs.Checked.{Checked, accepted, refused, between, wordAt}
+use Rattle.sheet.specs.GoodLines.{GoodLines}
 use Rattle.sheet.specs.Layout.{Layout, roadAt, checked}
 use Rattle.sheet.specs.Roads.{network, recording}
 use Rattle.sheet.specs.Checking.{layoutOf}
 use Rattle.sheet.proofs.Accepted.{SizesWithin}
 use Rattle.sheet.proofs.Whole.{AcceptedSheet}
-use Rattle.sheet.proofs.AcceptedLines.{sample-bits, GoodLines, good-length, table-good, good-constants}
+use Rattle.sheet.proofs.AcceptedLines.{sample-bits, good-length, table-good, good-constants}
 use Rattle.sheet.proofs.RefusalNumbers.{Numbered, refuses, check-numbered}
 use Rattle.values.specs.Said.{says, nothing}
 use Rattle.verdicts.specs.Answer.{wordsNeeded}

@@ -12,7 +12,7 @@ use Rattle.logic.specs.Counts.{mostBelow, sumBelow, roundsAt, greatestRounds, y
 use Rattle.sheet.specs.Checked.{isKind}
 use Rattle.sheet.specs.Codes.{codes}
 use Rattle.sheet.specs.Lines.{constantAt, boundsAt, operatorAt, lineAt, linesFrom}
-use Rattle.sheet.specs.Layout.{headSizes, headChecked, roadsFrom, samplesFrom, endChecked, checked}
+use Rattle.sheet.specs.Layout.{sizesOf, headChecked, roadChecked, roadsFrom, samplesFrom, endChecked, checked}
 use Rattle.sheet.specs.Roads.{joins, weightAmong, network, recording, distanceTable}
 use Rattle.values.specs.Said.{said}
 use Rattle.verdicts.specs.Answer.{lineIndex, wordsNeeded, wordFor, lineWords, headWord, answerWords}
@@ -23,7 +23,7 @@ use Rattle.lookup.specs.Lookup.{lineStart, saidAt}
 unfoldable pub answerOf : List ℕ → Judged
 unfolding leastOver greatestOver direct distance joined distanceIn within greatestRegion boundary allowed regionValue surround
     iterate masked first atRest rounds untilAt somewhereAt surroundAt value valuesAfter valueAt mostBelow sumBelow roundsAt
-    greatestRounds yesCount isKind codes constantAt boundsAt operatorAt lineAt linesFrom headSizes headChecked roadsFrom
-    samplesFrom endChecked checked joins weightAmong network recording distanceTable row concat lineIndex wordsNeeded wordFor
+    greatestRounds yesCount isKind codes constantAt boundsAt operatorAt lineAt linesFrom sizesOf headChecked roadChecked
+    roadsFrom samplesFrom endChecked checked joins weightAmong network recording distanceTable row concat lineIndex wordsNeeded wordFor
     lineWords headWord answerWords answered judged said lineStart saidAt
 answerOf s = judged s 4096 64

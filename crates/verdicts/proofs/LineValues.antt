@@ -14,7 +14,8 @@ use Rattle.logic.specs.Formulas.{Operator, Line, lineIn, lengthOf, Recording}
 use Rattle.logic.specs.Table.{Reading, Signal, everTrue, value, valuesAfter, valueAt}
 use Rattle.logic.proofs.TableSteps.{before}
 use Rattle.logic.proofs.ValueSame.{value-same}
-use Rattle.sheet.proofs.AcceptedLines.{lengthsOf, GoodLine, GoodTable, length-same}
+use Rattle.sheet.specs.GoodLines.{lengthsOf, GoodLine, GoodTable}
+use Rattle.sheet.proofs.AcceptedLines.{length-same}
 
 -- lengths cut to the lines before line k
 abbrev cut : ℕ → (ℕ → ℕ) → ℕ → ℕ

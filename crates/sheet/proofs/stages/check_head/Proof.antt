@@ -6,9 +6,9 @@ use Prim.Native.Nat.{ℕ}
 use borrow.Author.Tests.{not-true, not-false}
 use Rattle.words.specs.Bytes.{wordsOf}
 use Rattle.sheet.specs.Limits.{mostPlaces, mostSignals, mostSamples}
-use Rattle.sheet.specs.Checked.{accepted, require, between}
-use Rattle.sheet.specs.Layout.{Sizes, headSizes, headChecked}
-use Rattle.sheet.specs.Checking.{sizesOf, sizesSaid}
+use Rattle.sheet.specs.Checked.{accepted, require, between, wordAt}
+use Rattle.sheet.specs.Layout.{Sizes, sizesOf, headChecked}
+use Rattle.sheet.specs.Checking.{sizesSaid}
 use borrow.Author.Needs.{needs}
 use Rattle.sheet.proofs.stages.check_head.Statement.{statement}
 use Rattle.sheet.proofs.stages.check_head.Tie as tie
@@ -37,9 +37,8 @@ sheet c = wordsOf (c .before .before .before .before .before .args .s .now)
 abbrev sizes : tie.After-sizes-of → Sizes
 sizes c = sizesSaid (c .sizes-of .result)
 
-sizes-read : (c : tie.After-sizes-of) → sizes c ≡ headSizes (sheet c)
-unfolding headSizes sizesOf
-sizes-read c = ap sizesSaid (c .sizes-of .ensures ∙ ap sizesOf (c .before .word-or-zero .ensures))
+sizes-read : (c : tie.After-sizes-of) → sizes c ≡ sizesOf (wordAt (sheet c) 0)
+sizes-read c = c .sizes-of .ensures ∙ ap sizesOf (c .before .word-or-zero .ensures)
 
 limits-next : (c : tie.After-sizes-of) → headChecked (sheet c)
     ≡ require (between 1 mostPlaces (sizes c .places) && (between 1 mostSignals (sizes c .signals) && between 1 mostSamples (sizes c .samples))) 3 0 (accepted (sizes c))

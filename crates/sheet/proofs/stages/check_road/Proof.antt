@@ -1,17 +1,16 @@
 -- Spare bits, places, order, weight: each test of the code decides one of the definition's.
 use mathlib.Core.Path.{_≡_, sym, _∙_}
 use Prim.Native.Nat.{ℕ, _+_}
-use mathlib.Core.Bool.{_&&_}
+use mathlib.Core.Bool.{true, _&&_}
 use mathlib.Core.List.{List}
-use native.Mathlib.Nat.{div-one}
 use native.Mathlib.Omega.{arith}
-use lib.Dec.{ltb}
+use lib.Dec.{ltb, eqb}
 use borrow.Author.Tests.{lt-ltb, le-ltb, eq-eqb, ne-eqb, not-true, not-false}
 use Rattle.words.specs.Bytes.{wordsOf}
-use Rattle.words.specs.Word.{payloadOf}
+use Rattle.words.specs.Word.{bits, payloadOf}
 use Rattle.words.proofs.Words.{words-count}
 use Rattle.sheet.specs.Checked.{Checked, accepted, require, wordAt, isKind}
-use Rattle.sheet.specs.Checking.{roadChecked}
+use Rattle.sheet.specs.Layout.{firstPlace, secondPlace, roadChecked}
 use borrow.Author.Needs.{needs}
 use Rattle.sheet.proofs.stages.check_road.Statement.{statement}
 use Rattle.sheet.proofs.stages.check_road.Tie as tie
@@ -23,18 +22,37 @@ returns : tie.Need-returns
 unfolding roadChecked
 returns c = simp (← c .before .word-or-zero .ensures, ne-eqb _ 0 (c .if1 .taken))
 
+second-place-requires : tie.Need-second-place-requires
+second-place-requires c κs = search needs
+
+first-place-requires : tie.Need-first-place-requires
+first-place-requires c κs = search needs
+
+-- the places as they were read, where the spare bits have passed
+module _ (c : tie.After-first-place) where
+  abbrev word : ℕ
+  word = c .before .before .before .word-or-zero .result
+
+  first-read : firstPlace word ≡ c .first-place .result
+  first-read = sym (c .first-place .ensures)
+
+  second-read : secondPlace word ≡ c .before .second-place .result
+  second-read = sym (c .before .second-place .ensures)
+
+  spare-zero : eqb (bits 16 12 word) 0 ≡ true
+  spare-zero = eq-eqb _ 0 (c .before .before .if1 .left)
+
 returns-2 : tie.Need-returns-2
 unfolding roadChecked
-returns-2 c = simp (← c .before .before .word-or-zero .ensures, eq-eqb _ 0 (c .before .if1 .left), div-one, le-ltb _ _ (c .if2 .taken))
-
-cast-if3 : tie.Need-cast-if3
-cast-if3 c = search needs
+returns-2 c =
+    let p = c .before in
+    simp (← p .before .before .before .word-or-zero .ensures, spare-zero p, first-read p, second-read p, le-ltb _ _ (c .if2 .taken))
 
 returns-3 : tie.Need-returns-3
 unfolding roadChecked
 returns-3 c =
-    let spare = c .before .before in
-    simp (← spare .before .word-or-zero .ensures, eq-eqb _ 0 (spare .if1 .left), div-one, lt-ltb _ _ (c .before .if2 .left), le-ltb _ _ (c .if3 .taken))
+    let p = c .before .before in
+    simp (← p .before .before .before .word-or-zero .ensures, spare-zero p, first-read p, second-read p, lt-ltb _ _ (c .before .if2 .left), le-ltb _ _ (c .if3 .taken))
 
 payload-requires : tie.Need-payload-requires
 payload-requires c κs = search needs
@@ -45,19 +63,19 @@ cast-payload c = search needs
 -- ---- the places have passed: what is left is the order, and the weight
 
 abbrev bytes : tie.After-payload → List ℕ
-bytes c = c .before .before .before .before .before .before .args .s .now
+bytes c = c .before .before .before .before .before .before .before .before .args .s .now
 
 abbrev sheet : tie.After-payload → List ℕ
 sheet c = wordsOf (bytes c)
 
 abbrev index : tie.After-payload → ℕ
-index c = c .before .before .before .before .before .before .args .at
+index c = c .before .before .before .before .before .before .before .before .args .at
 
 abbrev places : tie.After-payload → ℕ
-places c = c .before .before .before .before .before .before .args .places
+places c = c .before .before .before .before .before .before .before .before .args .places
 
 abbrev last : tie.After-payload → ℕ
-last c = c .before .before .before .before .before .before .args .last
+last c = c .before .before .before .before .before .before .before .before .args .last
 
 abbrev weighed : tie.After-payload → Checked ℕ
 weighed c = require (isKind 3 (sheet c) (index c + 1) && ltb 0 (payloadOf (wordAt (sheet c) (index c + 1)))) 7 (index c + 1) (accepted (c .payload .result))
@@ -66,11 +84,12 @@ order-next : (c : tie.After-payload) → roadChecked (sheet c) (places c) (index
 unfolding roadChecked
 order-next c =
     let placed = c .before in
-    let spare = placed .before .before in
+    let p = placed .before .before in
     simp (
-      ← spare .before .word-or-zero .ensures,
-      eq-eqb _ 0 (spare .if1 .left),
-      div-one,
+      ← p .before .before .before .word-or-zero .ensures,
+      spare-zero p,
+      first-read p,
+      second-read p,
       lt-ltb _ _ (placed .before .if2 .left),
       lt-ltb _ _ (placed .if3 .left),
       ← c .payload .ensures,
@@ -125,8 +144,9 @@ check-road-spec =
     (tie.spec
     word-or-zero-requires
     returns
+    second-place-requires
+    first-place-requires
     returns-2
-    cast-if3
     returns-3
     payload-requires
     cast-payload

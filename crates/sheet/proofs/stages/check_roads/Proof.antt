@@ -8,7 +8,8 @@ use lib.ListN.{length}
 use Rattle.words.specs.Bytes.{wordsOf}
 use Rattle.words.proofs.Words.{words-count}
 use Rattle.sheet.specs.Checked.{accepted, isKind}
-use Rattle.sheet.specs.Checking.{stageSaid, roadChecked}
+use Rattle.sheet.specs.Layout.{roadChecked}
+use Rattle.sheet.specs.Checking.{stageSaid}
 use Rattle.sheet.proofs.Tests.{kind-told}
 use Rattle.sheet.proofs.Parts.{Roads, roads-start, road-there, road-refused, road-passed, roads-done}
 use borrow.Author.Needs.{needs}

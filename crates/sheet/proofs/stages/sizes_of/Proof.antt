@@ -1,6 +1,6 @@
 -- The sizes are read off by division and remainder.
 use native.Mathlib.Nat.{div-one}
-use Rattle.sheet.specs.Checking.{sizesOf}
+use Rattle.sheet.specs.Layout.{sizesOf}
 use borrow.Author.Needs.{needs}
 use Rattle.sheet.proofs.stages.sizes_of.Statement.{statement}
 use Rattle.sheet.proofs.stages.sizes_of.Tie as tie
