@@ -1,9 +1,9 @@
 -- Calls of the engine, by its contract alone, whatever was lent: what a call leaves is what is judged; so the starred examples hold of calls, the
--- lookup in what a call left gives the verdicts that are meant, and demand 3 holds of any two calls.
+-- rounds are at most the places, the lookup in what a call left gives the verdicts that are meant, and demand 3 holds of any two calls.
 use mathlib.Core.Path.{_≡_, sym, ap, subst, subst₂, _∙_}
 use mathlib.Core.Bool.{cond, _&&_}
 use mathlib.Core.List.{List}
-use Prim.Native.Nat.{ℕ}
+use Prim.Native.Nat.{ℕ, _≤_}
 use lib.Dec.{ltb}
 use lib.ListN.{length}
 use contract.Lifetimes
@@ -20,7 +20,7 @@ use Rattle.values.specs.Said.{says, nothing}
 use Rattle.lookup.specs.Lookup.{verdictNumber, saidAt, lookedUp}
 use Rattle.verdicts.specs.Judged.{Judged, judged}
 use Rattle.verdicts.specs.Steady.{Steady}
-use Rattle.verdicts.proofs.Accepted.{accepted-answered, answered-lookup}
+use Rattle.verdicts.proofs.Accepted.{accepted-answered, answered-lookup, answered-rounds}
 use Rattle.verdicts.proofs.Examples.{StarredExamples, examples-of}
 use Rattle.verdicts.proofs.Steadiness.{steadiness}
 use Rattle.engine.specs.declared.Result.{Result}
@@ -57,7 +57,7 @@ abbrev pub judgedOf : Call → Judged
 judgedOf c = judgedIn (c .given .0 .now) (c .given .1 .0 .now) (c .given .1 .1 .0 .now)
 
 pub left-judged : (c : Call) → leftBy c ≡ judgedOf c
-left-judged c = same-parts (c .learnt .0) (c .learnt .1 .0) (c .learnt .1 .1)
+left-judged c = same-parts (c .learnt .0) (c .learnt .1 .0) (c .learnt .1 .1 .0)
   where
     same-parts : {j : Judged} → resultSaid (c .result) ≡ j .result → wordsOf (c .left .1 .1 .0 .now) ≡ j .answer → numbersOf (wordsOf (c .left .1 .0 .now)) ≡ j .distances → leftBy c ≡ j
     same-parts result answer distances i = record { result = result i; answer = answer i; distances = distances i }
@@ -80,6 +80,15 @@ accepts c z = sym (ap (λ (j : Judged). j .result .number) (left-judged c)) ∙ 
 -- what the check has found
 pub layoutOf : (c : Call) → c .result .number ≡ 0 → Layout
 layoutOf c z = accepted-answered (sheetOf c) (distancesLent c) (answerLent c) (accepts c z) .layout
+
+-- the rounds that are told are at most the places of the sheet
+pub call-rounds : (c : Call) (z : c .result .number ≡ 0) → c .result .rounds ≤ layoutOf c z .sizes .places
+unfolding layoutOf
+call-rounds c z =
+    let found = accepted-answered (sheetOf c) (distancesLent c) (answerLent c) (accepts c z) in
+    let sheet = accepted-sheet (sheetOf c) (distancesLent c) (found .layout) (found .found) in
+    subst (λ (r : ℕ). r ≤ found .layout .sizes .places) (sym (ap (λ (j : Judged). j .result .rounds) (left-judged c ∙ found .left)))
+    (answered-rounds (sheetOf c) (distancesLent c) (found .layout) sheet (answerLent c))
 
 -- a lookup in the bytes that an accepting call left: the verdict that is meant where there is one, 0 elsewhere
 pub call-lookup : (c : Call) (z : c .result .number ≡ 0) (κ : Lifetimes.Lfts 1) (asked : Dens κ asks.ps) (r : ℕ) (left : AtExit (endedOf 1 asks.ps asks.r) κ)

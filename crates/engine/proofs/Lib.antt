@@ -7,5 +7,6 @@ pub mod LineMeant
 pub mod LinesDone
 pub mod Sizes
 pub mod WholeWriting
+pub mod PastWords
 pub mod Judging
 pub mod Calls

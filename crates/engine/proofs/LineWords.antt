@@ -19,7 +19,8 @@ use Rattle.verdicts.specs.Writing.{lineValue, lineRounds}
 use Rattle.verdicts.specs.declared.tally.Tally.{Tally}
 use Rattle.verdicts.specs.declared.around.Around.{Around}
 use Rattle.verdicts.specs.Around.{aroundValue, aroundRounds, SamplesWritten, AroundWritten}
-use Rattle.engine.specs.Line.{firstWord, wordsUpTo, valueHere, roundsHere, LineWritten}
+use Rattle.verdicts.specs.Answer.{firstWord}
+use Rattle.engine.specs.Line.{wordsUpTo, valueHere, roundsHere, LineWritten}
 
 module _ (answer : List ℕ) (to : ℕ) (line : Line) {first : List ℕ} (room : to < length answer) (put-first : first ≡ set answer to (firstWord (lineSaid line))) where
   -- ---- the first word

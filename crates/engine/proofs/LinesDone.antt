@@ -27,10 +27,10 @@ use Rattle.values.specs.Chain.{chains, Valid}
 use Rattle.values.proofs.ChainTable.{chains-valid}
 use Rattle.verdicts.specs.declared.tally.Tally.{Tally}
 use Rattle.verdicts.specs.Tally.{together}
-use Rattle.verdicts.specs.Answer.{lineIndex, lineWords}
+use Rattle.verdicts.specs.Answer.{lineIndex, firstWord, lineWords}
 use Rattle.verdicts.specs.Writing.{sheetNetwork, sheetRecording, earlier, lineValue, lineRounds}
 use Rattle.verdicts.proofs.AnswerWords.{lines-size, sizes-below}
-use Rattle.engine.specs.Line.{LineReady, LineWritten, firstWord, wordsUpTo, valueHere, roundsHere}
+use Rattle.engine.specs.Line.{LineReady, LineWritten, wordsUpTo, valueHere, roundsHere}
 use Rattle.engine.specs.Lines.{found, Accepting, LinesWritten}
 use Rattle.engine.proofs.AcceptedTable.{Table, line-ends}
 use Rattle.engine.proofs.EarlierLines.{signal-before}

@@ -1,9 +1,8 @@
--- One line of the answer: what must stand before it, and what writing it leaves.
+-- For inner contracts only: one line of the answer, what must stand before it, and what writing it leaves.
 use mathlib.Core.Path.{_≡_}
 use mathlib.Core.List.{List, [], _∷_, _++_}
 use Prim.Native.Nat.{ℕ, _+_, _*_, _<_, _≤_}
 use lib.ListN.{length, getD, take}
-use Rattle.words.specs.Word.{wordOf}
 use Rattle.words.specs.Rows.{rows, put}
 use Rattle.logic.specs.Counts.{count, sumBelow, mostBelow}
 use Rattle.logic.specs.Formulas.{Line}
@@ -13,6 +12,7 @@ use Rattle.values.specs.Chain.{chainWord, chainVerdict, Valid}
 use Rattle.values.specs.Signals.{signalIn}
 use Rattle.surround.specs.Steps.{RoadsIn}
 use Rattle.verdicts.specs.declared.tally.Tally.{Tally}
+use Rattle.verdicts.specs.Answer.{firstWord}
 use Rattle.verdicts.specs.Writing.{lineValue, lineRounds, Surveyed}
 
 -- the sheet is surveyed, and the signals of the earlier lines stand in the words, as chain numbers that can arise
@@ -25,10 +25,6 @@ pub record LineReady (s : List ℕ) (L : Layout) (distances words starts : List 
   pub known : earlier ≤ length starts
   pub written : (i : ℕ) → i < earlier → getD starts i 0 + lengths i * L .places ≤ length words
   pub valid : (i t l : ℕ) → i < earlier → t < lengths i → l < L .places → Valid (signalIn words (getD starts i 0) (L .places) t l)
-
--- the line's first word: kind 14, its length
-abbrev pub firstWord : Line → ℕ
-firstWord line = wordOf 14 (line .length)
 
 -- what its verdicts are made from: the words before index `to`, and its first word there
 abbrev pub wordsUpTo : List ℕ → ℕ → Line → List ℕ

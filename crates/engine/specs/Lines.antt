@@ -1,4 +1,4 @@
--- All lines of the answer to an accepted sheet: what the engine knows of the sheet, and what writing its lines leaves.
+-- For inner contracts only: all lines of the answer to an accepted sheet, what the engine knows of the sheet, and what writing its lines leaves.
 use mathlib.Core.Path.{_≡_}
 use mathlib.Core.List.{List, []}
 use Prim.Native.Nat.{ℕ}

@@ -1,4 +1,4 @@
--- How the verdicts of a line are found: those over space in blocks of samples, all others sample by sample.
+-- For inner contracts only: how the verdicts of a line are found, those over space in blocks of samples, all others sample by sample.
 use mathlib.Core.Bool.{true, false}
 use mathlib.Core.List.{List}
 use Prim.Native.Nat.{ℕ, _<_}

@@ -1,5 +1,5 @@
--- Steadiness at the level of values: over every table of lines, codes 0 to 11, recordings at most d apart give margins at most d apart or
--- the same infinity.
+-- Steadiness at the level of values (Remark 3.6): over every table of lines, codes 0 to 11, recordings at most d apart give margins at most d
+-- apart or the same infinity, and the same verdicts where the margin is beyond d.
 use mathlib.Core.Path.{_≡_}
 use mathlib.Core.List.{List}
 use Prim.Native.Nat.{ℕ, _≤_, _<_}
@@ -7,10 +7,11 @@ use lib.IntN.{ℤ, negℤ, natAbs, _-ℤ_, negℤ-+ℤ, negℤ-negℤ, +ℤ-asso
 use Rattle.logic.specs.Margin.{finite}
 use Rattle.logic.specs.Network.{Network}
 use Rattle.logic.specs.Formulas.{Line, Recording}
-use Rattle.logic.specs.Table.{margins, valueAt}
-use Rattle.logic.specs.Steadiness.{Near}
+use Rattle.logic.specs.Table.{verdicts, margins, valueAt}
+use Rattle.logic.specs.Steadiness.{Near, SteadyVerdicts}
 use Rattle.logic.proofs.Margins.{near-kept, near-negate}
 use Rattle.logic.proofs.TableKeeps.{any-constants, valueAt-kept}
+use Rattle.logic.proofs.Agreement.{agreement, same-verdict}
 
 -- the two atoms: a constant taken away from both, or both from it, leaves them as far apart
 difference-turned : (x c : ℤ) → c -ℤ x ≡ negℤ (x -ℤ c)
@@ -29,3 +30,13 @@ pub steady : (d : ℕ) (N : Network) (x y : Recording) → ((s t l : ℕ) → na
     → (i t l : ℕ) → l < N.places → Near d (valueAt margins N x lines i t l) (valueAt margins N y lines i t l)
 steady d N x y h lines = valueAt-kept margins margins N (Near d) (near-kept d) (near-negate d) (λ _. Unit {0}) x y
     (λ s t l c _. atLeast-near d (x s t l) (y s t l) c (h s t l)) (λ s t l c _. atMost-near d (x s t l) (y s t l) c (h s t l)) lines (any-constants lines)
+
+-- with their verdicts
+pub values-steady : (d : ℕ) (N : Network) (x y : Recording) → ((s t l : ℕ) → natAbs (x s t l -ℤ y s t l) ≤ d) → (lines : List Line) (i t l : ℕ) → l < N.places
+    → SteadyVerdicts d (valueAt verdicts N x lines i t l) (valueAt verdicts N y lines i t l) (valueAt margins N x lines i t l) (valueAt margins N y lines i t l)
+values-steady d N x y h lines i t l b =
+    let n = steady d N x y h lines i t l b in
+    record {
+      near = n;
+      same = λ beyond. same-verdict d _ _ _ _ n beyond (agreement N x lines i t l b) (agreement N y lines i t l b);
+    }

@@ -1,4 +1,4 @@
--- The lookup: whether words are a whole answer as laid out, and what it says at a line, sample and place.
+-- Document 01, "The answer": whether words are a whole answer as laid out, and what the lookup in it gives at a line, sample and place.
 use Prim.Native.Nat.{ℕ, zero, suc, _+_, _*_}
 use mathlib.Core.Bool.{Bool, true, false, cond, _&&_}
 use mathlib.Core.List.{List}

@@ -40,19 +40,20 @@ fn verdict(w: u32) -> u64
     }
 }
 
-fn places(answer: &[u8]) -> usize
+// The fields of an answer's head, and the length in a line's first word, whatever the words are.
+pub fn places(answer: &[u8]) -> usize
     ensures { λ r. ⌜ r ≡ headPlaces (wordsOf (now (answer .entry))) ⌝ }
 {
     (words::word_or_zero(answer, 0) / 1048576 % 256) as usize
 }
 
-fn lines(answer: &[u8]) -> usize
+pub fn lines(answer: &[u8]) -> usize
     ensures { λ r. ⌜ r ≡ headLines (wordsOf (now (answer .entry))) ⌝ }
 {
     (words::word_or_zero(answer, 0) / 4096 % 256) as usize
 }
 
-fn length_at(answer: &[u8], at: usize) -> usize
+pub fn length_at(answer: &[u8], at: usize) -> usize
     ensures { λ r. ⌜ r ≡ lengthAt (wordsOf (now (answer .entry))) at ⌝ }
 {
     (words::word_or_zero(answer, at) % 4096) as usize

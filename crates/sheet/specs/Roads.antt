@@ -37,13 +37,17 @@ module _ (s : List ℕ) where
   abbrev pub networkOf : ℕ → ℕ → Network
   networkOf places roads = record { places = places; weight = weightAmong roads }
 
+  -- the recording whose samples begin at this index: time outermost, then place, then signal
+  abbrev pub recordingOf : (start places signals : ℕ) → Recording
+  recordingOf start places signals signal t l = sampleOf (wordAt s (start + ((t * places + l) * signals + signal)))
+
   module _ (L : Layout) where
     unfoldable pub network : Network
     network = networkOf (L.sizes.places) (L.roads)
 
-    -- samples stand after the roads: time outermost, then place, then signal
+    -- samples stand after the roads
     unfoldable pub recording : Recording
-    recording signal t l = sampleOf (wordAt s (roadAt (L.roads) + ((t * L.sizes.places + l) * L.sizes.signals + signal)))
+    recording = recordingOf (roadAt (L.roads)) (L.sizes.places) (L.sizes.signals)
 
 -- 2^64 - 1 for none
 abbrev pub distanceNumber : Distance → ℕ

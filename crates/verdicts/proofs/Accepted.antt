@@ -23,6 +23,7 @@ use Rattle.values.specs.Said.{says, nothing}
 use Rattle.verdicts.specs.Answer.{wordsNeeded}
 use Rattle.verdicts.specs.Judged.{refusal, answered, judgedBy, judged}
 use Rattle.lookup.specs.Lookup.{verdictNumber, wholeAnswer, saidAt, lookedUp}
+use Rattle.lookup.proofs.Exactly.{whole-looked}
 use Rattle.verdicts.proofs.AnswerWords.{InFields}
 use Rattle.verdicts.proofs.AnswerSays.{answer-says}
 use Rattle.verdicts.proofs.WholeAnswer.{InAnswer, answer-whole}
@@ -56,10 +57,6 @@ module _ (s : List ℕ) (distances answer : ℕ) where
       go : (c : Checked Layout) → checked s distances ≡ c → Numbered c → Answered s distances answer
       go (accepted L) e n = by-room L e z
       go (refused number place) e (refuses n) = absurd (number-zero number n (sym (ap (λ (c : Checked Layout). judgedBy s distances answer c .result .number) e) ∙ z))
-
-looked : (t : Bool) (number : ℕ) → T t → cond t number 0 ≡ number
-looked true number h = refl
-looked false number h = absurd h
 
 module _ (s : List ℕ) (distances : ℕ) (L : Layout) (sheet : AcceptedSheet s distances L) where
   limits : SizesWithin (L.sizes)
@@ -103,9 +100,8 @@ module _ (s : List ℕ) (distances : ℕ) (L : Layout) (sheet : AcceptedSheet s 
   pub answered-lookup : (answer i t l : ℕ) → lookedUp (answered s distances answer L .answer) i t l
       ≡ verdictNumber (cond (ltb i (length (L.lines)) && (ltb t (lineIn (L.lines) i .length) && ltb l (L.sizes.places)))
       (says (valueAt verdicts (network s L) (recording s L) (L.lines) i t l) (valueAt margins (network s L) (recording s L) (L.lines) i t l)) nothing)
-  unfolding lookedUp
   answered-lookup answer i t l =
-      looked (wholeAnswer (answered s distances answer L .answer)) (verdictNumber (saidAt (answered s distances answer L .answer) i t l)) (whole answer)
+      whole-looked (answered s distances answer L .answer) i t l (whole answer)
       ∙ ap verdictNumber (answered-says answer i t l)
 
   -- rounds are at most n

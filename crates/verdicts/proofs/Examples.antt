@@ -93,6 +93,9 @@ pub record StarredExamples (holds : List ℕ → ℕ → ℕ → (Judged → Typ
   pub G-not : holds sheetG 4096 64 (λ j. saidIn j 1 ≡ says false (finite (pos 0)))
   pub H : holds sheetH 4096 64 (λ j. saidIn j 2 ≡ says false (finite (negsuc 2)))
   pub H-rounds : holds sheetH 4096 64 (λ j. j .result .rounds ≡ 3)
+  -- and the greatest rounds are those of the surround at place 0
+  pub H-layout : checked sheetH 4096 ≡ accepted layoutH
+  pub H-centre : roundsAt (network sheetH layoutH) (valueAt margins (network sheetH layoutH) (recording sheetH layoutH) (layoutH .lines)) (Surrounded 0 1 1 1) 0 0 ≡ 3
   pub I : holds sheetI 4096 64 (λ j. saidIn j 0 ≡ says false (finite (negsuc 134217726)))
   pub J : holds sheetJ 4096 64 (λ j. j .distances ≡ 0 ∷ 2 ∷ 1 ∷ 2 ∷ 0 ∷ 1 ∷ 1 ∷ 1 ∷ 0 ∷ replicate 4087 0)
   pub K : holds sheetK 4096 64 (λ j. saidIn j 2 ≡ says true (finite (pos 1)))
@@ -110,6 +113,8 @@ starred-examples = record {
   G-not = refl;
   H = refl;
   H-rounds = refl;
+  H-layout = refl;
+  H-centre = refl;
   I = refl;
   J = refl;
   K = refl;
@@ -129,16 +134,12 @@ examples-of holds leaves = record {
   G-not = leaves _ _ _ _ (starred-examples .G-not);
   H = leaves _ _ _ _ (starred-examples .H);
   H-rounds = leaves _ _ _ _ (starred-examples .H-rounds);
+  H-layout = starred-examples .H-layout;
+  H-centre = starred-examples .H-centre;
   I = leaves _ _ _ _ (starred-examples .I);
   J = leaves _ _ _ _ (starred-examples .J);
   K = leaves _ _ _ _ (starred-examples .K);
 }
-
--- example H's rounds are those of its surround at place 0
-rounds-of-H : (checked sheetH 4096 ≡ accepted layoutH)
-    × (roundsAt (network sheetH layoutH) (valueAt margins (network sheetH layoutH) (recording sheetH layoutH) (layoutH .lines)) (Surrounded 0 1 1 1) 0 0 ≡ 3)
-unfolding answerOf
-rounds-of-H = (refl, refl)
 
 -- ---- the other settled examples
 -- a table of true and the until 0..2 of true by true, over T samples

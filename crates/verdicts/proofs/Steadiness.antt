@@ -4,17 +4,16 @@
 use mathlib.Core.Path.{_≡_, sym, ap, subst, subst₂, _∙_}
 use mathlib.Core.Bool.{Bool, true, false, cond, _&&_}
 use mathlib.Core.List.{List}
-use Prim.Native.Nat.{ℕ, _<_, _≤_}
+use Prim.Native.Nat.{ℕ, _<_}
 use lib.Dec.{T, ltb, ltb→lt}
 use lib.ListN.{length}
-use lib.IntN.{natAbs, _-ℤ_}
 use Rattle.logic.specs.Margin.{Margin}
 use Rattle.logic.specs.Network.{Network}
-use Rattle.logic.specs.Formulas.{Line, lineIn, Recording}
+use Rattle.logic.specs.Formulas.{Line, lineIn}
 use Rattle.logic.specs.Table.{verdicts, margins, valueAt}
+use Rattle.logic.specs.Steadiness.{SteadyVerdicts}
 use Rattle.logic.proofs.Tests.{and-r}
-use Rattle.logic.proofs.Steadiness.{steady}
-use Rattle.logic.proofs.Agreement.{agreement, same-verdict}
+use Rattle.logic.proofs.Steadiness.{values-steady}
 use Rattle.sheet.specs.Layout.{Layout}
 use Rattle.sheet.specs.Roads.{network, recording}
 use Rattle.sheet.specs.Apart.{SamplesApart}
@@ -24,18 +23,8 @@ use Rattle.sheet.proofs.SameNetwork.{network-same, recordings-near}
 use Rattle.values.specs.Said.{says, nothing}
 use Rattle.verdicts.specs.Judged.{Judged, answered, judged}
 use Rattle.lookup.specs.Lookup.{saidAt}
-use Rattle.verdicts.specs.Steady.{Steady, SteadyVerdicts}
+use Rattle.verdicts.specs.Steady.{Steady}
 use Rattle.verdicts.proofs.Accepted.{Answered, accepted-answered, answered-says}
-
--- what is meant of two recordings at most d apart is steady
-meant-steady : (d : ℕ) (N : Network) (x y : Recording) → ((s t l : ℕ) → natAbs (x s t l -ℤ y s t l) ≤ d) → (lines : List Line) (i t l : ℕ) → l < N.places
-    → SteadyVerdicts d (valueAt verdicts N x lines i t l) (valueAt verdicts N y lines i t l) (valueAt margins N x lines i t l) (valueAt margins N y lines i t l)
-meant-steady d N x y h lines i t l b =
-    let n = steady d N x y h lines i t l b in
-    record {
-      near = n;
-      same = λ beyond. same-verdict d _ _ _ _ n beyond (agreement N x lines i t l b) (agreement N y lines i t l b);
-    }
 
 -- where a line, sample or place is not there, both say nothing
 both : (d : ℕ) (p : Bool) (v w : Bool) (m k : Margin) → (T p → SteadyVerdicts d v w m k) → Steady d (cond p (says v m) nothing) (cond p (says w k) nothing)
@@ -58,7 +47,7 @@ module _ (d : ℕ) (X Y : List ℕ) (apart : SamplesApart d X Y) where
       (λ (M : Network). SteadyVerdicts d (valueAt verdicts N (recording X L) lines i t l) (valueAt verdicts M (recording Y L) lines i t l)
       (valueAt margins N (recording X L) lines i t l) (valueAt margins M (recording Y L) lines i t l))
       (network-same d X Y apart dy L y)
-      (meant-steady d N (recording X L) (recording Y L) (recordings-near d X Y apart dy L y) lines i t l (place h))))
+      (values-steady d N (recording X L) (recording Y L) (recordings-near d X Y apart dy L y) lines i t l (place h))))
 
   pub steadiness : (dx ax dy ay : ℕ) → judged X dx ax .result .number ≡ 0 → judged Y dy ay .result .number ≡ 0
       → (i t l : ℕ) → Steady d (saidAt (judged X dx ax .answer) i t l) (saidAt (judged Y dy ay .answer) i t l)

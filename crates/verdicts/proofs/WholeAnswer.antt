@@ -15,7 +15,7 @@ use Rattle.logic.specs.Formulas.{Line, lineIn, Recording, InBits}
 use Rattle.logic.specs.Counts.{sumBelow}
 use Rattle.logic.proofs.Tests.{and-i, all-i}
 use Rattle.logic.proofs.TableKeeps.{ConstantsIn}
-use Rattle.sheet.specs.Limits.{mostPlaces, mostLines}
+use Rattle.sheet.specs.Limits.{mostPlaces, mostSamples, mostLines}
 use Rattle.sheet.specs.Checked.{between, wordAt, isKind}
 use Rattle.values.specs.Said.{saidBy}
 use Rattle.verdicts.specs.Answer.{lineIndex, wordFor, lineWords, headWord, answerWords}
@@ -44,17 +44,20 @@ sum-below f i (suc n) h = ⊎-elim (λ e. rw e (omega arith)) (λ l. omega (arit
 
 -- sizes of an accepted sheet
 pub record InAnswer (n horizon : ℕ) (lines : List Line) : Type 0 where
-  pub places : (1 ≤ n) × (n ≤ 64)
-  pub samples : (1 ≤ horizon) × (horizon ≤ 1024)
-  pub count : (1 ≤ length lines) × (length lines ≤ 64)
+  pub places : (1 ≤ n) × (n ≤ mostPlaces)
+  pub samples : (1 ≤ horizon) × (horizon ≤ mostSamples)
+  pub count : (1 ≤ length lines) × (length lines ≤ mostLines)
   pub lengths : (i : ℕ) → i < length lines → (1 ≤ lineIn lines i .length) × (lineIn lines i .length ≤ horizon)
 
--- a line has at most 1 + 1024 * 64 words
-pub index-bound : (n horizon : ℕ) (lines : List Line) → InAnswer n horizon lines → (i : ℕ) → i ≤ length lines → lineIndex n lines i ≤ 1 + i * 65537
+-- a line's first word and its verdicts
+abbrev mostLineWords : ℕ
+mostLineWords = 1 + mostSamples * mostPlaces
+
+pub index-bound : (n horizon : ℕ) (lines : List Line) → InAnswer n horizon lines → (i : ℕ) → i ≤ length lines → lineIndex n lines i ≤ 1 + i * mostLineWords
 unfolding lineIndex sumBelow
 index-bound n horizon lines sizes zero h = omega arith
 index-bound n horizon lines sizes (suc i) h =
-    let size : lineIn lines i .length * n ≤ 1024 * 64 = mul-le-mul {n₂ = 1024} (omega (arith, sizes .lengths i h, sizes .samples)) (sizes .places .1) in
+    let size : lineIn lines i .length * n ≤ mostSamples * mostPlaces = mul-le-mul {n₂ = mostSamples} (omega (arith, sizes .lengths i h, sizes .samples)) (sizes .places .1) in
     omega (arith, index-bound n horizon lines sizes i (le-of-lt h))
 
 module _ (N : Network) (horizon : ℕ) (x : Recording) (lines : List Line) (room : ℕ) (fits : InFields (N.places) horizon lines)
@@ -126,9 +129,9 @@ module _ (N : Network) (horizon : ℕ) (x : Recording) (lines : List Line) (room
   unfolding wholeHead
   head-whole =
       and-i (isKind 13 a 0) _ kind-13
-      (and-i (between 1 mostPlaces (headPlaces a)) _ (rw (places-read N horizon x lines room fits) (within 1 64 (N.places) (sizes .places .0) (sizes .places .1)))
-      (and-i (between 1 mostLines (headLines a)) _ (rw (lines-read N horizon x lines room fits) (within 1 64 (length lines) (sizes .count .0) (sizes .count .1)))
-      (rw (samples-read N horizon x lines room fits) (within 1 1024 horizon (sizes .samples .0) (sizes .samples .1)))))
+      (and-i (between 1 mostPlaces (headPlaces a)) _ (rw (places-read N horizon x lines room fits) (within 1 mostPlaces (N.places) (sizes .places .0) (sizes .places .1)))
+      (and-i (between 1 mostLines (headLines a)) _ (rw (lines-read N horizon x lines room fits) (within 1 mostLines (length lines) (sizes .count .0) (sizes .count .1)))
+      (rw (samples-read N horizon x lines room fits) (within 1 mostSamples horizon (sizes .samples .0) (sizes .samples .1)))))
 
   pub answer-whole : T (wholeAnswer a)
   unfolding wholeAnswer

@@ -1,4 +1,4 @@
--- The words of the answer to an accepted sheet.
+-- Document 01, "The answer": the words of the answer to an accepted sheet.
 use Prim.Native.Nat.{ℕ, _+_, _*_, _^_}
 use mathlib.Core.List.{List, [], _∷_, _++_}
 use lib.ListN.{length}
@@ -19,14 +19,18 @@ module _ (n : ℕ) (lines : List Line) where
   unfoldable pub wordsNeeded : ℕ
   wordsNeeded = 1 + lineIndex (length lines)
 
+-- kind 14, bits 11..0 the length
+abbrev pub firstWord : Line → ℕ
+firstWord line = wordOf 14 (line .length)
+
 module _ (N : Network) (T : ℕ) (x : Recording) (lines : List Line) where
   -- verdict and margin of line i at sample t and place l
   unfoldable pub wordFor : ℕ → ℕ → ℕ → ℕ
   wordFor i t l = verdictWord (valueAt verdicts N x lines i t l) (valueAt margins N x lines i t l)
 
-  -- kind 14, bits 11..0 the length; then the verdicts, sample outermost, then place
+  -- then the verdicts, sample outermost, then place
   unfoldable pub lineWords : ℕ → List ℕ
-  lineWords i = wordOf 14 (lineIn lines i .length) ∷ rows (wordFor i) (lineIn lines i .length) N.places
+  lineWords i = firstWord (lineIn lines i) ∷ rows (wordFor i) (lineIn lines i .length) N.places
 
   -- kind 13: bits 27..20 n, 19..12 line count, 11..0 T
   unfoldable pub headWord : ℕ

@@ -1,11 +1,11 @@
--- What the writers of a line over space are given and what they leave.
+-- For inner contracts only: what the writers of a line over space are given and what they leave.
 use mathlib.Core.Path.{_≡_}
 use mathlib.Core.List.{List}
 use Prim.Native.Nat.{ℕ, _+_, _*_, _<_, _≤_}
 use lib.ListN.{length}
 use Rattle.words.specs.Rows.{rows, put}
 use Rattle.logic.specs.Counts.{count, sumBelow, mostBelow}
-use Rattle.sheet.specs.declared.check.Layout.{Layout}
+use Rattle.sheet.specs.declared.check.Layout as Code
 use Rattle.sheet.specs.Limits.{mostPlaces, mostSamples}
 use Rattle.values.specs.Chain.{highest, chainWord, chainVerdict, Valid}
 use Rattle.values.specs.Signals.{signalIn}
@@ -24,18 +24,18 @@ pub record LanesBounded (row : List ℕ) (places samples : ℕ) : Type 0 where
   pub bound : (place lane : ℕ) → place < places → lane < samples → laneOf row lane place ≤ highest
 
 -- the operands' signals are written, as chain numbers that can arise, and the roads are there
-pub record SurroundReads (words : List ℕ) (left right : ℕ) (L : Layout) (sheet : List ℕ) (samples : ℕ) : Type 0 where
+pub record SurroundReads (words : List ℕ) (left right : ℕ) (L : Code.Layout) (sheet : List ℕ) (samples : ℕ) : Type 0 where
   pub left-there : left + samples * L .places ≤ length words
   pub right-there : right + samples * L .places ≤ length words
   pub roads-in : RoadsIn sheet (L .roads) (L .places)
   pub left-valid : (t l : ℕ) → t < samples → l < L .places → Valid (signalIn words left (L .places) t l)
   pub right-valid : (t l : ℕ) → t < samples → l < L .places → Valid (signalIn words right (L .places) t l)
 
-abbrev pub AroundReads : List ℕ → Layout → List ℕ → Around → ℕ → Type 0
+abbrev pub AroundReads : List ℕ → Code.Layout → List ℕ → Around → ℕ → Type 0
 AroundReads words L sheet (Surround left right b) samples = SurroundReads words left right L sheet samples
 AroundReads words L sheet (Range left b dual) samples = left + samples * L .places ≤ length words
 
-pub record AroundReady (words : List ℕ) (L : Layout) (sheet distances : List ℕ) (around : Around) (samples : ℕ) : Type 0 where
+pub record AroundReady (words : List ℕ) (L : Code.Layout) (sheet distances : List ℕ) (around : Around) (samples : ℕ) : Type 0 where
   pub few-places : (1 ≤ L .places) × (L .places ≤ mostPlaces)
   pub few : samples ≤ mostSamples
   pub distances-there : L .places * L .places ≤ length distances
@@ -48,7 +48,7 @@ pub record SamplesWritten (value roundsAt : ℕ → ℕ → ℕ) (n : ℕ) (answ
   pub counted : tally .yes ≡ sumBelow (λ t. sumBelow (λ l. count (chainVerdict (value t l))) n) samples
   pub greatest : tally .rounds ≡ mostBelow (λ t. mostBelow (roundsAt t) n) samples
 
-module _ (words : List ℕ) (L : Layout) (sheet distances : List ℕ) where
+module _ (words : List ℕ) (L : Code.Layout) (sheet distances : List ℕ) where
   -- the chain number at a sample and a centre, and the rounds there
   abbrev pub aroundValue : Around → ℕ → ℕ → ℕ
   aroundValue (Surround left right b) = surroundValue words left right (L .places) sheet (L .roads) distances (b .lower) (b .upper)

@@ -1,5 +1,5 @@
--- From the sheet's words and the lent lengths to everything that the engine leaves: the result's five numbers, every word of the answer and
--- every distance. The contract of the engine is equations to `judged`.
+-- Document 01, "The answer" and "Where a sheet is turned back": from the sheet's words and the lent lengths to everything that the engine
+-- leaves, the result's five numbers, every word of the answer and every distance. The contract of the engine is equations to `judged`.
 use Prim.Native.Nat.{ℕ}
 use mathlib.Core.Bool.{cond}
 use mathlib.Core.List.{List}

@@ -1,4 +1,4 @@
--- The values of one sample among those of several: every `stride`-th number from `offset` on.
+-- For inner contracts only: the values of one sample among those of several, every `stride`-th number from `offset` on.
 use mathlib.Core.List.{List}
 use Prim.Native.Nat.{ℕ, _+_, _*_, _<_, _≤_}
 use lib.ListN.{length, getD}

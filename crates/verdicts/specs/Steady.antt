@@ -1,15 +1,8 @@
 -- Demand 3, as a relation between what two answers say at one line, sample and place: both have a verdict there or neither has; the margins
 -- are at most d apart or the same infinity; the verdicts are the same where the margin is beyond d.
-use mathlib.Core.Path.{_≡_}
-use mathlib.Core.Bool.{Bool}
 use Prim.Native.Nat.{ℕ}
-use Rattle.logic.specs.Margin.{Margin}
-use Rattle.logic.specs.Steadiness.{Near, Beyond}
+use Rattle.logic.specs.Steadiness.{SteadyVerdicts}
 use Rattle.values.specs.Said.{Said, says, nothing}
-
-pub record SteadyVerdicts (d : ℕ) (v w : Bool) (m k : Margin) : Type 0 where
-  pub near : Near d m k
-  pub same : Beyond d m → v ≡ w
 
 abbrev pub Steady : ℕ → Said → Said → Type 0
 Steady d (says v m) (says w k) = SteadyVerdicts d v w m k

@@ -1,4 +1,4 @@
--- Two tallies as one: the greater rounds, and the yes verdicts of both.
+-- For inner contracts only: two tallies as one, the greater rounds, and the yes verdicts of both.
 use Prim.Native.Nat.{_+_, max}
 use Rattle.verdicts.specs.declared.tally.Tally.{Tally}
 

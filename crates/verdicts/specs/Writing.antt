@@ -1,31 +1,30 @@
+-- For inner contracts only: the promises to the outside cite none of it.
 -- What the engine makes of a line, from the sheet and from the words that it has written before: the chain reading of the line's operator on
 -- the signals of the earlier lines, where `starts` tells at which index each begins.
 use mathlib.Core.List.{List}
 use Prim.Native.Nat.{ℕ, _+_, _*_, _≤_, _<_}
 use mathlib.Core.Path.{_≡_}
 use lib.ListN.{length, getD}
-use Rattle.words.specs.Word.{sampleOf}
 use Rattle.logic.specs.Network.{Network, distanceIn}
 use Rattle.logic.specs.Formulas.{Operator, True, AtLeast, AtMost, Not, And, Until, Somewhere, Surrounded, Or, Eventually, Always, Everywhere, Recording, InBits}
 use Rattle.logic.specs.Table.{Signal, value}
 use Rattle.logic.specs.Counts.{roundsAt}
-use Rattle.sheet.specs.declared.check.Layout.{Layout}
-use Rattle.sheet.specs.Checked.{wordAt}
+use Rattle.sheet.specs.declared.check.Layout as Code
 use Rattle.sheet.specs.Limits.{mostPlaces, mostSignals, mostSamples}
-use Rattle.sheet.specs.Roads.{networkOf, distanceNumber}
+use Rattle.sheet.specs.Roads.{networkOf, recordingOf, distanceNumber}
 use Rattle.values.specs.Chain.{chains, chainMargin}
 use Rattle.values.specs.Signals.{signalIn}
 
 -- the signal of an earlier line
-abbrev pub earlier : Layout → List ℕ → List ℕ → ℕ → Signal chains
+abbrev pub earlier : Code.Layout → List ℕ → List ℕ → ℕ → Signal chains
 earlier L words starts j = signalIn words (getD starts j 0) (L .places)
 
-module _ (s : List ℕ) (L : Layout) where
+module _ (s : List ℕ) (L : Code.Layout) where
   abbrev pub sheetNetwork : Network
   sheetNetwork = networkOf s (L .places) (L .roads)
 
   unfoldable pub sheetRecording : Recording
-  sheetRecording signal t l = sampleOf (wordAt s (L .recording + ((t * L .places + l) * L .signals + signal)))
+  sheetRecording = recordingOf s (L .recording) (L .places) (L .signals)
 
   module _ (words : List ℕ) (starts : List ℕ) where
     unfoldable pub lineValue : Operator → Signal chains
@@ -35,25 +34,25 @@ module _ (s : List ℕ) (L : Layout) where
     lineRounds o t l = roundsAt sheetNetwork (λ j u k. chainMargin (earlier L words starts j u k)) o t l
 
 -- the sheet's samples are there
-pub record Recorded (s : List ℕ) (L : Layout) : Type 0 where
+pub record Recorded (s : List ℕ) (L : Code.Layout) : Type 0 where
   pub places : (1 ≤ L .places) × (L .places ≤ mostPlaces)
   pub signals : L .signals ≤ mostSignals
   pub samples : L .samples ≤ mostSamples
   pub recorded : L .recording + L .signals * L .places * L .samples ≤ length s
 
 -- and the distances are those of its network
-pub record Surveyed (s : List ℕ) (L : Layout) (distances : List ℕ) : Type 0 where
+pub record Surveyed (s : List ℕ) (L : Code.Layout) (distances : List ℕ) : Type 0 where
   pub sheet : Recorded s L
   pub room : L .places * L .places ≤ length distances
   pub measured : (a b : ℕ) → a < L .places → b < L .places → getD distances (a * L .places + b) 0 ≡ distanceNumber (distanceIn (sheetNetwork s L) a b)
 
 -- line j is an earlier one, and its words up to sample t are there
-pub record Written (L : Layout) (words starts : List ℕ) (j t : ℕ) : Type 0 where
+pub record Written (L : Code.Layout) (words starts : List ℕ) (j t : ℕ) : Type 0 where
   pub line : j < length starts
   pub inside : getD starts j 0 + (t + 1) * L .places ≤ length words
 
 -- what an operator reads at sample t is there; those over space are not evaluated sample by sample
-abbrev pub Readable : Layout → List ℕ → List ℕ → Operator → ℕ → Type 0
+abbrev pub Readable : Code.Layout → List ℕ → List ℕ → Operator → ℕ → Type 0
 Readable L words starts True t = Unit {0}
 Readable L words starts (AtLeast signal c) t = (signal < L .signals) × (t < L .samples) × InBits 27 c
 Readable L words starts (AtMost signal c) t = (signal < L .signals) × (t < L .samples) × InBits 27 c

@@ -18,7 +18,7 @@ write-answer-requires : tie.Need-write-answer-requires
 write-answer-requires c κs = search needs
 
 add-t9 : tie.Need-add-t9
-add-t9 c = omega (arith, c .before .before .write-answer .ensures .ends, end-bound (c .before .before .before .before .before .before .before .pre .0))
+add-t9 c = omega (arith, c .before .before .write-answer .ensures .0 .ends, end-bound (c .before .before .before .before .before .before .before .pre .0))
 
 same-length : tie.Need-same-length
 same-length c = search needs
@@ -26,8 +26,8 @@ same-length c = search needs
 returns : tie.Need-returns
 unfolding answered wordsNeeded network
 returns c =
-    let found = c .before .before .write-answer .ensures in
-    (ap₂ (λ (f : ℕ → Result) y. f y) (ap₂ told (ap (λ end. end + 1) (found .ends) ∙ add-comm _ 1) (found .greatest)) (found .counted), found .written)
+    let found = c .before .before .write-answer .ensures .0 in
+    (ap₂ (λ (f : ℕ → Result) y. f y) (ap₂ told (ap (λ end. end + 1) (found .ends) ∙ add-comm _ 1) (found .greatest)) (found .counted), (found .written, c .before .before .write-answer .ensures .1))
 
 pub answer-sheet-spec : {M : Type 1} → statement M
 answer-sheet-spec = tie.close (tie.spec write-answer-requires add-t9 same-length returns)

@@ -16,6 +16,7 @@ use Rattle.verdicts.specs.Answer.{lineIndex, wordsNeeded, lineWords, headWord, 
 use Rattle.engine.specs.Lent.{foundIn}
 use Rattle.engine.proofs.Sizes.{lines-end, limits, end-bound}
 use Rattle.engine.proofs.WholeWriting.{three-parts, zeros-behind}
+use Rattle.engine.proofs.PastWords.{zeros-from}
 use Rattle.engine.proofs.answer.write_answer.Statement.{statement}
 use Rattle.engine.proofs.answer.write_answer.Tie as tie
 
@@ -124,13 +125,17 @@ returns c =
     let same : length (wordsOf bytes) ≡ length (wordsOf (start .args .answer .now)) =
     omega (arith, ends (c .before .before .before .before .before .before .before .before), c .before .before .before .before .before .before .before .put-word2 .kept .0, words-count bytes, words-count (start .args .answer .now)) in
     let zeros = c .before .before .fill-zero .ensures ∙ ap (λ n. replicate n 0) (ap length (tail-list bytes (k * 4) fits) ∙ length-drop (k * 4) bytes) in
-    record {
-      written = ap wordsOf (tail-back bytes (c .before .before .fill-zero .last .0) (k * 4) fits ∙ ap (λ z. take (k * 4) bytes ++ z) zeros)
-          ∙ zeros-behind bytes (wordsOf (start .args .answer .now)) (Whole start) k (parts (c .before .before .before .before)) same count (omega (arith, room start, ends (c .before .before .before .before .before .before .before .before)));
-      ends = lines .ensures .ends;
-      greatest = lines .ensures .greatest;
-      counted = lines .ensures .counted;
-    }
+    let cleared = tail-back bytes (c .before .before .fill-zero .last .0) (k * 4) fits ∙ ap (λ z. take (k * 4) bytes ++ z) zeros in
+    let long = c .before .before .before .before .before .before .before .put-word2 .kept .0 ∙ ends (c .before .before .before .before .before .before .before .before) .1 in (
+      record {
+        written = ap wordsOf cleared
+            ∙ zeros-behind bytes (wordsOf (start .args .answer .now)) (Whole start) k (parts (c .before .before .before .before)) same count (omega (arith, room start, ends (c .before .before .before .before .before .before .before .before)));
+        ends = lines .ensures .ends;
+        greatest = lines .ensures .greatest;
+        counted = lines .ensures .counted;
+      },
+      zeros-from _ bytes k _ long fits cleared,
+    )
 
 pub write-answer-spec : {M : Type 1} → statement M
 write-answer-spec =

@@ -11,7 +11,8 @@ use Rattle.sheet.specs.Decoding.{operatorSaid, lineSaid}
 use Rattle.verdicts.specs.Writing.{Readable}
 use Rattle.verdicts.specs.Around.{AroundReady}
 use Rattle.engine.specs.declared.line.Way.{Way}
-use Rattle.engine.specs.Line.{firstWord, wordsUpTo}
+use Rattle.verdicts.specs.Answer.{firstWord}
+use Rattle.engine.specs.Line.{wordsUpTo}
 use Rattle.engine.proofs.LineReads.{Reads, line-reads, operands-known}
 use Rattle.engine.proofs.LineWords.{length-kept, before-verdicts, rows-written, blocks-written}
 use Rattle.engine.proofs.line.write_line.Statement.{statement}
