@@ -5,7 +5,7 @@ use Prim.Native.Nat.{ℕ, _+_, _*_, _≤_, _<_, zero-le}
 use native.Mathlib.Nat.{le-mul-of-pos-right}
 use native.Mathlib.Omega.{arith}
 use lib.Dec.{leb}
-use lib.ListN.{length, getD}
+use lib.ListN.{length}
 use Rattle.words.specs.Bytes.{wordsOf}
 use Rattle.words.proofs.Words.{words-count}
 use Rattle.words.proofs.Rows.{in-table}
@@ -16,14 +16,10 @@ use Rattle.logic.proofs.TotalOrder.{each-kept}
 use Rattle.values.specs.Chain.{chains, chainLattice, highest}
 use Rattle.values.specs.Signals.{signalIn, turned}
 use Rattle.values.proofs.Naturals.{leb-trans, leb-total}
-use Rattle.values.proofs.ChainWords.{word-bound}
+use Rattle.values.proofs.ChainWords.{signal-bound}
 use Rattle.operators.specs.Reach.{Window}
 use Rattle.operators.specs.Rows.{ahead}
 use Rattle.operators.proofs.Folds.{eventually-all}
-
-pub signal-bound : (words : List ℕ) (start n t l : ℕ) → signalIn words start n t l ≤ highest
-unfolding signalIn
-signal-bound words start n t l = word-bound (getD words (start + (t * n + l)) 0)
 
 pub turned-bound : (negated : Bool) (words : List ℕ) (start n t l : ℕ) → turned negated (signalIn words start n) t l ≤ highest
 turned-bound true words start n t l = omega arith

@@ -1,4 +1,4 @@
--- What an operator over time reads of a signal lies in the words.
+-- What an operator over time reads of a signal lies in the words. This is for contracts inside the engine: no promise to a host speaks of it.
 use mathlib.Core.List.{List}
 use Prim.Native.Nat.{ℕ, _+_, _*_, _≤_}
 use lib.ListN.{length}

@@ -5,15 +5,15 @@ ghost use lib.ListN.{length, getD};
 ghost use Rattle.words.specs.Word.{sampleOf};
 ghost use Rattle.words.specs.Bytes.{wordsOf};
 ghost use Rattle.logic.specs.Formulas.{InBits};
-ghost use Rattle.operators.specs.Rows.{Filled, atomValue};
+ghost use Rattle.operators.specs.Rows.{RowLeft, atomValue};
 
 // The value of sample i, given the part of a sheet that begins with its samples.
-fn atom_at(samples: &[u8], i: usize, constant: i32, least: bool) -> u32
+fn atom_at(samples: &[u8], i: usize, constant: i32, atleast: bool) -> u32
     requires { ⌜ (i < length (wordsOf (now samples))) × InBits 27 constant ⌝ }
-    ensures { λ r. ⌜ r ≡ atomValue least (sampleOf (getD (wordsOf (now (samples .entry))) i 0)) constant ⌝ }
+    ensures { λ r. ⌜ r ≡ atomValue atleast (sampleOf (getD (wordsOf (now (samples .entry))) i 0)) constant ⌝ }
 {
     let sample = words::sample(words::word_at(samples, i));
-    if least {
+    if atleast {
         values::difference(sample, constant)
     } else {
         values::difference(constant, sample)
@@ -27,19 +27,19 @@ pub fn atom_row(
     signals: usize,
     signal: usize,
     constant: i32,
-    least: bool,
+    atleast: bool,
     t: usize,
     row: &mut [u32],
 )
     requires { ⌜ (signal < signals) × ((t + 1) * places * signals ≤ length (wordsOf (now samples))) × InBits 27 constant × (places ≤ length (now row)) ⌝ }
-    ensures { λ _. ⌜ Filled places (λ l. atomValue least (sampleOf (getD (wordsOf (now (samples .entry))) ((t * places + l) * signals + signal) 0)) constant) (now (row .exit)) ⌝ }
+    ensures { λ _. ⌜ RowLeft places (λ l. atomValue atleast (sampleOf (getD (wordsOf (now (samples .entry))) ((t * places + l) * signals + signal) 0)) constant) (now (row .entry)) (now (row .exit)) ⌝ }
 {
     for l in 0..places {
         row[l] = atom_at(
             samples,
             (t * places + l) * signals + signal,
             constant,
-            least,
+            atleast,
         );
     }
 }

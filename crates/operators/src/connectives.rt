@@ -6,12 +6,12 @@ ghost use lib.ListN.{length};
 ghost use Rattle.words.specs.Bytes.{wordsOf};
 ghost use Rattle.values.specs.Chain.{highest};
 ghost use Rattle.values.specs.Signals.{signalIn, turned};
-ghost use Rattle.operators.specs.Rows.{Filled, andAt};
+ghost use Rattle.operators.specs.Rows.{RowLeft, andAt};
 
 // Code 0.
 pub fn true_row(places: usize, row: &mut [u32])
     requires { ⌜ places ≤ length (now row) ⌝ }
-    ensures { λ _. ⌜ Filled places (λ _. highest) (now (row .exit)) ⌝ }
+    ensures { λ _. ⌜ RowLeft places (λ _. highest) (now (row .entry)) (now (row .exit)) ⌝ }
 {
     for l in 0..places {
         row[l] = values::top();
@@ -28,7 +28,7 @@ pub fn turned_row(
     row: &mut [u32],
 )
     requires { ⌜ (start + (t + 1) * places ≤ length (wordsOf (now words))) × (places ≤ length (now row)) ⌝ }
-    ensures { λ _. ⌜ Filled places (turned negated (signalIn (wordsOf (now (words .entry))) start places) t) (now (row .exit)) ⌝ }
+    ensures { λ _. ⌜ RowLeft places (turned negated (signalIn (wordsOf (now (words .entry))) start places) t) (now (row .entry)) (now (row .exit)) ⌝ }
 {
     for l in 0..places {
         row[l] = turned_at(words, start, places, t, l, negated);
@@ -46,7 +46,7 @@ pub fn and_row(
     row: &mut [u32],
 )
     requires { ⌜ (left + (t + 1) * places ≤ length (wordsOf (now words))) × (right + (t + 1) * places ≤ length (wordsOf (now words))) × (places ≤ length (now row)) ⌝ }
-    ensures { λ _. ⌜ Filled places (andAt dual (signalIn (wordsOf (now (words .entry))) left places) (signalIn (wordsOf (now (words .entry))) right places) t) (now (row .exit)) ⌝ }
+    ensures { λ _. ⌜ RowLeft places (andAt dual (signalIn (wordsOf (now (words .entry))) left places) (signalIn (wordsOf (now (words .entry))) right places) t) (now (row .entry)) (now (row .exit)) ⌝ }
 {
     for l in 0..places {
         let both = values::lesser(

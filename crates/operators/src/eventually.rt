@@ -7,7 +7,7 @@ ghost use lib.ListN.{length};
 ghost use Rattle.words.specs.Bytes.{wordsOf};
 ghost use Rattle.values.specs.Signals.{signalIn, turned};
 ghost use Rattle.operators.specs.Reach.{Window};
-ghost use Rattle.operators.specs.Rows.{Filled, ahead, eventuallyAt};
+ghost use Rattle.operators.specs.Rows.{Filled, RowLeft, ahead, eventuallyAt};
 
 // The greatest of a window, read from its first sample to its last.
 fn greatest_ahead(
@@ -90,7 +90,7 @@ pub fn eventually_row(
     row: &mut [u32],
 )
     requires { ⌜ Window (wordsOf (now words)) start places lower upper t × (places ≤ length (now row)) × ((u : ℕ) → t ≡ suc u → Filled places (eventuallyAt dual (signalIn (wordsOf (now words)) start places) lower upper u) (now row)) ⌝ }
-    ensures { λ _. ⌜ Filled places (eventuallyAt dual (signalIn (wordsOf (now (words .entry))) start places) lower upper t) (now (row .exit)) ⌝ }
+    ensures { λ _. ⌜ RowLeft places (eventuallyAt dual (signalIn (wordsOf (now (words .entry))) start places) lower upper t) (now (row .entry)) (now (row .exit)) ⌝ }
 {
     let from = lower as usize;
     let to = upper as usize;

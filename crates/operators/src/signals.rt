@@ -1,4 +1,4 @@
-// Signals where they stand in the words of an answer.
+// Signals where they stand in the words of an answer, turned or not.
 ghost use mathlib.Core.Path.{_≡_};
 ghost use Prim.Native.Nat.{_+_, _*_, _≤_, _<_};
 ghost use lib.ListN.{length};
@@ -6,14 +6,6 @@ ghost use Rattle.words.specs.Bytes.{wordsOf};
 ghost use Rattle.values.specs.Chain.{highest};
 ghost use Rattle.values.specs.Signals.{signalIn, turned};
 ghost use Rattle.operators.specs.Rows.{turnedTo};
-
-// The value of a signal at a sample and a place.
-pub(crate) fn signal_at(words: &[u8], start: usize, places: usize, t: usize, l: usize) -> u32
-    requires { ⌜ start + (t * places + l) < length (wordsOf (now words)) ⌝ }
-    ensures { λ r. ⌜ r ≡ signalIn (wordsOf (now (words .entry))) start places t l ⌝ }
-{
-    values::of_word(words::word_at(words, start + (t * places + l)))
-}
 
 // A value, or its opposite.
 pub(crate) fn turn(c: u32, negated: bool) -> u32
@@ -35,5 +27,5 @@ pub(crate) fn turned_at(
     requires { ⌜ start + (t * places + l) < length (wordsOf (now words)) ⌝ }
     ensures { λ r. ⌜ r ≡ turned negated (signalIn (wordsOf (now (words .entry))) start places) t l ⌝ }
 {
-    turn(signal_at(words, start, places, t, l), negated)
+    turn(values::signal_at(words, start, places, t, l), negated)
 }

@@ -1,5 +1,5 @@
 // Code 5, until.
-use crate::signals::signal_at;
+use values::signal_at;
 ghost use mathlib.Core.Path.{_≡_};
 ghost use Prim.Native.Nat.{_+_, _*_, _≤_, _<_};
 ghost use lib.Dec.{leb};
@@ -10,7 +10,7 @@ ghost use Rattle.logic.specs.Table.{untilAt};
 ghost use Rattle.values.specs.Chain.{chains, chainLattice};
 ghost use Rattle.values.specs.Signals.{signalIn};
 ghost use Rattle.operators.specs.Reach.{Window};
-ghost use Rattle.operators.specs.Rows.{Filled};
+ghost use Rattle.operators.specs.Rows.{RowLeft};
 
 // The least value of a signal from sample `first` up to and without sample `end`.
 fn least_between(
@@ -74,7 +74,7 @@ pub fn until_row(
     row: &mut [u32],
 )
     requires { ⌜ Window (wordsOf (now words)) left places lower upper t × Window (wordsOf (now words)) right places lower upper t × (places ≤ length (now row)) ⌝ }
-    ensures { λ _. ⌜ Filled places (untilAt chains (signalIn (wordsOf (now (words .entry))) left places) (signalIn (wordsOf (now (words .entry))) right places) lower upper t) (now (row .exit)) ⌝ }
+    ensures { λ _. ⌜ RowLeft places (untilAt chains (signalIn (wordsOf (now (words .entry))) left places) (signalIn (wordsOf (now (words .entry))) right places) lower upper t) (now (row .entry)) (now (row .exit)) ⌝ }
 {
     let from = lower as usize;
     let to = upper as usize;

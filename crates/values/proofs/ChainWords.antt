@@ -1,18 +1,22 @@
--- The word of a chain number is the word of its verdict and margin, and reading it gives the number back.
+-- The word of a chain number is the word of its verdict and margin, and reading it gives the number back. What any word is read as is at most
+-- `highest`.
 use mathlib.Core.Path.{_≡_, refl, sym, ap, _∙_}
 use mathlib.Core.Logic.{_⊎_, inl, inr, ⊎-elim}
 use mathlib.Core.Bool.{Bool, true, false, cond}
+use mathlib.Core.List.{List}
 use Prim.Native.Nat.{ℕ, _+_, _*_, _/_, _%_, _<_, _≤_, _^_, zero-le}
 use native.Mathlib.Nat.{eq-or-lt-of-le, eq-zero-or-pos}
 use native.Mathlib.Omega.{arith}
 use lib.Dec.{eqb}
 use lib.IntN.{ℤ, subℕ}
+use lib.ListN.{getD}
 use borrow.Author.Tests.{lt-ltb, le-ltb, ne-eqb}
 use Rattle.words.specs.Word.{kindOf, payloadOf, wordOf, unsigned}
 use Rattle.logic.specs.Counts.{count}
 use Rattle.logic.specs.Margin.{finite}
 use Rattle.values.specs.Chain.{marginAt, highest, chainMargin, chainVerdict, chainWord, wordChain, Valid}
 use Rattle.values.specs.Said.{verdictWord}
+use Rattle.values.specs.Signals.{signalIn}
 use Rattle.values.proofs.Naturals.{le-or-lt}
 use Rattle.values.proofs.Codes.{at-between}
 use Rattle.values.proofs.Machine.{byte-count}
@@ -78,3 +82,8 @@ word-bound w = go (eqb (kindOf w) 12) (eqb (kindOf w) 11) (eqb (kindOf w) 9)
     go true top v = zero-le
     go false true v = omega arith
     go false false v = omega (arith, byte-count v)
+
+-- what a signal holds
+pub signal-bound : (words : List ℕ) (start n t l : ℕ) → signalIn words start n t l ≤ highest
+unfolding signalIn
+signal-bound words start n t l = word-bound (getD words (start + (t * n + l)) 0)

@@ -97,3 +97,6 @@ at-negate code h =
     let m : Margin = marginAt code in
     let s : Small m = at-small code h in
     ap (λ n. marginAt (2 ^ 28 - n)) (sym (code-at code h)) ∙ ap marginAt (sym (code-negate m s)) ∙ at-code (negate m) (small-negate m s)
+
+pub code-opposite : (code : ℕ) → code ≤ 2 ^ 28 → marginCode (negate (marginAt code)) ≡ 2 ^ 28 - code
+code-opposite code h = code-negate (marginAt code) (at-small code h) ∙ ap (λ n. 2 ^ 28 - n) (code-at code h)

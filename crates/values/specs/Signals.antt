@@ -1,4 +1,5 @@
--- Signals as the words of an answer hold them, and ranges as a table of distances gives them.
+-- Signals as the words of an answer hold them, and ranges as a table of distances gives them. These are for contracts inside the engine: no
+-- promise to a host speaks of them.
 use mathlib.Core.Bool.{Bool, true, false, _&&_}
 use mathlib.Core.List.{List}
 use Prim.Native.Nat.{ℕ, _+_, _*_}

@@ -1,10 +1,13 @@
-// A verdict with its margin: as one number in the order of both, and as the word of an answer.
+// A verdict with its margin: as one number in the order of both, and as the word of an answer; and signals of such words.
 ghost use mathlib.Core.Path.{_≡_};
-ghost use Prim.Native.Nat.{_-_, _≤_, _<_, _^_};
+ghost use Prim.Native.Nat.{_+_, _*_, _≤_, _<_, _^_};
 ghost use lib.IntN.{_-ℤ_, natAbs};
+ghost use lib.ListN.{length};
+ghost use Rattle.words.specs.Bytes.{wordsOf};
 ghost use Rattle.logic.specs.Margin.{finite, negate};
 ghost use Rattle.logic.specs.Formulas.{InBits};
 ghost use Rattle.values.specs.Chain.{marginCode, marginAt, highest, chainOf, chainVerdict, chainLattice, chainOpposite, chainDifference, chainWord, wordChain};
+ghost use Rattle.values.specs.Signals.{signalIn};
 
 // A margin by its place in the order of margins: 0 is minus infinity, 2^27 + z the number z, 2^28 plus infinity.
 pub struct Margin {
@@ -27,7 +30,7 @@ impl Margin {
 
     pub fn negate(self) -> Margin
         requires { ⌜ self .code ≤ 2 ^ 28 ⌝ }
-        ensures { λ r. ⌜ (r .code ≡ 2 ^ 28 - self .code) × (marginAt (r .code) ≡ negate (marginAt (self .code))) ⌝ }
+        ensures { λ r. ⌜ r .code ≡ marginCode (negate (marginAt (self .code))) ⌝ }
     {
         Margin {
             code: 268435456 - self.code,
@@ -123,4 +126,12 @@ pub fn of_word(w: u32) -> u32
     } else {
         number
     }
+}
+
+// The number of a signal at a sample and a place. The signal begins at index `start` of the words and has `places` words to a sample.
+pub fn signal_at(words: &[u8], start: usize, places: usize, t: usize, l: usize) -> u32
+    requires { ⌜ start + (t * places + l) < length (wordsOf (now words)) ⌝ }
+    ensures { λ r. ⌜ r ≡ signalIn (wordsOf (now (words .entry))) start places t l ⌝ }
+{
+    of_word(words::word_at(words, start + (t * places + l)))
 }

@@ -15,7 +15,8 @@ use Rattle.sheet.specs.declared.check.Layout.{Layout}
 use Rattle.sheet.specs.declared.operator.Bounds.{Bounds}
 use Rattle.sheet.specs.Limits.{mostPlaces}
 use Rattle.values.specs.Chain.{highest, chainWord, chainVerdict}
-use Rattle.operators.proofs.Bounds.{signal-bound, greatest-bound}
+use Rattle.values.proofs.ChainWords.{signal-bound}
+use Rattle.operators.proofs.Bounds.{greatest-bound}
 use Rattle.surround.specs.Lanes.{lanes, laneOf, surroundRounds, blockRounds}
 use Rattle.surround.specs.Blocks.{BlockReady, BlockDone}
 use Rattle.surround.specs.Ranges.{RangeReady, RangeDone}

@@ -32,7 +32,8 @@ use Rattle.values.specs.Chain.{chains, chainLattice, chainOpposite, highest}
 use Rattle.values.specs.Signals.{signalIn, turned, inTable}
 use Rattle.values.proofs.Machine.{small-fits}
 use Rattle.values.proofs.Valid.{valid-difference}
-use Rattle.operators.proofs.Bounds.{signal-bound, bounded-kept}
+use Rattle.values.proofs.ChainWords.{signal-bound}
+use Rattle.operators.proofs.Bounds.{bounded-kept}
 use Rattle.surround.specs.Lanes.{joinedBy, surroundValue}
 use Rattle.surround.specs.Ranges.{somewhereIn}
 use Rattle.verdicts.specs.Writing.{sheetNetwork, sheetRecording, earlier, lineValue, Surveyed, Readable}

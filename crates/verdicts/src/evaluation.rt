@@ -16,7 +16,7 @@ ghost use Rattle.logic.specs.Table.{untilAt, opposite};
 ghost use Rattle.logic.specs.Formulas.{InBits};
 ghost use Rattle.sheet.specs.Decoding.{operatorSaid};
 ghost use Rattle.values.specs.Chain.{chains};
-ghost use Rattle.operators.specs.Rows.{Filled, atomValue, andAt, eventuallyAt};
+ghost use Rattle.operators.specs.Rows.{Filled, RowLeft, atomValue, andAt, eventuallyAt};
 ghost use Rattle.verdicts.specs.Writing.{earlier, sheetRecording, lineValue, Recorded, Written, Readable};
 
 // Codes 1 and 2: the evaluator of atoms is handed the samples' part of the sheet, which begins after the roads.
@@ -25,12 +25,12 @@ fn recorded_row(
     layout: Layout,
     signal: usize,
     constant: i32,
-    least: bool,
+    atleast: bool,
     t: usize,
     row: &mut [u32],
 )
     requires { ⌜ (signal < layout .signals) × (layout .recording + (t + 1) * layout .places * layout .signals ≤ length (wordsOf (now sheet))) × InBits 27 constant × (layout .places ≤ length (now row)) ⌝ }
-    ensures { λ _. ⌜ Filled (layout .places) (λ l. atomValue least (sheetRecording (wordsOf (now (sheet .entry))) layout signal t l) constant) (now (row .exit)) ⌝ }
+    ensures { λ _. ⌜ RowLeft (layout .places) (λ l. atomValue atleast (sheetRecording (wordsOf (now (sheet .entry))) layout signal t l) constant) (now (row .entry)) (now (row .exit)) ⌝ }
 {
     let begin = layout.recording * 4;
     atom_row(
@@ -39,7 +39,7 @@ fn recorded_row(
         layout.signals,
         signal,
         constant,
-        least,
+        atleast,
         t,
         row,
     );
@@ -48,7 +48,7 @@ fn recorded_row(
 // Code 3: the signal of an earlier line.
 fn not_of(words: &[u8], starts: &[usize], layout: Layout, left: usize, t: usize, row: &mut [u32])
     requires { ⌜ Written layout (wordsOf (now words)) (now starts) left t × (layout .places ≤ length (now row)) ⌝ }
-    ensures { λ _. ⌜ Filled (layout .places) (opposite chains (earlier layout (wordsOf (now (words .entry))) (now (starts .entry)) left) t) (now (row .exit)) ⌝ }
+    ensures { λ _. ⌜ RowLeft (layout .places) (opposite chains (earlier layout (wordsOf (now (words .entry))) (now (starts .entry)) left) t) (now (row .entry)) (now (row .exit)) ⌝ }
 {
     turned_row(words, starts[left], layout.places, true, t, row);
 }
@@ -65,7 +65,7 @@ fn and_of(
     row: &mut [u32],
 )
     requires { ⌜ Written layout (wordsOf (now words)) (now starts) left t × Written layout (wordsOf (now words)) (now starts) right t × (layout .places ≤ length (now row)) ⌝ }
-    ensures { λ _. ⌜ Filled (layout .places) (andAt dual (earlier layout (wordsOf (now (words .entry))) (now (starts .entry)) left) (earlier layout (wordsOf (now (words .entry))) (now (starts .entry)) right) t) (now (row .exit)) ⌝ }
+    ensures { λ _. ⌜ RowLeft (layout .places) (andAt dual (earlier layout (wordsOf (now (words .entry))) (now (starts .entry)) left) (earlier layout (wordsOf (now (words .entry))) (now (starts .entry)) right) t) (now (row .entry)) (now (row .exit)) ⌝ }
 {
     and_row(
         words,
@@ -90,7 +90,7 @@ fn until_of(
     row: &mut [u32],
 )
     requires { ⌜ (bounds .lower ≤ bounds .upper) × Written layout (wordsOf (now words)) (now starts) left (t + bounds .upper) × Written layout (wordsOf (now words)) (now starts) right (t + bounds .upper) × (layout .places ≤ length (now row)) ⌝ }
-    ensures { λ _. ⌜ Filled (layout .places) (untilAt chains (earlier layout (wordsOf (now (words .entry))) (now (starts .entry)) left) (earlier layout (wordsOf (now (words .entry))) (now (starts .entry)) right) (bounds .lower) (bounds .upper) t) (now (row .exit)) ⌝ }
+    ensures { λ _. ⌜ RowLeft (layout .places) (untilAt chains (earlier layout (wordsOf (now (words .entry))) (now (starts .entry)) left) (earlier layout (wordsOf (now (words .entry))) (now (starts .entry)) right) (bounds .lower) (bounds .upper) t) (now (row .entry)) (now (row .exit)) ⌝ }
 {
     until_row(
         words,
@@ -116,7 +116,7 @@ fn eventually_of(
     row: &mut [u32],
 )
     requires { ⌜ (bounds .lower ≤ bounds .upper) × Written layout (wordsOf (now words)) (now starts) left (t + bounds .upper) × ((u : ℕ) → t ≡ suc u → Filled (layout .places) (eventuallyAt dual (earlier layout (wordsOf (now words)) (now starts) left) (bounds .lower) (bounds .upper) u) (now row)) × (layout .places ≤ length (now row)) ⌝ }
-    ensures { λ _. ⌜ Filled (layout .places) (eventuallyAt dual (earlier layout (wordsOf (now (words .entry))) (now (starts .entry)) left) (bounds .lower) (bounds .upper) t) (now (row .exit)) ⌝ }
+    ensures { λ _. ⌜ RowLeft (layout .places) (eventuallyAt dual (earlier layout (wordsOf (now (words .entry))) (now (starts .entry)) left) (bounds .lower) (bounds .upper) t) (now (row .entry)) (now (row .exit)) ⌝ }
 {
     eventually_row(
         words,
@@ -142,7 +142,7 @@ pub(crate) fn value_row(
     row: &mut [u32],
 )
     requires { ⌜ Recorded (wordsOf (now sheet)) layout × Readable layout (wordsOf (now words)) (now starts) (operatorSaid operator) t × ((u : ℕ) → t ≡ suc u → Filled (layout .places) (lineValue (wordsOf (now sheet)) layout (wordsOf (now words)) (now starts) (operatorSaid operator) u) (now row)) × (layout .places ≤ length (now row)) ⌝ }
-    ensures { λ _. ⌜ Filled (layout .places) (lineValue (wordsOf (now (sheet .entry))) layout (wordsOf (now (words .entry))) (now (starts .entry)) (operatorSaid operator) t) (now (row .exit)) ⌝ }
+    ensures { λ _. ⌜ RowLeft (layout .places) (lineValue (wordsOf (now (sheet .entry))) layout (wordsOf (now (words .entry))) (now (starts .entry)) (operatorSaid operator) t) (now (row .entry)) (now (row .exit)) ⌝ }
 {
     match operator {
         Operator::True => true_row(layout.places, row),

@@ -8,15 +8,21 @@ use borrow.Author.Needs.{needs}
 use borrow.Author.Tests.{eqb-true, eqb-false}
 use Rattle.logic.specs.Counts.{count}
 use Rattle.values.specs.Chain.{highest}
-use Rattle.values.proofs.Codes.{code-at}
+use Rattle.values.proofs.Codes.{code-at, code-opposite}
 use Rattle.values.proofs.opposite.Statement.{statement}
 use Rattle.values.proofs.opposite.Tie as tie
 
 negate-requires : tie.Need-negate-requires
 negate-requires c κs = search needs
 
+-- the code of half the number, negated
+negated : (c : tie.After-negate) → c .negate .result .code ≡ 2 ^ 28 - c .before .args .c / 2
+negated c =
+    let half : c .before .args .c / 2 ≤ 2 ^ 28 = omega (arith, c .before .pre) in
+    c .negate .ensures ∙ code-opposite (c .before .args .c / 2) half
+
 chain-requires : tie.Need-chain-requires
-chain-requires c κs = search needs
+chain-requires c κs = omega (arith, negated c)
 
 -- the halves are negated each by itself
 by-halves : (c : ℕ) → c ≤ highest → 2 * (2 ^ 28 - c / 2) + count (eqb (c % 2) 0) ≡ highest - c
@@ -28,9 +34,8 @@ by-halves c h = go (eqb (c % 2) 0) refl
 
 returns : tie.Need-returns
 returns c =
-    let n = c .before .negate .result .code in
-    let e = c .before .negate .ensures .0 in
-    c .chain .ensures ∙ rw (code-at n (omega arith), e) (by-halves (c .before .before .args .c) (c .before .before .pre))
+    let e = negated (c .before) in
+    c .chain .ensures ∙ rw (code-at (c .before .negate .result .code) (omega arith), e) (by-halves (c .before .before .args .c) (c .before .before .pre))
 
 pub opposite-spec : {M : Type 1} → statement M
 opposite-spec = tie.close (tie.spec negate-requires chain-requires returns)

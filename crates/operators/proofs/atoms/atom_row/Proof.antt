@@ -1,4 +1,4 @@
--- Each turn fills one place more.
+-- Each turn writes one place more.
 use mathlib.Core.Path.{_≡_, subst}
 use Prim.Native.Nat.{ℕ, _<_, _+_, _*_, _-_, _≤_}
 use native.Mathlib.Nat.{le-mul-of-pos-right}
@@ -14,16 +14,16 @@ use Rattle.words.specs.Bytes.{wordsOf}
 use Rattle.words.proofs.Rows.{in-table}
 use Rattle.words.proofs.Words.{words-count}
 use Rattle.operators.proofs.Bounds.{in-row}
-use Rattle.operators.specs.Rows.{Filled, atomValue}
-use Rattle.operators.proofs.RowLaws.{filled-none, filled-more, filled-all}
+use Rattle.operators.specs.Rows.{RowLeft, atomValue}
+use Rattle.operators.proofs.RowLaws.{left-none, left-more, left-all}
 use Rattle.operators.proofs.atoms.atom_row.Statement.{statement}
 use Rattle.operators.proofs.atoms.atom_row.Tie as tie
 
 abbrev Inv-loop : tie.InvT-loop
-Inv-loop samples places signals signal constant least t row₀ l₀ row l = (l ≤ places) × (length row ≡ length row₀) × Filled l (λ k. atomValue least (sampleOf (getD (wordsOf samples) ((t * places + k) * signals + signal) 0)) (toZ w32 constant)) row
+Inv-loop samples places signals signal constant atleast t row₀ l₀ row l = (l ≤ places) × RowLeft l (λ k. atomValue atleast (sampleOf (getD (wordsOf samples) ((t * places + k) * signals + signal) 0)) (toZ w32 constant)) row₀ row
 
 abbrev μ-loop : tie.MeasureT-loop
-μ-loop samples places signals signal constant least t row₀ l₀ row l = places - l
+μ-loop samples places signals signal constant atleast t row₀ l₀ row l = places - l
 
 module _ (c : tie.In-loop Inv-loop μ-loop) where
   abbrev start : tie.Start Inv-loop μ-loop
@@ -43,7 +43,7 @@ module _ (c : tie.In-loop Inv-loop μ-loop) where
       (le-mul-of-pos-right point some, omega (arith, inside, words-count (start .args .samples .now)))
 
 loop-holds : tie.Need-loop-holds Inv-loop μ-loop
-loop-holds c = (search needs, search needs, filled-none _ _)
+loop-holds c = (search needs, left-none _ _)
 
 mul-atom-at : tie.Need-mul-atom-at Inv-loop μ-loop
 mul-atom-at c = omega (arith, fits c)
@@ -75,7 +75,7 @@ loop-less c = search needs
 loop-again : tie.Need-loop-again Inv-loop μ-loop
 loop-again c =
     let loop = c .before .before .loop in
-    (search needs, search needs, filled-more (loop .row) (loop .l) (c .atom-at .result) (loop .inv .2) (omega arith) (c .atom-at .ensures))
+    (search needs, left-more (c .atom-at .result) (loop .inv .1) (omega arith) (c .atom-at .ensures))
 
 same-length : tie.Need-same-length Inv-loop μ-loop
 same-length c = search needs
@@ -85,8 +85,8 @@ returns c =
     let start = c .before .before .before .before in
     let a = start .args in
     let ended : c .before .loop .l ≡ a .places = omega arith in
-    subst (λ (k : ℤ). Filled (a .places) (λ l. atomValue (a .least) (sampleOf (getD (wordsOf (a .samples .now)) ((a .t * a .places + l) * a .signals + a .signal) 0)) k) (c .before .loop .row))
-    (toZ-ofZ (start .fits .constant)) (filled-all (c .before .loop .inv .2) ended)
+    subst (λ (k : ℤ). RowLeft (a .places) (λ l. atomValue (a .atleast) (sampleOf (getD (wordsOf (a .samples .now)) ((a .t * a .places + l) * a .signals + a .signal) 0)) k) (a .row .now) (c .before .loop .row))
+    (toZ-ofZ (start .fits .constant)) (left-all (c .before .loop .inv .1) ended)
 
 pub atom-row-spec : {M : Type 1} → statement M
 atom-row-spec =

@@ -1,25 +1,23 @@
--- Each turn fills one place more.
-use mathlib.Core.Path.{_≡_, refl, _∙_}
-use Prim.Native.Nat.{ℕ, _-_, _≤_}
+-- Each turn writes one place more.
+use mathlib.Core.Path.{_≡_, _∙_}
+use Prim.Native.Nat.{_-_, _≤_}
 use native.Mathlib.Omega.{arith}
-use lib.ListN.{length, getD}
 use borrow.Author.Needs.{needs}
 use Rattle.words.specs.Bytes.{wordsOf}
 use Rattle.values.specs.Signals.{signalIn}
-use Rattle.operators.specs.Rows.{Filled, eventuallyAt}
-use Rattle.operators.proofs.RowLaws.{filled-none, filled-more, rest-kept, filled-all}
+use Rattle.operators.specs.Rows.{RowLeft, eventuallyAt}
+use Rattle.operators.proofs.RowLaws.{left-none, left-more, left-all}
 use Rattle.operators.proofs.eventually.eventually_row.Statement.{statement}
 use Rattle.operators.proofs.eventually.eventually_row.Tie as tie
 
 abbrev Inv-loop : tie.InvT-loop
-Inv-loop words start places lower upper dual t row₀ from to l₀ row l = (l ≤ places) × (length row ≡ length row₀) × Filled l (eventuallyAt dual (signalIn (wordsOf words) start places) lower upper t) row
-    × ((k : ℕ) → l ≤ k → getD row k 0 ≡ getD row₀ k 0)
+Inv-loop words start places lower upper dual t row₀ from to l₀ row l = (l ≤ places) × RowLeft l (eventuallyAt dual (signalIn (wordsOf words) start places) lower upper t) row₀ row
 
 abbrev μ-loop : tie.MeasureT-loop
 μ-loop words start places lower upper dual t row₀ from to l₀ row l = places - l
 
 loop-holds : tie.Need-loop-holds Inv-loop μ-loop
-loop-holds c = (search needs, search needs, filled-none _ _, λ k b. refl)
+loop-holds c = (search needs, left-none _ _)
 
 mul-eventually-at : tie.Need-mul-eventually-at Inv-loop μ-loop
 mul-eventually-at c = search needs
@@ -31,7 +29,7 @@ eventually-at-requires : tie.Need-eventually-at-requires Inv-loop μ-loop
 eventually-at-requires c κs =
     let start = c .before .before .before .before .before in
     let loop = c .before .before .loop in
-    (start .pre .0, c .before .loop-test .taken, λ u e. loop .inv .3 (loop .l) (omega arith) ∙ start .pre .2 u e .at (loop .l) (c .before .loop-test .taken))
+    (start .pre .0, c .before .loop-test .taken, λ u e. loop .inv .1 .kept (loop .l) (omega arith) ∙ start .pre .2 u e .at (loop .l) (c .before .loop-test .taken))
 
 mul-row : tie.Need-mul-row Inv-loop μ-loop
 mul-row c = search needs
@@ -48,18 +46,13 @@ loop-less c = search needs
 loop-again : tie.Need-loop-again Inv-loop μ-loop
 loop-again c =
     let loop = c .before .before .before .loop in
-    let row₀ = c .before .before .before .before .before .before .args .row .now in (
-      search needs,
-      search needs,
-      filled-more (loop .row) (loop .l) (c .eventually-at .result) (loop .inv .2) (omega arith) (c .eventually-at .ensures),
-      rest-kept (loop .row) row₀ (loop .l) (c .eventually-at .result) (loop .inv .3),
-    )
+    (search needs, left-more (c .eventually-at .result) (loop .inv .1) (omega arith) (c .eventually-at .ensures))
 
 same-length : tie.Need-same-length Inv-loop μ-loop
 same-length c = search needs
 
 returns : tie.Need-returns Inv-loop μ-loop
-returns c = let ended : c .before .loop .l ≡ c .before .before .before .before .args .places = omega arith in filled-all (c .before .loop .inv .2) ended
+returns c = let ended : c .before .loop .l ≡ c .before .before .before .before .args .places = omega arith in left-all (c .before .loop .inv .1) ended
 
 pub eventually-row-spec : {M : Type 1} → statement M
 eventually-row-spec =

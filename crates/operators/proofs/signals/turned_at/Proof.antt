@@ -1,8 +1,8 @@
 -- What a signal holds is at most `highest`, so it has an opposite.
 use mathlib.Core.Path.{ap, _∙_}
 use borrow.Author.Needs.{needs}
+use Rattle.values.proofs.ChainWords.{signal-bound}
 use Rattle.operators.specs.Rows.{turnedTo}
-use Rattle.operators.proofs.Bounds.{signal-bound}
 use Rattle.operators.proofs.RowLaws.{turned-number}
 use Rattle.operators.proofs.signals.turned_at.Statement.{statement}
 use Rattle.operators.proofs.signals.turned_at.Tie as tie

@@ -1,7 +1,7 @@
 -- The codes of a margin and of its opposite sum to 2^28.
-use mathlib.Core.Path.{refl}
+use mathlib.Core.Path.{sym}
 use borrow.Author.Needs.{needs}
-use Rattle.values.proofs.Codes.{at-negate}
+use Rattle.values.proofs.Codes.{code-opposite}
 use Rattle.values.proofs.Margin.negate.Statement.{statement}
 use Rattle.values.proofs.Margin.negate.Tie as tie
 
@@ -9,7 +9,7 @@ sub-t2 : tie.Need-sub-t2
 sub-t2 c = search needs
 
 returns : tie.Need-returns
-returns c = (refl, at-negate (c .before .args .self .code) (c .before .pre))
+returns c = sym (code-opposite (c .before .args .self .code) (c .before .pre))
 
 pub negate-spec : {M : Type 1} → statement M
 negate-spec = tie.close (tie.spec sub-t2 returns)

@@ -11,6 +11,7 @@ use Rattle.words.specs.Word.{sampleOf}
 use Rattle.words.specs.Bytes.{wordsOf}
 use Rattle.words.proofs.Words.{words-count}
 use Rattle.operators.specs.Rows.{atomValue}
+use Rattle.operators.proofs.RowLaws.{left-same}
 use Rattle.verdicts.specs.Writing.{sheetRecording}
 use Rattle.verdicts.proofs.Points.{words-from}
 use Rattle.verdicts.proofs.evaluation.recorded_row.Statement.{statement}
@@ -55,7 +56,7 @@ same-length c = search needs
 returns : tie.Need-returns
 returns c =
     let start = c .before .before .before .before .before .before .before .before in
-    record { at = λ l b. c .before .before .atom-row .ensures .at l b ∙ ap₂ (atomValue (start .args .least)) (sampled start l) (toZ-ofZ (start .fits .constant)) }
+    left-same (c .before .before .atom-row .ensures) (λ l b. ap₂ (atomValue (start .args .atleast)) (sampled start l) (toZ-ofZ (start .fits .constant)))
 
 pub recorded-row-spec : {M : Type 1} → statement M
 recorded-row-spec =

@@ -14,7 +14,8 @@ use Rattle.logic.specs.Formulas.{InBits}
 use Rattle.sheet.specs.declared.operator.Operator.{Operator}
 use Rattle.sheet.specs.Decoding.{operatorSaid}
 use Rattle.values.specs.Chain.{chains}
-use Rattle.operators.specs.Rows.{Filled}
+use Rattle.operators.specs.Rows.{Filled, RowLeft}
+use Rattle.operators.proofs.RowLaws.{left-same}
 use Rattle.verdicts.specs.Writing.{sheetRecording, lineValue, Readable}
 use Rattle.verdicts.proofs.Points.{sample-inside, constant-kept}
 use Rattle.verdicts.proofs.evaluation.value_row.Statement.{statement}
@@ -34,18 +35,18 @@ module _ (c : tie.After-slice-known) where
   abbrev Sample : ℕ → ℕ → ℤ
   Sample x l = sheetRecording (wordsOf (start .args .sheet .now)) (start .args .layout) x (start .args .t) l
 
-  abbrev Row : (ℕ → ℕ) → List ℕ → Type 0
-  Row = Filled (start .args .layout .places)
+  abbrev Leaves : (ℕ → ℕ) → List ℕ → Type 0
+  Leaves f = RowLeft (start .args .layout .places) f (start .args .row .now)
 
   readable : {o : Operator} → start .args .operator ≡ o → Reads o
   readable e = subst Reads e (start .pre .1)
 
   -- the values at the sample before
-  former : {o : Operator} → start .args .operator ≡ o → (u : ℕ) → start .args .t ≡ suc u → Row (Value o u) (start .args .row .now)
-  former e u h = subst (λ o. Row (Value o u) (start .args .row .now)) e (start .pre .2 u h)
+  former : {o : Operator} → start .args .operator ≡ o → (u : ℕ) → start .args .t ≡ suc u → Filled (start .args .layout .places) (Value o u) (start .args .row .now)
+  former e u h = subst (λ o. Filled (start .args .layout .places) (Value o u) (start .args .row .now)) e (start .pre .2 u h)
 
-  told : {o : Operator} {row : List ℕ} → start .args .operator ≡ o → Row (Value o (start .args .t)) row → Row (Value (start .args .operator) (start .args .t)) row
-  told {o} {row} e filled = subst (λ p. Row (Value p (start .args .t)) row) (sym e) filled
+  told : {o : Operator} {row : List ℕ} → start .args .operator ≡ o → Leaves (Value o (start .args .t)) row → Leaves (Value (start .args .operator) (start .args .t)) row
+  told {o} {row} e left = subst (λ p. Leaves (Value p (start .args .t)) row) (sym e) left
 
   atoms-inside : {x : ℕ} (k : ℤ) → (x < start .args .layout .signals) × (start .args .t < start .args .layout .samples) × InBits 27 k → (x < start .args .layout .signals)
       × (start .args .layout .recording + (start .args .t + 1) * start .args .layout .places * start .args .layout .signals ≤ length (wordsOf (start .args .sheet .now)))
@@ -145,7 +146,7 @@ unfolding lineValue value
 returns-2 c =
     let known = c .before .before .before .before .before .before .before in
     let which = c .before .before .before .before .before .operator .given in
-    told known (which .1) (record { at = λ l b. c .before .before .recorded-row .ensures .at l b ∙ ap (λ k. chains .atom (Sample known (which .0 .0) l -ℤ k)) (constant-kept (which .0 .1 .0) (readable known (which .1) .2)) })
+    told known (which .1) (left-same (c .before .before .recorded-row .ensures) (λ l b. ap (λ k. chains .atom (Sample known (which .0 .0) l -ℤ k)) (constant-kept (which .0 .1 .0) (readable known (which .1) .2))))
 
 same-length-3 : tie.Need-same-length-3
 same-length-3 c = search needs
@@ -155,7 +156,7 @@ unfolding lineValue value
 returns-3 c =
     let known = c .before .before .before .before .before .before .before in
     let which = c .before .before .before .before .before .operator2 .given in
-    told known (which .1) (record { at = λ l b. c .before .before .recorded-row2 .ensures .at l b ∙ ap (λ k. chains .atom (k -ℤ Sample known (which .0 .0) l)) (constant-kept (which .0 .1 .0) (readable known (which .1) .2)) })
+    told known (which .1) (left-same (c .before .before .recorded-row2 .ensures) (λ l b. ap (λ k. chains .atom (k -ℤ Sample known (which .0 .0) l)) (constant-kept (which .0 .1 .0) (readable known (which .1) .2))))
 
 same-length-4 : tie.Need-same-length-4
 same-length-4 c = search needs

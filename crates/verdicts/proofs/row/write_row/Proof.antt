@@ -61,7 +61,7 @@ module _ (c : tie.After-value-row) where
   values = c .value-row .last .1 .1 .1 .1 .1 .1 .0
 
   filled : Filled (start .args .layout .places) (Value start (before start) (start .args .t)) values
-  filled = subst (λ w. Filled (start .args .layout .places) (Value start w (start .args .t)) values) (read start) (c .value-row .ensures)
+  filled = subst (λ w. Filled (start .args .layout .places) (Value start w (start .args .t)) values) (read start) (c .value-row .ensures .filled)
 
   same : (l : ℕ) → l < start .args .layout .places → entry values 1 0 l ≡ Value start (before start) (start .args .t) l
   same l b = entry-one values l ∙ filled .at l b

@@ -3,10 +3,10 @@ use mathlib.Core.Path.{ap, _∙_}
 use native.Mathlib.Omega.{arith}
 use borrow.Author.Needs.{needs}
 use Rattle.words.proofs.Words.{words-count}
 use Rattle.values.specs.Chain.{wordChain}
 use Rattle.values.specs.Signals.{signalIn}
-use Rattle.operators.proofs.signals.signal_at.Statement.{statement}
-use Rattle.operators.proofs.signals.signal_at.Tie as tie
+use Rattle.values.proofs.signal_at.Statement.{statement}
+use Rattle.values.proofs.signal_at.Tie as tie
 
 mul-word-at : tie.Need-mul-word-at
 mul-word-at c = omega (arith, words-count (c .before .args .words .now))
