@@ -80,12 +80,12 @@ end-accepted s at found e =
     (eqb-true _ _ (last .0), same-accepted (last .1))
 
 -- the end is checked alike whatever was found before it
-pub end-mapped : {A B : Type 0} (s : List ℕ) (at : ℕ) (a : A) (b : B) → endChecked s at b ≡ mapped (λ _. b) (endChecked s at a)
+pub end-mapped : {A B : Type 0} (f : A → B) (s : List ℕ) (at : ℕ) (a : A) → mapped f (endChecked s at a) ≡ endChecked s at (f a)
 unfolding endChecked
-end-mapped s at a b = by (isKind 15 s at && eqb (payloadOf (wordAt s at)) at) (eqb (length s) (at + 1))
+end-mapped f s at a = by (isKind 15 s at && eqb (payloadOf (wordAt s at)) at) (eqb (length s) (at + 1))
   where
-    by : (word last : Bool) → require word 14 at (require last 14 (at + 1) (accepted b))
-        ≡ mapped (λ _. b) (require word 14 at (require last 14 (at + 1) (accepted a)))
+    by : (word last : Bool) → mapped f (require word 14 at (require last 14 (at + 1) (accepted a)))
+        ≡ require word 14 at (require last 14 (at + 1) (accepted (f a)))
     by false last = refl
     by true false = refl
     by true true = refl

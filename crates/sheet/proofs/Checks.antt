@@ -36,10 +36,6 @@ pub mapped-refused : {A B : Type 0} (f : A → B) (first : Checked A) {number pl
 mapped-refused f (accepted a) e = let z : _≡_ {A = ℕ} 0 1 = cc in absurd (omega arith)
 mapped-refused f (refused number place) e = cc
 
-pub mapped-twice : {A B C : Type 0} (g : B → C) (f : A → B) (first : Checked A) → mapped g (mapped f first) ≡ mapped (λ a. g (f a)) first
-mapped-twice g f (accepted a) = refl
-mapped-twice g f (refused number place) = refl
-
 -- ---- with the test as a fact
 pub accepted-inj : {A : Type 0} (a b : A) → accepted a ≡ accepted b → a ≡ b
 accepted-inj a b e = same-accepted e

@@ -16,7 +16,7 @@ use Rattle.logic.specs.Network.{distanceIn}
 use Rattle.logic.proofs.Distances.{lesser-by, atMost-other, distance-to, distance-from}
 use Rattle.logic.proofs.Reach.{distance-bound}
 use Rattle.sheet.specs.Roads.{distanceNumber, distanceTable}
-use Rattle.sheet.specs.DistanceStages.{saturated, stage, lettingIn, broughtDown}
+use Rattle.sheet.specs.DistanceStages.{saturated, stage, relaxing, relaxed}
 
 -- ---- numbers of 64 bits for distances
 saturated-order : (d e : Distance) → T (atMost d e) → saturated d ≤ saturated e
@@ -50,14 +50,14 @@ module _ (weight : ℕ → ℕ → Distance) (n k : ℕ) where
   abbrev entry : ℕ → ℕ → ℕ → ℕ
   entry m a b = saturated (cond (ltb (a * n + b) m) (distance weight (suc k) a b) (distance weight k a b))
 
-  pub letting-none : lettingIn weight n k 0 ≡ stage weight n k
-  unfolding lettingIn stage
-  letting-none = rows-ext (entry 0) (λ a b. saturated (distance weight k a b)) n n
+  pub relaxing-none : relaxing weight n k 0 ≡ stage weight n k
+  unfolding relaxing stage
+  relaxing-none = rows-ext (entry 0) (λ a b. saturated (distance weight k a b)) n n
       (λ a b h l. rw (le-ltb (a * n + b) 0 (omega arith)))
 
-  pub letting-all : lettingIn weight n k (n * n) ≡ stage weight n (suc k)
-  unfolding lettingIn stage
-  letting-all = rows-ext (entry (n * n)) (λ a b. saturated (distance weight (suc k) a b)) n n
+  pub relaxing-all : relaxing weight n k (n * n) ≡ stage weight n (suc k)
+  unfolding relaxing stage
+  relaxing-all = rows-ext (entry (n * n)) (λ a b. saturated (distance weight (suc k) a b)) n n
       (λ a b h l. rw (lt-ltb (a * n + b) (n * n) (in-table h l)))
 
   -- the row and the column of k are the same before and after
@@ -65,24 +65,24 @@ module _ (weight : ℕ → ℕ → Distance) (n k : ℕ) where
   same true d e h = ap saturated h
   same false d e h = refl
 
-  pub letting-to : (m a : ℕ) → a < n → k < n → getD (lettingIn weight n k m) (a * n + k) 0 ≡ saturated (distance weight k a k)
-  unfolding lettingIn
-  letting-to m a h l = getD-rows (entry m) n n a k 0 h l ∙ same (ltb (a * n + k) m) (distance weight (suc k) a k) (distance weight k a k) (distance-to weight k a)
+  pub relaxing-to : (m a : ℕ) → a < n → k < n → getD (relaxing weight n k m) (a * n + k) 0 ≡ saturated (distance weight k a k)
+  unfolding relaxing
+  relaxing-to m a h l = getD-rows (entry m) n n a k 0 h l ∙ same (ltb (a * n + k) m) (distance weight (suc k) a k) (distance weight k a k) (distance-to weight k a)
 
-  letting-from : (m b : ℕ) → k < n → b < n → getD (lettingIn weight n k m) (k * n + b) 0 ≡ saturated (distance weight k k b)
-  unfolding lettingIn
-  letting-from m b h l = getD-rows (entry m) n n k b 0 h l ∙ same (ltb (k * n + b) m) (distance weight (suc k) k b) (distance weight k k b) (distance-from weight k b)
+  relaxing-from : (m b : ℕ) → k < n → b < n → getD (relaxing weight n k m) (k * n + b) 0 ≡ saturated (distance weight k k b)
+  unfolding relaxing
+  relaxing-from m b h l = getD-rows (entry m) n n k b 0 h l ∙ same (ltb (k * n + b) m) (distance weight (suc k) k b) (distance weight k k b) (distance-from weight k b)
 
   -- the number that is stored at a, b
-  brought : (a b x : ℕ) (t : List ℕ) → a < n → b < n → k < n → x ≡ saturated (distance weight k a k) → t ≡ lettingIn weight n k (a * n + b)
+  relaxed-entry : (a b x : ℕ) (t : List ℕ) → a < n → b < n → k < n → x ≡ saturated (distance weight k a k) → t ≡ relaxing weight n k (a * n + b)
       → min (getD t (a * n + b) 0) (x + getD t (k * n + b) 0) ≡ saturated (distance weight (suc k) a b)
-  unfolding lettingIn distance
-  brought a b x t ha hb hk ex et =
+  unfolding relaxing distance
+  relaxed-entry a b x t ha hb hk ex et =
       let old : getD t (a * n + b) 0 ≡ saturated (distance weight k a b) =
       ap (λ (u : List ℕ). getD u (a * n + b) 0) et ∙ getD-rows (entry (a * n + b)) n n a b 0 ha hb
       ∙ rw (le-ltb (a * n + b) (a * n + b) (omega arith)) in
       let from : getD t (k * n + b) 0 ≡ saturated (distance weight k k b) =
-      ap (λ (u : List ℕ). getD u (k * n + b) 0) et ∙ letting-from (a * n + b) b hk hb in
+      ap (λ (u : List ℕ). getD u (k * n + b) 0) et ∙ relaxing-from (a * n + b) b hk hb in
       rw (old, from, ex) (sym (saturated-least (distance weight k a b) (distance weight k a k) (distance weight k k b)))
 
   -- no other entry is let in by one index more
@@ -94,15 +94,15 @@ module _ (weight : ℕ → ℕ → Distance) (n k : ℕ) where
       go (no l) = le-ltb p m (omega arith) ∙ sym (le-ltb p (suc m) (omega arith))
 
   -- one entry more
-  pub letting-more : (a b x : ℕ) (t : List ℕ) → a < n → b < n → k < n → x ≡ saturated (distance weight k a k)
-      → t ≡ lettingIn weight n k (a * n + b) → broughtDown x (k * n + b) (a * n + b) t ≡ lettingIn weight n k (suc (a * n + b))
-  unfolding lettingIn
-  letting-more a b x t ha hb hk ex et =
+  pub relaxing-more : (a b x : ℕ) (t : List ℕ) → a < n → b < n → k < n → x ≡ saturated (distance weight k a k)
+      → t ≡ relaxing weight n k (a * n + b) → relaxed x (k * n + b) (a * n + b) t ≡ relaxing weight n k (suc (a * n + b))
+  unfolding relaxing
+  relaxing-more a b x t ha hb hk ex et =
       let m = a * n + b in
       let v = min (getD t m 0) (x + getD t (k * n + b) 0) in
       ap (λ (u : List ℕ). set u m v) et
       ∙ rows-set (entry m) (entry (suc m)) n n a b v ha hb
-      (rw (lt-ltb m (suc m) (omega arith)) (sym (brought a b x t ha hb hk ex et)))
+      (rw (lt-ltb m (suc m) (omega arith)) (sym (relaxed-entry a b x t ha hb hk ex et)))
       (λ p q _ _ o. rw (others m (p * n + q) o))
 
 -- ---- every place let in

@@ -14,7 +14,7 @@ use Rattle.sheet.specs.Checked.{Checked, accepted, refused, _>>=_}
 use Rattle.sheet.specs.Lines.{linesFrom}
 use Rattle.sheet.specs.Layout.{Sizes, Layout, roadAt, sampleCount, headChecked, roadsFrom, samplesFrom, endChecked, checked}
 use Rattle.sheet.specs.Checking.{mapped, lineCount, layoutOf}
-use Rattle.sheet.proofs.Checks.{require-accepted, bind-accepted, mapped-accepted, mapped-refused, mapped-twice}
+use Rattle.sheet.proofs.Checks.{require-accepted, bind-accepted, mapped-accepted, mapped-refused}
 use Rattle.sheet.proofs.Accepted.{SizesWithin, head-accepted, samples-end, end-accepted, end-mapped}
 use Rattle.sheet.proofs.Walk.{first-inside}
 
@@ -49,7 +49,7 @@ module _ (s : List ℕ) (d : ℕ) (enough : leb leastDistances d ≡ true) {z : 
   }
 
   pub end-next : {lines next : ℕ} → mapped lineCount (linesFrom s (z .signals) (z .samples) mostLines [] table) ≡ accepted (lines, next)
-      → mapped layoutOf (checked s d) ≡ mapped (λ _. layout ((recording - 1) / 2) lines recording table) (endChecked s next next)
+      → mapped layoutOf (checked s d) ≡ endChecked s next (layout ((recording - 1) / 2) lines recording table)
   end-next {lines} {next} e =
       let found = mapped-accepted lineCount (linesFrom s (z .signals) (z .samples) mostLines [] table) e in
       let read : List Line × ℕ = found .0 in
@@ -62,8 +62,7 @@ module _ (s : List ℕ) (d : ℕ) (enough : leb leastDistances d ≡ true) {z : 
       ap (λ (n : ℕ). layout n (length (read .0)) (roadAt roads) (roadAt roads + sampleCount z)) road-count
       ∙ ap (λ (n : ℕ). layout ((recording - 1) / 2) n (roadAt roads) (roadAt roads + sampleCount z)) count
       ∙ ap₂ (layout ((recording - 1) / 2) lines) begins after in
-      ap (mapped layoutOf) (end-read read (found .1) ∙ end-mapped s (read .1) next spec) ∙ mapped-twice layoutOf (λ _. spec) (endChecked s (read .1) next)
-      ∙ rw (same, ends)
+      ap (mapped layoutOf) (end-read read (found .1)) ∙ end-mapped layoutOf s (read .1) spec ∙ ap₂ (endChecked s) ends same
 
 -- ---- what acceptance tells
 

@@ -8,7 +8,7 @@ use lib.IntN.{natAbs, _-ℤ_}
 use Rattle.words.specs.Word.{kindOf, sampleOf}
 use Rattle.sheet.specs.Checked.{wordAt}
 
--- the words at an index
+-- v and w, the words of X and Y at one index: samples at most d apart
 pub record SamplesNear (d v w : ℕ) : Type 0 where
   pub first-sample : kindOf v ≡ 4
   pub second-sample : kindOf w ≡ 4

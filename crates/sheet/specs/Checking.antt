@@ -1,4 +1,4 @@
--- What the code's answers of the check say, in the terms of `Layout`.
+-- For contracts alone, with nothing of document 01: what the code's answers of the check say, in the terms of `Layout`.
 use Prim.Native.Nat.{ℕ, _+_}
 use mathlib.Core.List.{List}
 use lib.ListN.{length}

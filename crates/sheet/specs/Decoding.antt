@@ -1,4 +1,5 @@
--- What the code's decoded lines say, in the terms of `Lines`, and the parts in which the code reads an operator.
+-- For contracts alone, with nothing of document 01: what the code's decoded lines say, in the terms of `Lines`, and the parts in which the
+-- code reads an operator.
 use Prim.Native.Nat.{ℕ}
 use mathlib.Core.List.{List}
 use lib.IntN.{ℤ, pos}

@@ -1,4 +1,5 @@
--- The distance table while it is computed within itself: the recursion of `distance`, one more place let in at a time.
+-- For inner contracts alone: the distance table while it is computed within itself by relaxation. It follows the recursion of `distance`, one
+-- more place let in at a time.
 use Prim.Native.Nat.{ℕ, suc, _+_, _-_, _*_, _^_, min}
 use mathlib.Core.Bool.{cond}
 use mathlib.Core.List.{List}
@@ -17,10 +18,10 @@ module _ (weight : ℕ → ℕ → Distance) (n : ℕ) where
   unfoldable pub stage : ℕ → List ℕ
   stage k = rows (λ a b. saturated (distance weight k a b)) n n
 
-  -- the same while place k is let in, entry by entry: those with an index below m are done
-  unfoldable pub lettingIn : ℕ → ℕ → List ℕ
-  lettingIn k m = rows (λ a b. saturated (cond (ltb (a * n + b) m) (distance weight (suc k) a b) (distance weight k a b))) n n
+  -- the same while entries are relaxed by way of place k, one by one: those with an index below m are done
+  unfoldable pub relaxing : ℕ → ℕ → List ℕ
+  relaxing k m = rows (λ a b. saturated (cond (ltb (a * n + b) m) (distance weight (suc k) a b) (distance weight k a b))) n n
 
--- one number of a table brought down to x plus another, where that is less
-abbrev pub broughtDown : ℕ → ℕ → ℕ → List ℕ → List ℕ
-broughtDown x from to t = set t to (min (getD t to 0) (x + getD t from 0))
+-- one number of a table relaxed: x plus another number takes its place where that is less
+abbrev pub relaxed : ℕ → ℕ → ℕ → List ℕ → List ℕ
+relaxed x from to t = set t to (min (getD t to 0) (x + getD t from 0))

@@ -32,11 +32,11 @@ weightAt r = roadAt r + 1
 abbrev pub sampleCount : Sizes → ℕ
 sampleCount z = z .signals * z .places * z .samples
 
--- of the head
+-- the head: bits 27..20 places, 19..12 signals, 11..0 samples
 unfoldable pub sizesOf : ℕ → Sizes
 sizesOf w = record { places = bits 20 8 w; signals = bits 12 8 w; samples = bits 0 12 w }
 
--- of a road's first word
+-- a road's first word: bits 15..8 the first place, 7..0 the second
 abbrev pub firstPlace : ℕ → ℕ
 firstPlace w = bits 8 8 w
 
@@ -44,7 +44,7 @@ abbrev pub secondPlace : ℕ → ℕ
 secondPlace w = bits 0 8 w
 
 module _ (s : List ℕ) where
-  -- kind 1
+  -- kind 1, each size in its limits
   unfoldable pub headChecked : Checked Sizes
   headChecked =
       let sizes : Sizes = sizesOf (wordAt s 0) in

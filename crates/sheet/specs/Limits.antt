@@ -1,4 +1,5 @@
--- The limits of document 01: the one place that names them.
+-- The limits of a sheet and of the distance table that is lent for it ("The sheet"; refusals 1, 3 and 10). How many bytes a program or a
+-- host may lend (refusal 16) stands elsewhere.
 use Prim.Native.Nat.{ℕ}
 
 abbrev pub mostPlaces : ℕ

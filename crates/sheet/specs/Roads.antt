@@ -1,4 +1,4 @@
--- The network that a sheet's roads make, its recording, and its distances as the lent table holds them.
+-- The network that a sheet's roads make, its recording ("The sheet"), and its distances as the lent table holds them ("Distance").
 use Prim.Native.Nat.{ℕ, zero, suc, _+_, _-_, _*_, _<_, _^_}
 use mathlib.Core.Bool.{Bool, true, false, _&&_, _||_}
 use mathlib.Core.List.{List}
@@ -12,8 +12,7 @@ use Rattle.sheet.specs.Checked.{wordAt, isKind}
 use Rattle.sheet.specs.Layout.{Layout, roadAt, weightAt, firstPlace, secondPlace}
 
 module _ (s : List ℕ) where
-  -- a road as the check lets it pass: a first word of kind 2 and a second of kind 3, a first place below the second and that below n, a
-  -- weight above 0
+  -- what the distances need of a road that passed
   pub record GoodRoad (n r : ℕ) : Type 0 where
     pub road : T (isKind 2 s (roadAt r))
     pub weight : T (isKind 3 s (weightAt r))

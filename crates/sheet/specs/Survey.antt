@@ -1,4 +1,5 @@
--- What a survey leaves in the lent table: the distances of an accepted sheet and zeros beyond, zeros alone on a refusal.
+-- What a survey leaves in the lent table: the distances of an accepted sheet and zeros beyond ("Distance"), zeros alone on a refusal ("Where a
+-- sheet is turned back").
 use mathlib.Core.List.{List}
 use Prim.Native.Nat.{ℕ}
 use lib.ListN.{replicate}

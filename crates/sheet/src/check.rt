@@ -4,14 +4,14 @@ use crate::limits::LEAST_DISTANCES;
 use crate::stages::Head;
 use crate::stages::Stage;
 use crate::stages::Table;
-use crate::stages::check_end;
 use crate::stages::check_head;
 use crate::stages::check_lines;
 use crate::stages::check_roads;
 use crate::stages::check_samples;
+use crate::word::is_end;
 ghost use mathlib.Core.Path.{_≡_};
 ghost use Rattle.words.specs.Bytes.{wordsOf};
-ghost use Rattle.sheet.specs.Layout.{checked};
+ghost use Rattle.sheet.specs.Layout.{endChecked, checked};
 ghost use Rattle.sheet.specs.Checking.{checkSaid, mapped, layoutOf};
 
 // What stands where: the sizes of the head, how many roads and lines there are, and the indices at which the recording (the samples) and the
@@ -30,6 +30,20 @@ pub struct Layout {
 pub enum Check {
     Accepted(Layout),
     Refused(Fault, usize),
+}
+
+// The end word, at its index, and nothing after it: then what was found is the layout.
+fn check_end(s: &[u8], at: usize, found: Layout) -> Check
+    ensures { λ r. ⌜ checkSaid r ≡ endChecked (wordsOf (now (s .entry))) at found ⌝ }
+{
+    if !is_end(s, at) {
+        return Check::Refused(Fault::NotEnd, at);
+    }
+    let after = at + 1;
+    if words::word_count(s) != after {
+        return Check::Refused(Fault::NotEnd, after);
+    }
+    Check::Accepted(found)
 }
 
 // Checks a sheet front to back, given how many distances are lent.
@@ -54,9 +68,10 @@ pub fn check_sheet(s: &[u8], distances: usize) -> Check
     };
     match check_lines(s, table, sizes.signals, sizes.samples) {
         Table::Refused(fault, place) => Check::Refused(fault, place),
-        Table::Lines(lines, after) => match check_end(s, after) {
-            Stage::Refused(fault, place) => Check::Refused(fault, place),
-            Stage::Passed(_) => Check::Accepted(Layout {
+        Table::Lines(lines, after) => check_end(
+            s,
+            after,
+            Layout {
                 places: sizes.places,
                 signals: sizes.signals,
                 samples: sizes.samples,
@@ -65,7 +80,7 @@ pub fn check_sheet(s: &[u8], distances: usize) -> Check
                 lines,
                 recording,
                 table,
-            }),
-        },
+            },
+        ),
     }
 }

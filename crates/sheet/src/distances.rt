@@ -12,7 +12,7 @@ ghost use Rattle.words.specs.Bytes.{wordsOf, numbersOf};
 ghost use Rattle.words.specs.Rows.{padded};
 ghost use Rattle.logic.specs.Distance.{Distance, none};
 ghost use Rattle.sheet.specs.Roads.{GoodRoad, weightAmong, networkOf, distanceTable};
-ghost use Rattle.sheet.specs.DistanceStages.{stage, lettingIn, broughtDown};
+ghost use Rattle.sheet.specs.DistanceStages.{stage, relaxing, relaxed};
 
 const NONE: u64 = 18446744073709551615;
 
@@ -84,11 +84,11 @@ fn lesser(x: u64, y: u64) -> u64
     if x <= y { x } else { y }
 }
 
-// The distance at one index brought down to x plus that at another, where this is less. It is stored in either case: in the innermost
+// Relaxes the distance at one index: x plus that at another takes its place where this is less. It is stored in either case: in the innermost
 // loop a test before the store would cost more, as its outcome can't be foreseen.
-fn bring_down(x: u64, from: usize, to: usize, table: &mut [u8])
+fn relax(x: u64, from: usize, to: usize, table: &mut [u8])
     requires { ⌜ (from < length (numbersOf (wordsOf (now table)))) × (to < length (numbersOf (wordsOf (now table)))) ⌝ }
-    ensures { λ _. ⌜ numbersOf (wordsOf (now (table .exit))) ≡ broughtDown x from to (numbersOf (wordsOf (now (table .entry)))) ⌝ }
+    ensures { λ _. ⌜ numbersOf (wordsOf (now (table .exit))) ≡ relaxed x from to (numbersOf (wordsOf (now (table .entry)))) ⌝ }
 {
     let d = words::number_at(table, to);
     let y = words::number_at(table, from);
@@ -96,35 +96,35 @@ fn bring_down(x: u64, from: usize, to: usize, table: &mut [u8])
 }
 
 // The distances from a, by way of k where that is less.
-fn let_in_row(n: usize, k: usize, a: usize, table: &mut [u8])
+fn relax_row(n: usize, k: usize, a: usize, table: &mut [u8])
     requires { ⌜ (k < n) × (a < n) × (length (numbersOf (wordsOf (now table))) ≡ n * n) ⌝ }
-    ensures { λ _. ⌜ ((weight : ℕ → ℕ → Distance) → numbersOf (wordsOf (now (table .entry))) ≡ lettingIn weight n k (a * n) → numbersOf (wordsOf (now (table .exit))) ≡ lettingIn weight n k (a * n + n)) ⌝ }
+    ensures { λ _. ⌜ ((weight : ℕ → ℕ → Distance) → numbersOf (wordsOf (now (table .entry))) ≡ relaxing weight n k (a * n) → numbersOf (wordsOf (now (table .exit))) ≡ relaxing weight n k (a * n + n)) ⌝ }
 {
     let row = a * n;
     let via = k * n;
     let x = words::number_at(table, row + k);
     for b in 0..n {
-        bring_down(x, via + b, row + b, table);
+        relax(x, via + b, row + b, table);
     }
 }
 
 // Paths may pass through k too.
-fn let_in(n: usize, k: usize, table: &mut [u8])
+fn relax_through(n: usize, k: usize, table: &mut [u8])
     requires { ⌜ (k < n) × (length (numbersOf (wordsOf (now table))) ≡ n * n) ⌝ }
     ensures { λ _. ⌜ ((weight : ℕ → ℕ → Distance) → numbersOf (wordsOf (now (table .entry))) ≡ stage weight n k → numbersOf (wordsOf (now (table .exit))) ≡ stage weight n (k + 1)) ⌝ }
 {
     for a in 0..n {
-        let_in_row(n, k, a, table);
+        relax_row(n, k, a, table);
     }
 }
 
 // Paths may pass through every place.
-fn let_in_all(n: usize, table: &mut [u8])
+fn relax_all(n: usize, table: &mut [u8])
     requires { ⌜ length (numbersOf (wordsOf (now table))) ≡ n * n ⌝ }
     ensures { λ _. ⌜ ((weight : ℕ → ℕ → Distance) → numbersOf (wordsOf (now (table .entry))) ≡ stage weight n 0 → numbersOf (wordsOf (now (table .exit))) ≡ stage weight n n) ⌝ }
 {
     for k in 0..n {
-        let_in(n, k, table);
+        relax_through(n, k, table);
     }
 }
 
@@ -135,7 +135,7 @@ fn find_distances(s: &[u8], places: usize, roads: usize, table: &mut [u8])
 {
     start(places, table);
     put_roads(s, places, roads, table);
-    let_in_all(places, table);
+    relax_all(places, table);
 }
 
 // The distances of all places along a sheet's roads, row by row, and zeros in all the bytes after them, whatever these held.

@@ -20,7 +20,7 @@ pub enum Fault {
     NotEnd,
 }
 
-// The number of the refusal.
+// The cases have no numbers of their own, so that those of document 01 stand here and in `faultNumber` alone.
 pub fn number(fault: Fault) -> u64
     ensures { λ r. ⌜ r ≡ faultNumber fault ⌝ }
 {

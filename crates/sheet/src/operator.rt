@@ -68,18 +68,18 @@ pub enum Operator {
 }
 
 // The fields of a line word.
-pub(crate) struct Fields {
+struct Fields {
     pub code: u32,
     pub left: usize,
     pub right: usize,
 }
 
-pub(crate) enum ReadConstant {
+enum ReadConstant {
     Constant(i32),
     Refused(Fault, usize),
 }
 
-pub(crate) enum ReadBounds {
+enum ReadBounds {
     Bounds(Bounds),
     Refused(Fault, usize),
 }

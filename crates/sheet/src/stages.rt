@@ -1,4 +1,4 @@
-// The parts of a sheet in their order, each checked by a function of its own: head, roads, samples, lines, end.
+// The parts of a sheet before its end, in their order, each checked by a function of its own: head, roads, samples, lines.
 use crate::fault::Fault;
 use crate::limits::MOST_LINES;
 use crate::limits::MOST_PLACES;
@@ -9,7 +9,6 @@ use crate::line::Decoded;
 use crate::line::decode_line;
 use crate::road::first_place;
 use crate::road::second_place;
-use crate::word::is_end;
 use crate::word::is_kind;
 use crate::word::spare_bit_zero;
 ghost use mathlib.Core.Path.{_≡_};
@@ -19,7 +18,7 @@ ghost use lib.ListN.{length};
 ghost use Rattle.words.specs.Bytes.{wordsOf};
 ghost use Rattle.sheet.specs.Limits.{mostSamples, mostLines};
 ghost use Rattle.sheet.specs.Lines.{linesFrom};
-ghost use Rattle.sheet.specs.Layout.{roadAt, sizesOf, headChecked, roadChecked, roadsFrom, samplesFrom, endChecked};
+ghost use Rattle.sheet.specs.Layout.{roadAt, sizesOf, headChecked, roadChecked, roadsFrom, samplesFrom};
 ghost use Rattle.sheet.specs.Checking.{sizesSaid, headSaid, stageSaid, tableSaid, mapped, lineCount};
 
 pub(crate) struct Sizes {
@@ -33,7 +32,7 @@ pub(crate) enum Head {
     Refused(Fault, usize),
 }
 
-// One number that a part tells: the payload of a road, the index after all roads or after the samples, the index of the end.
+// One number that a part tells: the payload of a road, the index after all roads or after the samples.
 pub(crate) enum Stage {
     Passed(usize),
     Refused(Fault, usize),
@@ -168,18 +167,4 @@ pub(crate) fn check_lines(s: &[u8], start: usize, signals: usize, samples: usize
         return Table::Refused(Fault::LineCount, at);
     }
     Table::Lines(lines, at)
-}
-
-// The end word, at its index, and nothing after it.
-pub(crate) fn check_end(s: &[u8], at: usize) -> Stage
-    ensures { λ r. ⌜ stageSaid r ≡ endChecked (wordsOf (now (s .entry))) at at ⌝ }
-{
-    if !is_end(s, at) {
-        return Stage::Refused(Fault::NotEnd, at);
-    }
-    let after = at + 1;
-    if words::word_count(s) != after {
-        return Stage::Refused(Fault::NotEnd, after);
-    }
-    Stage::Passed(at)
 }

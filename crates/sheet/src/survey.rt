@@ -3,8 +3,8 @@ use crate::check::Check;
 use crate::check::check_sheet;
 use crate::distances::fill_distances;
 ghost use mathlib.Core.Path.{_≡_};
-ghost use lib.ListN.{length};
-ghost use Rattle.words.specs.Bytes.{wordsOf, numbersOf};
+ghost use lib.ListN.{length, replicate};
+ghost use Rattle.words.specs.Bytes.{wordsOf, numbersOf, afterNumbers};
 ghost use Rattle.sheet.specs.Layout.{checked};
 ghost use Rattle.sheet.specs.Checking.{checkSaid, mapped, layoutOf};
 ghost use Rattle.sheet.specs.Survey.{surveyed};
@@ -13,6 +13,7 @@ ghost use Rattle.sheet.specs.Survey.{surveyed};
 pub fn survey(s: &[u8], distances: &mut [u8]) -> Check
     ensures decided { λ r. ⌜ checkSaid r ≡ mapped layoutOf (checked (wordsOf (now (s .entry))) (length (numbersOf (wordsOf (now (distances .entry)))))) ⌝ }
     ensures measured { λ _. ⌜ numbersOf (wordsOf (now (distances .exit))) ≡ surveyed (wordsOf (now (s .entry))) (length (numbersOf (wordsOf (now (distances .entry))))) ⌝ }
+    ensures tail { λ _. ⌜ afterNumbers (now (distances .exit)) ≡ replicate (length (afterNumbers (now (distances .entry)))) 0 ⌝ }
 {
     let room = words::number_count(distances);
     match check_sheet(s, room) {

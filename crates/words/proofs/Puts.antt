@@ -74,6 +74,15 @@ put-one s i a h =
     let z : i + 0 ≡ i = omega arith in
     sym (ap (λ (t : List ℕ). set t i a) (put-nil s i)) ∙ (rw z at p)
 
+-- one after the other
+pub put-four : (s : List ℕ) (i a b c d : ℕ) → i + 3 < length s → set (set (set (set s i a) (i + 1) b) (i + 2) c) (i + 3) d ≡ put s i (a ∷ b ∷ c ∷ d ∷ [])
+put-four s i a b c d h =
+    let one = put-one s i a (omega arith) in
+    let two = put-snoc s i (a ∷ []) b (omega arith) in
+    let three = put-snoc s i (a ∷ b ∷ []) c (omega arith) in
+    ap (λ (t : List ℕ). set (set (set t (i + 1) b) (i + 2) c) (i + 3) d) one ∙ ap (λ (t : List ℕ). set (set t (i + 2) c) (i + 3) d) two
+    ∙ ap (λ (t : List ℕ). set t (i + 3) d) three ∙ put-snoc s i (a ∷ b ∷ c ∷ []) d (omega arith)
+
 -- what was put at the front is the front
 pub front-take : (s v : List ℕ) (n : ℕ) → length v ≡ n → take n (put s 0 v) ≡ v
 unfolding put

@@ -1,6 +1,7 @@
--- Words and 64-bit numbers in bytes, lowest byte first, and back.
+-- Words and 64-bit numbers in bytes, lowest byte first ("The answer", on the host service), and back.
 use Prim.Native.Nat.{ℕ, _+_, _*_, _/_, _%_, _^_}
 use mathlib.Core.List.{List, [], _∷_}
+use lib.ListN.{length, drop}
 
 abbrev pub wordOfBytes : ℕ → ℕ → ℕ → ℕ → ℕ
 wordOfBytes a b c d = a + b * 2 ^ 8 + c * 2 ^ 16 + d * 2 ^ 24
@@ -18,6 +19,10 @@ unfoldable pub numbersOf : List ℕ → List ℕ
 numbersOf [] = []
 numbersOf (a ∷ []) = []
 numbersOf (a ∷ b ∷ rest) = (a + b * 2 ^ 32) ∷ numbersOf rest
+
+-- the bytes past the last whole number
+abbrev pub afterNumbers : List ℕ → List ℕ
+afterNumbers b = drop (length (numbersOf (wordsOf b)) * 8) b
 
 unfoldable pub bytesOf : List ℕ → List ℕ
 bytesOf [] = []

@@ -17,7 +17,7 @@ module _ {A : Type 0} where
   abbrev pub rows : (ℕ → ℕ → A) → ℕ → ℕ → List A
   rows f n m = concat (λ i. row (f i) m) n
 
--- s with the words v in place of those from index i on
+-- s with v in place of as many elements from index i on
 unfoldable pub put : List ℕ → ℕ → List ℕ → List ℕ
 put s i v = take i s ++ v ++ drop (i + length v) s
 

@@ -1,4 +1,5 @@
--- A word of 32 bits: bits 31..28 are its kind, 27..0 its payload; and the signed numbers in its fields.
+-- A word of 32 bits (the opening of document 01): bits 31..28 are its kind, 27..0 its payload; and the signed numbers in its fields ("The
+-- sheet", "The answer").
 use Prim.Native.Nat.{ℕ, suc, _+_, _-_, _*_, _/_, _%_, _^_}
 use mathlib.Core.Bool.{cond}
 use lib.Dec.{ltb}

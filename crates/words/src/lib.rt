@@ -1,9 +1,11 @@
 // Words of 32 bits and numbers of 64 bits in bytes, lowest byte first, and the fields of a word.
 ghost use mathlib.Core.Path.{_≡_};
+ghost use mathlib.Core.List.{[], _∷_};
 ghost use Prim.Native.Nat.{_+_, _*_, _<_, _^_};
 ghost use lib.ListN.{length, getD, set, replicate};
 ghost use Rattle.words.specs.Word.{kindOf, payloadOf, sampleOf};
-ghost use Rattle.words.specs.Bytes.{wordOfBytes, wordsOf, numbersOf};
+ghost use Rattle.words.specs.Bytes.{wordOfBytes, wordsOf, numbersOf, bytesOf, halvesOf};
+ghost use Rattle.words.specs.Rows.{put};
 
 // Bits 31..28.
 pub fn kind(w: u32) -> u32
@@ -44,7 +46,6 @@ pub fn word_count(s: &[u8]) -> usize
     s.len() / 4
 }
 
-// The word at an index.
 pub fn word_at(s: &[u8], i: usize) -> u32
     requires { ⌜ i < length (wordsOf (now s)) ⌝ }
     ensures { λ r. ⌜ r ≡ getD (wordsOf (now (s .entry))) i 0 ⌝ }
@@ -60,10 +61,11 @@ pub fn word_or_zero(s: &[u8], i: usize) -> u32
     if i < word_count(s) { word_at(s, i) } else { 0 }
 }
 
-// Stores a word at an index.
+// The words do not tell of bytes past the last whole word, so the bytes are promised too.
 pub fn put_word(s: &mut [u8], i: usize, w: u32)
     requires { ⌜ i < length (wordsOf (now s)) ⌝ }
-    ensures { λ _. ⌜ wordsOf (now (s .exit)) ≡ set (wordsOf (now (s .entry))) i w ⌝ }
+    ensures stored { λ _. ⌜ wordsOf (now (s .exit)) ≡ set (wordsOf (now (s .entry))) i w ⌝ }
+    ensures bytes { λ _. ⌜ now (s .exit) ≡ put (now (s .entry)) (i * 4) (bytesOf (w ∷ [])) ⌝ }
 {
     let at = i * 4;
     s[at] = (w % 256) as u8;
@@ -85,7 +87,6 @@ pub fn number_count(s: &[u8]) -> usize
     s.len() / 8
 }
 
-// The number at an index.
 pub fn number_at(s: &[u8], i: usize) -> u64
     requires { ⌜ i < length (numbersOf (wordsOf (now s))) ⌝ }
     ensures { λ r. ⌜ r ≡ getD (numbersOf (wordsOf (now (s .entry)))) i 0 ⌝ }
@@ -94,10 +95,10 @@ pub fn number_at(s: &[u8], i: usize) -> u64
     number_of_words(word_at(s, at), word_at(s, at + 1))
 }
 
-// Stores a number at an index.
 pub fn put_number(s: &mut [u8], i: usize, x: u64)
     requires { ⌜ i < length (numbersOf (wordsOf (now s))) ⌝ }
-    ensures { λ _. ⌜ numbersOf (wordsOf (now (s .exit))) ≡ set (numbersOf (wordsOf (now (s .entry)))) i x ⌝ }
+    ensures stored { λ _. ⌜ numbersOf (wordsOf (now (s .exit))) ≡ set (numbersOf (wordsOf (now (s .entry)))) i x ⌝ }
+    ensures bytes { λ _. ⌜ now (s .exit) ≡ put (now (s .entry)) (i * 8) (bytesOf (halvesOf (x ∷ []))) ⌝ }
 {
     let at = i * 2;
     put_word(s, at, (x % 4294967296) as u32);

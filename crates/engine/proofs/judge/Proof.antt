@@ -28,7 +28,7 @@ accepts c =
     let survey = c .before .before .before .before .before .before .before .before .survey in
     accepting (wordsOf (g .sheet .now)) (numbersOf (wordsOf (survey .last .1 .0))) (length (numbersOf (wordsOf (g .distances .now)))) (c .before .before .before .before .layout .given .0 .0)
     (same-count (g .distances .now) (survey .last .1 .0) (sym (survey .kept .1 .0)))
-    (sym (survey .ensures .0) ∙ ap checkSaid (c .before .before .before .before .layout .given .1)) (survey .ensures .1)
+    (sym (survey .ensures .0) ∙ ap checkSaid (c .before .before .before .before .layout .given .1)) (survey .ensures .1 .0)
 
 -- the words that its answer needs
 abbrev Needed : tie.After-words-needed-arg → ℕ
@@ -118,7 +118,7 @@ returns-2 c =
       ap resultSaid (c .refusal .ensures) ∙ ap (λ n. told n (fault .0 .1 .0)) (c .before .number .ensures) ∙ ap (λ (j : Judged). j .result) left,
       (
         ap wordsOf (c .before .before .before .before .fill-zero .ensures) ∙ zero-words (g .answer .now) ∙ ap (λ (j : Judged). j .answer) left,
-        (c .before .before .before .before .before .before .before .before .before .before .before .survey .ensures .1 ∙ refusing s room (faultNumber (fault .0 .0)) (fault .0 .1 .0) (sym (c .before .before .before .before .before .before .before .before .before .before .before .survey .ensures .0) ∙ ap checkSaid (fault .1)) ∙ ap (λ (j : Judged). j .distances) left, all-zeros _ (length (g .answer .now)) (c .before .before .before .before .fill-zero .ensures)),
+        (c .before .before .before .before .before .before .before .before .before .before .before .survey .ensures .1 .0 ∙ refusing s room (faultNumber (fault .0 .0)) (fault .0 .1 .0) (sym (c .before .before .before .before .before .before .before .before .before .before .before .survey .ensures .0) ∙ ap checkSaid (fault .1)) ∙ ap (λ (j : Judged). j .distances) left, all-zeros _ (length (g .answer .now)) (c .before .before .before .before .fill-zero .ensures)),
       ),
     )
 

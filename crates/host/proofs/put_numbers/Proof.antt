@@ -51,7 +51,7 @@ loop-again c =
     let start = c .before .before .before .before .before .before in
     let numbers = start .before .before .before .args .numbers .now in
     let stored = numbersOf (wordsOf (start .loop .s)) in
-    let e = c .before .before .put-number .ensures in (
+    let e = c .before .before .put-number .ensures .0 in (
       search needs,
       search needs,
       λ i. c .slice-known2 .given i .fits,

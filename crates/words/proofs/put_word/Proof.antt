@@ -1,10 +1,13 @@
 -- The four bytes are the word's own, lowest first.
-use Prim.Native.Nat.{_/_, _%_}
-use mathlib.Core.Path.{_∙_, ap}
+use Prim.Native.Nat.{ℕ, _*_, _/_, _%_, _^_}
+use mathlib.Core.Path.{_≡_, _∙_, ap}
+use mathlib.Core.List.{[], _∷_}
 use native.Mathlib.Omega.{arith}
 use lib.ListN.{set, length-set}
-use Rattle.words.specs.Bytes.{wordsOf}
+use Rattle.words.specs.Bytes.{wordsOf, bytesOf}
+use Rattle.words.specs.Rows.{put}
 use Rattle.words.proofs.Words.{words-count, words-set, word-bytes}
+use Rattle.words.proofs.Puts.{put-four}
 use borrow.Author.Needs.{needs}
 use Rattle.words.proofs.put_word.Statement.{statement}
 use Rattle.words.proofs.put_word.Tie as tie
@@ -49,10 +52,16 @@ same-length : tie.Need-same-length
 same-length c = search needs
 
 returns : tie.Need-returns
+unfolding bytesOf
 returns c =
     let g = c .args in
-    words-set (g .s .now) (g .i) (g .w % 256) (g .w / 256 % 256) (g .w / 65536 % 256) (g .w / 16777216) (c .pre)
-    ∙ ap (set (wordsOf (g .s .now)) (g .i)) (word-bytes (g .w))
+    let b = g .s .now in
+    let top : g .w / 16777216 ≡ g .w / 2 ^ 24 % 2 ^ 8 = omega (arith, c .fits .w) in (
+      words-set b (g .i) (g .w % 256) (g .w / 256 % 256) (g .w / 65536 % 256) (g .w / 16777216) (c .pre)
+          ∙ ap (set (wordsOf b) (g .i)) (word-bytes (g .w)),
+      put-four b (g .i * 4) (g .w % 256) (g .w / 256 % 256) (g .w / 65536 % 256) (g .w / 16777216) (omega (arith, words-count b))
+          ∙ ap (λ (z : ℕ). put b (g .i * 4) (g .w % 256 ∷ (g .w / 256 % 256) ∷ (g .w / 65536 % 256) ∷ z ∷ [])) top,
+    )
 
 pub put-word-spec : {M : Type 1} → statement M
 put-word-spec =

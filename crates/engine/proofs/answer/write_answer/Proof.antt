@@ -107,8 +107,8 @@ parts c =
     let index : c .before .before .before .before .before .before .before .before .write-lines .result .end ≡ 1 + length middle =
     ends (c .before .before .before .before) .0 ∙ sym (lines-end (network s L) (L .sizes .samples) (recording s L) (L .lines) (length (L .lines))) in
     let head = c .before .before .before .before .before .before .before .before .before .before .before .before .before .head-word .ensures ∙ ap (λ l. wordOf 13 (l .places * 2 ^ 20 + l .lines * 2 ^ 12 + l .samples)) (start .pre .0 .laid) in
-    let lines = c .before .before .before .before .before .before .before .before .write-lines .ensures .written ∙ ap (λ v. put v 1 middle) (c .before .before .before .before .before .before .before .before .before .before .before .before .put-word .ensures ∙ ap (set w 0) head) in
-    c .before .before .before .put-word2 .ensures
+    let lines = c .before .before .before .before .before .before .before .before .write-lines .ensures .written ∙ ap (λ v. put v 1 middle) (c .before .before .before .before .before .before .before .before .before .before .before .before .put-word .ensures .0 ∙ ap (set w 0) head) in
+    c .before .before .before .put-word2 .ensures .0
     ∙ ap₂ (λ v i. set v i (15 * 2 ^ 28 + i)) lines index
     ∙ three-parts w middle (headWord (network s L) (L .sizes .samples) (recording s L) (L .lines)) _ (omega (arith, room start, ends (c .before .before .before .before)))
     ∙ ap (λ i. put w 0 (headWord (network s L) (L .sizes .samples) (recording s L) (L .lines) ∷ (middle ++ ((15 * 2 ^ 28 + i) ∷ []))))

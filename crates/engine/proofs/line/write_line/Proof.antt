@@ -34,7 +34,7 @@ module _ (c : tie.After-way-of) where
   room = omega (arith, start .pre .1)
 
   put-first : first ≡ set answer (start .args .to) (firstWord (lineSaid (start .args .line)))
-  put-first = c .before .before .before .before .put-word .ensures
+  put-first = c .before .before .before .before .put-word .ensures .0
 
   verdicts-room : start .args .to + 1 + start .args .line .length * start .args .layout .places ≤ length first
   verdicts-room = omega (arith, start .pre .1, length-kept answer (start .args .to) (start .args .line) room put-first)

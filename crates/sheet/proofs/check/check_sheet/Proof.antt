@@ -143,12 +143,6 @@ enum-known-lines c = search needs
 check-end-requires : tie.Need-check-end-requires
 check-end-requires c κs = search needs
 
-enum-known-fault-5 : tie.Need-enum-known-fault-5
-enum-known-fault-5 c = search needs
-
-enum-told : tie.Need-enum-told
-enum-told c = search needs
-
 -- ---- the lines have passed
 
 abbrev to-samples : tie.After-known-told8 → tie.After-known-told6
@@ -179,15 +173,14 @@ layout c =
       table = table (to-samples c);
     }
 
-whole : (c : tie.After-known-told8) → mapped layoutOf (checked (sheet (first c)) (lent (first c)))
-    ≡ mapped (λ _. layout c) (endChecked (sheet (first c)) (next c) (next c))
+whole : (c : tie.After-known-told8) → mapped layoutOf (checked (sheet (first c)) (lent (first c))) ≡ endChecked (sheet (first c)) (next c) (layout c)
 unfolding layout
 whole c =
     end-next (sheet (first c)) (lent (first c)) (enough (tested (first c))) (head-found (first c)) (roads-passed (to-roads (to-samples c)) .1)
     (roads-passed (to-roads (to-samples c)) .2) (samples-found (to-samples c)) (lines-found c)
 
-sub-t35 : tie.Need-sub-t35
-sub-t35 c = let begins = roads-passed (to-roads (to-samples (c .before .before .before))) .2 in omega arith
+sub-t31 : tie.Need-sub-t31
+sub-t31 c = let begins = roads-passed (to-roads (to-samples c)) .2 in omega arith
 
 returns-5 : tie.Need-returns-5
 returns-5 c =
@@ -197,15 +190,8 @@ returns-5 c =
     (enough (tested (to-head (to-roads samples)))) (head-found (to-head (to-roads samples))) (roads-passed (to-roads samples) .1) (roads-passed (to-roads samples) .2) (samples-found samples) read))
 
 returns-6 : tie.Need-returns-6
-returns-6 c =
-    let end = sym (c .before .before .before .check-end .ensures) ∙ ap stageSaid (c .before .fault5 .given .1) in
-    sym (whole (c .before .before .before .before) ∙ simp end)
-
-returns-7 : tie.Need-returns-7
 unfolding layout
-returns-7 c =
-    let end = sym (c .before .before .check-end .ensures) ∙ ap stageSaid (c .enum-told .given .1) in
-    sym (whole (c .before .before .before) ∙ simp end)
+returns-6 c = c .check-end .ensures ∙ sym (whole (c .before))
 
 pub check-sheet-spec : {M : Type 1} → statement M
 check-sheet-spec =
@@ -229,10 +215,7 @@ check-sheet-spec =
     check-lines-requires
     enum-known-fault-4
     enum-known-lines
+    sub-t31
     check-end-requires
-    enum-known-fault-5
-    enum-told
-    sub-t35
     returns-5
-    returns-6
-    returns-7)
+    returns-6)

@@ -46,7 +46,7 @@ loop-again c =
     let p = c .before .before .put-number in (
       omega arith,
       p .kept .0 ∙ h .inv .1,
-      p .ensures ∙ ap (λ (t : List ℕ). set t (h .i) (2 ^ 64 - 1)) (h .inv .2)
+      p .ensures .0 ∙ ap (λ (t : List ℕ). set t (h .i) (2 ^ 64 - 1)) (h .inv .2)
           ∙ fill-more (h .i) (2 ^ 64 - 1) (numbersOf (wordsOf t₀)) (omega (arith, c .before .before .before .before .before .before .number-count .ensures)),
     )
 

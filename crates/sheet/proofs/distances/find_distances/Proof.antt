@@ -18,8 +18,8 @@ start-requires c κs = search needs
 put-roads-requires : tie.Need-put-roads-requires
 put-roads-requires c κs = search needs
 
-let-in-all-requires : tie.Need-let-in-all-requires
-let-in-all-requires c κs =
+relax-all-requires : tie.Need-relax-all-requires
+relax-all-requires c κs =
     let g = c .before .before .before .before .before .before .before .before .before .before .before .args in
     ap length (c .before .before .before .put-roads .ensures) ∙ length-stage (weightAmong (wordsOf (g .s .now)) (g .roads)) (g .places) 0
 
@@ -34,9 +34,9 @@ returns c =
     let n = g .places in
     let small = few-places n (omega (arith, length-numbers (g .table .now), entry .pre .1)) in
     let bound : n * 2 ^ 28 < 2 ^ 64 = omega arith in
-    c .before .before .let-in-all .ensures w (c .before .before .before .before .before .before .put-roads .ensures)
+    c .before .before .relax-all .ensures w (c .before .before .before .before .before .before .put-roads .ensures)
     ∙ stage-all w n (2 ^ 28) (light (wordsOf (g .s .now)) (g .roads)) bound
 
 pub find-distances-spec : {M : Type 1} → statement M
 find-distances-spec =
-    tie.close (tie.spec start-requires put-roads-requires let-in-all-requires same-length returns)
+    tie.close (tie.spec start-requires put-roads-requires relax-all-requires same-length returns)

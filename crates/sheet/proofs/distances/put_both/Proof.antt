@@ -51,8 +51,8 @@ same-length c = search needs
 returns : tie.Need-returns
 returns c =
     let g = c .before .before .before .before .before .before .before .before .before .args in
-    c .before .before .put-number2 .ensures
-    ∙ ap (λ (t : List ℕ). set t (g .b * g .n + g .a) (g .weight)) (c .before .before .before .before .before .before .put-number .ensures)
+    c .before .before .put-number2 .ensures .0
+    ∙ ap (λ (t : List ℕ). set t (g .b * g .n + g .a) (g .weight)) (c .before .before .before .before .before .before .put-number .ensures .0)
 
 pub put-both-spec : {M : Type 1} → statement M
 put-both-spec =

@@ -59,7 +59,7 @@ loop-again c =
     let p = c .before .before .put-number in (
       omega arith,
       p .kept .0 ∙ h .inv .1,
-      p .ensures ∙ ap (λ (t : List ℕ). set t (h .a * n + h .a) 0) (h .inv .2) ∙ begun-more n (h .a) (c .before .before .before .before .loop-test .taken),
+      p .ensures .0 ∙ ap (λ (t : List ℕ). set t (h .a * n + h .a) 0) (h .inv .2) ∙ begun-more n (h .a) (c .before .before .before .before .loop-test .taken),
     )
 
 same-length : tie.Need-same-length Inv-loop μ-loop

@@ -89,7 +89,7 @@ loop-again c =
     let start = c .before .before .before .before .before .before .before .before .before .before .before in
     let loop = c .before .before .before .before .before .before .before .before .loop in
     let word = c .before .before .before .before .word-of in
-    let stored = c .before .before .before .put-word .ensures ∙ ap (λ w. set w (start .args .to + loop .l) (word .result)) (loop .inv .2) in
+    let stored = c .before .before .before .put-word .ensures .0 ∙ ap (λ w. set w (start .args .to + loop .l) (word .result)) (loop .inv .2) in
     let more = put-more (wordsOf (start .args .answer .now)) (start .args .to) (λ k. chainWord (Value start k)) (loop .l) (word .result) (room (c .before .before .before .before .before .before .before) .0) (word .ensures) in
     let one = byte-count (c .yes .result) .0 ∙ ap count (c .yes .ensures) in
     (search needs, search needs, stored ∙ more, ap₂ _+_ (loop .inv .3) one ∙ sym (sum-more _ (loop .l)))

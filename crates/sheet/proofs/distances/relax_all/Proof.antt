@@ -8,8 +8,8 @@ use Rattle.words.proofs.Numbers.{same-count}
 use Rattle.logic.specs.Distance.{Distance}
 use Rattle.sheet.specs.DistanceStages.{stage}
 use borrow.Author.Needs.{needs}
-use Rattle.sheet.proofs.distances.let_in_all.Statement.{statement}
-use Rattle.sheet.proofs.distances.let_in_all.Tie as tie
+use Rattle.sheet.proofs.distances.relax_all.Statement.{statement}
+use Rattle.sheet.proofs.distances.relax_all.Tie as tie
 
 abbrev Inv-loop : tie.InvT-loop
 Inv-loop n table₀ k₀ table k =
@@ -22,8 +22,8 @@ abbrev μ-loop : tie.MeasureT-loop
 loop-holds : tie.Need-loop-holds Inv-loop μ-loop
 loop-holds c = (search needs, refl, λ w e. e)
 
-let-in-requires : tie.Need-let-in-requires Inv-loop μ-loop
-let-in-requires c κs =
+relax-through-requires : tie.Need-relax-through-requires Inv-loop μ-loop
+relax-through-requires c κs =
     let h = c .before .before .loop in
     (c .before .loop-test .taken, same-count (h .table) (c .before .before .before .before .args .table .now) (h .inv .1) ∙ c .before .before .before .before .pre)
 
@@ -36,7 +36,7 @@ loop-less c = search needs
 loop-again : tie.Need-loop-again Inv-loop μ-loop
 loop-again c =
     let h = c .before .before .before .before .before .loop in
-    let l = c .before .before .let-in in
+    let l = c .before .before .relax-through in
     (omega arith, l .kept .1 .1 .0 ∙ h .inv .1, λ w e. l .ensures w (h .inv .2 w e))
 
 same-length : tie.Need-same-length Inv-loop μ-loop
@@ -48,14 +48,14 @@ returns c =
     let z : h .k ≡ c .before .before .before .args .n = omega arith in
     λ w e. h .inv .2 w e ∙ ap (stage w (c .before .before .before .args .n)) z
 
-pub let-in-all-spec : {M : Type 1} → statement M
-let-in-all-spec =
+pub relax-all-spec : {M : Type 1} → statement M
+relax-all-spec =
     tie.close
     (tie.spec
     Inv-loop
     μ-loop
     loop-holds
-    let-in-requires
+    relax-through-requires
     add-k
     loop-less
     loop-again

@@ -11,8 +11,8 @@ use Rattle.sheet.specs.Checked.{wordAt, isKind}
 use Rattle.sheet.specs.Layout.{endChecked}
 use Rattle.sheet.proofs.Tests.{and-true, kind-told}
 use borrow.Author.Needs.{needs}
-use Rattle.sheet.proofs.stages.check_end.Statement.{statement}
-use Rattle.sheet.proofs.stages.check_end.Tie as tie
+use Rattle.sheet.proofs.check.check_end.Statement.{statement}
+use Rattle.sheet.proofs.check.check_end.Tie as tie
 
 is-end-requires : tie.Need-is-end-requires
 is-end-requires c κs = search needs

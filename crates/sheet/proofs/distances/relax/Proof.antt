@@ -5,8 +5,8 @@ use native.Mathlib.Omega.{arith}
 use lib.ListN.{getD, set}
 use Rattle.words.specs.Bytes.{wordsOf, numbersOf}
 use borrow.Author.Needs.{needs}
-use Rattle.sheet.proofs.distances.bring_down.Statement.{statement}
-use Rattle.sheet.proofs.distances.bring_down.Tie as tie
+use Rattle.sheet.proofs.distances.relax.Statement.{statement}
+use Rattle.sheet.proofs.distances.relax.Tie as tie
 
 number-at-requires : tie.Need-number-at-requires
 number-at-requires c κs = search needs
@@ -35,10 +35,10 @@ returns c =
     let v = c .before .before .before .lesser in
     let t = numbersOf (wordsOf (g .table .now)) in
     let e : v .result ≡ min (getD t (g .to) 0) (g .x + getD t (g .from) 0) = omega (arith, d .ensures, d .ok, y .ensures, s .ensures, v .ensures) in
-    c .before .before .put-number .ensures ∙ ap (set t (g .to)) e
+    c .before .before .put-number .ensures .0 ∙ ap (set t (g .to)) e
 
-pub bring-down-spec : {M : Type 1} → statement M
-bring-down-spec =
+pub relax-spec : {M : Type 1} → statement M
+relax-spec =
     tie.close
     (tie.spec
     number-at-requires

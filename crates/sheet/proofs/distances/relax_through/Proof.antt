@@ -7,16 +7,16 @@ use lib.ListN.{length}
 use Rattle.words.specs.Bytes.{wordsOf, numbersOf}
 use Rattle.words.proofs.Numbers.{same-count}
 use Rattle.logic.specs.Distance.{Distance}
-use Rattle.sheet.specs.DistanceStages.{stage, lettingIn}
-use Rattle.sheet.proofs.DistanceStages.{letting-none, letting-all}
+use Rattle.sheet.specs.DistanceStages.{stage, relaxing}
+use Rattle.sheet.proofs.DistanceStages.{relaxing-none, relaxing-all}
 use borrow.Author.Needs.{needs}
-use Rattle.sheet.proofs.distances.let_in.Statement.{statement}
-use Rattle.sheet.proofs.distances.let_in.Tie as tie
+use Rattle.sheet.proofs.distances.relax_through.Statement.{statement}
+use Rattle.sheet.proofs.distances.relax_through.Tie as tie
 
 abbrev Inv-loop : tie.InvT-loop
 Inv-loop n k table₀ a₀ table a =
     (a ≤ n) × (length table ≡ length table₀)
-    × ((weight : ℕ → ℕ → Distance) → numbersOf (wordsOf table₀) ≡ stage weight n k → numbersOf (wordsOf table) ≡ lettingIn weight n k (a * n))
+    × ((weight : ℕ → ℕ → Distance) → numbersOf (wordsOf table₀) ≡ stage weight n k → numbersOf (wordsOf table) ≡ relaxing weight n k (a * n))
 
 abbrev μ-loop : tie.MeasureT-loop
 μ-loop n k table₀ a₀ table a = n - a
@@ -25,10 +25,10 @@ loop-holds : tie.Need-loop-holds Inv-loop μ-loop
 loop-holds c =
     let g = c .before .args in
     let z : 0 ≡ 0 * g .n = omega arith in
-    (search needs, refl, λ w e. e ∙ sym (letting-none w (g .n) (g .k)) ∙ ap (lettingIn w (g .n) (g .k)) z)
+    (search needs, refl, λ w e. e ∙ sym (relaxing-none w (g .n) (g .k)) ∙ ap (relaxing w (g .n) (g .k)) z)
 
-let-in-row-requires : tie.Need-let-in-row-requires Inv-loop μ-loop
-let-in-row-requires c κs =
+relax-row-requires : tie.Need-relax-row-requires Inv-loop μ-loop
+relax-row-requires c κs =
     let p = c .before .before .before .before .pre in
     let h = c .before .before .loop in
     (p .0, c .before .loop-test .taken, same-count (h .table) (c .before .before .before .before .args .table .now) (h .inv .1) ∙ p .1)
@@ -43,9 +43,9 @@ loop-again : tie.Need-loop-again Inv-loop μ-loop
 loop-again c =
     let g = c .before .before .before .before .before .before .before .args in
     let h = c .before .before .before .before .before .loop in
-    let r = c .before .before .let-in-row in
+    let r = c .before .before .relax-row in
     let z : h .a * g .n + g .n ≡ (h .a + 1) * g .n = omega arith in
-    (omega arith, r .kept .1 .1 .1 .0 ∙ h .inv .1, λ w e. r .ensures w (h .inv .2 w e) ∙ ap (lettingIn w (g .n) (g .k)) z)
+    (omega arith, r .kept .1 .1 .1 .0 ∙ h .inv .1, λ w e. r .ensures w (h .inv .2 w e) ∙ ap (relaxing w (g .n) (g .k)) z)
 
 same-length : tie.Need-same-length Inv-loop μ-loop
 same-length c = search needs
@@ -56,16 +56,16 @@ returns c =
     let h = c .before .loop in
     let z : h .a ≡ g .n = omega arith in
     λ w e.
-    h .inv .2 w e ∙ ap (λ (a : ℕ). lettingIn w (g .n) (g .k) (a * g .n)) z ∙ letting-all w (g .n) (g .k) ∙ ap (stage w (g .n)) (sym (add-one (g .k)))
+    h .inv .2 w e ∙ ap (λ (a : ℕ). relaxing w (g .n) (g .k) (a * g .n)) z ∙ relaxing-all w (g .n) (g .k) ∙ ap (stage w (g .n)) (sym (add-one (g .k)))
 
-pub let-in-spec : {M : Type 1} → statement M
-let-in-spec =
+pub relax-through-spec : {M : Type 1} → statement M
+relax-through-spec =
     tie.close
     (tie.spec
     Inv-loop
     μ-loop
     loop-holds
-    let-in-row-requires
+    relax-row-requires
     add-a
     loop-less
     loop-again

@@ -9,16 +9,16 @@ use Rattle.words.specs.Bytes.{wordsOf, numbersOf}
 use Rattle.words.proofs.Numbers.{length-numbers, same-count}
 use Rattle.words.proofs.Rows.{in-table}
 use Rattle.logic.specs.Distance.{Distance, distance}
-use Rattle.sheet.specs.DistanceStages.{saturated, lettingIn}
-use Rattle.sheet.proofs.DistanceStages.{letting-to, letting-more}
+use Rattle.sheet.specs.DistanceStages.{saturated, relaxing}
+use Rattle.sheet.proofs.DistanceStages.{relaxing-to, relaxing-more}
 use borrow.Author.Needs.{needs}
-use Rattle.sheet.proofs.distances.let_in_row.Statement.{statement}
-use Rattle.sheet.proofs.distances.let_in_row.Tie as tie
+use Rattle.sheet.proofs.distances.relax_row.Statement.{statement}
+use Rattle.sheet.proofs.distances.relax_row.Tie as tie
 
 abbrev Inv-loop : tie.InvT-loop
 Inv-loop n k a table₀ row via x b₀ table b =
     (b ≤ n) × (length table ≡ length table₀)
-    × ((weight : ℕ → ℕ → Distance) → numbersOf (wordsOf table₀) ≡ lettingIn weight n k (a * n) → numbersOf (wordsOf table) ≡ lettingIn weight n k (a * n + b))
+    × ((weight : ℕ → ℕ → Distance) → numbersOf (wordsOf table₀) ≡ relaxing weight n k (a * n) → numbersOf (wordsOf table) ≡ relaxing weight n k (a * n + b))
 
 abbrev μ-loop : tie.MeasureT-loop
 μ-loop n k a table₀ row via x b₀ table b = n - b
@@ -42,20 +42,20 @@ loop-holds : tie.Need-loop-holds Inv-loop μ-loop
 loop-holds c =
     let g = c .before .before .before .args in
     let z : g .a * g .n ≡ g .a * g .n + 0 = omega arith in
-    (search needs, refl, λ w e. e ∙ ap (lettingIn w (g .n) (g .k)) z)
+    (search needs, refl, λ w e. e ∙ ap (relaxing w (g .n) (g .k)) z)
 
-add-bring-down : tie.Need-add-bring-down Inv-loop μ-loop
-add-bring-down c =
+add-relax : tie.Need-add-relax Inv-loop μ-loop
+add-relax c =
     let o = c .before .before .before .before .before in
     omega (arith, in-table (o .pre .0) (c .loop-test .taken), length-numbers (o .args .table .now))
 
-add-bring-down-2 : tie.Need-add-bring-down-2 Inv-loop μ-loop
-add-bring-down-2 c =
+add-relax-2 : tie.Need-add-relax-2 Inv-loop μ-loop
+add-relax-2 c =
     let o = c .before .before .before .before .before in
     omega (arith, in-table (o .pre .1) (c .loop-test .taken), length-numbers (o .args .table .now))
 
-bring-down-requires : tie.Need-bring-down-requires Inv-loop μ-loop
-bring-down-requires c κs =
+relax-requires : tie.Need-relax-requires Inv-loop μ-loop
+relax-requires c κs =
     let g = c .before .before .before .before .before .before .args in
     let p = c .before .before .before .before .before .before .pre in
     let h = c .before .before .loop in
@@ -75,7 +75,7 @@ loop-again c =
     let g = c .before .before .before .before .before .before .before .before .before .args in
     let p = c .before .before .before .before .before .before .before .before .before .pre in
     let h = c .before .before .before .before .before .loop in
-    let d = c .before .before .bring-down in
+    let d = c .before .before .relax in
     let x = c .before .before .before .before .before .before .number-at in
     let taken = c .before .before .before .before .loop-test .taken in
     let z : suc (g .a * g .n + h .b) ≡ g .a * g .n + (h .b + 1) = omega arith in (
@@ -83,10 +83,10 @@ loop-again c =
       d .kept .1 .1 .1 .0 ∙ h .inv .1,
       λ w e.
           let q : x .result ≡ saturated (distance w (g .k) (g .a) (g .k)) =
-          x .ensures ∙ ap (λ (t : List ℕ). getD t (g .a * g .n + g .k) 0) e ∙ letting-to w (g .n) (g .k) (g .a * g .n) (g .a) (p .1) (p .0) in
+          x .ensures ∙ ap (λ (t : List ℕ). getD t (g .a * g .n + g .k) 0) e ∙ relaxing-to w (g .n) (g .k) (g .a * g .n) (g .a) (p .1) (p .0) in
           d .ensures
-          ∙ letting-more w (g .n) (g .k) (g .a) (h .b) (x .result) (numbersOf (wordsOf (h .table))) (p .1) taken (p .0) q (h .inv .2 w e)
-          ∙ ap (lettingIn w (g .n) (g .k)) z,
+          ∙ relaxing-more w (g .n) (g .k) (g .a) (h .b) (x .result) (numbersOf (wordsOf (h .table))) (p .1) taken (p .0) q (h .inv .2 w e)
+          ∙ ap (relaxing w (g .n) (g .k)) z,
     )
 
 same-length : tie.Need-same-length Inv-loop μ-loop
@@ -97,10 +97,10 @@ returns c =
     let g = c .before .before .before .before .before .args in
     let h = c .before .loop in
     let q : h .b ≡ g .n = omega arith in
-    λ w e. h .inv .2 w e ∙ ap (λ (j : ℕ). lettingIn w (g .n) (g .k) (g .a * g .n + j)) q
+    λ w e. h .inv .2 w e ∙ ap (λ (j : ℕ). relaxing w (g .n) (g .k) (g .a * g .n + j)) q
 
-pub let-in-row-spec : {M : Type 1} → statement M
-let-in-row-spec =
+pub relax-row-spec : {M : Type 1} → statement M
+relax-row-spec =
     tie.close
     (tie.spec
     Inv-loop
@@ -110,9 +110,9 @@ let-in-row-spec =
     add-number-at
     number-at-requires
     loop-holds
-    add-bring-down
-    add-bring-down-2
-    bring-down-requires
+    add-relax
+    add-relax-2
+    relax-requires
     add-b
     loop-less
     loop-again
