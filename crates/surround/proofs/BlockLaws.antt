@@ -1,4 +1,5 @@
--- From the lanes of a block to its samples: the lanes below `count` hold the signals, and the others, all 0, rest from the start.
+-- From the lanes of a block to its samples: the lanes below `count` hold the signals, and the others, all lowest, rest from the
+-- start.
 use mathlib.Core.Path.{_≡_, refl, sym, ap, subst, _∙_}
 use mathlib.Core.Bool.{Bool, true, false, cond}
 use mathlib.Core.List.{List}
@@ -23,7 +24,7 @@ module _ (words : List ℕ) (start n first count : ℕ) (row : List ℕ) (w : Ro
   pub lane-signal : (lane l : ℕ) → count ≤ lanes → lane < count → l < n → laneOf row lane l ≡ signalIn words start n (first + lane) l
   lane-signal lane l h c b = w .at l lane b (omega arith) ∙ simp (lt-ltb lane count c)
 
-  lane-zero : (lane l : ℕ) → lane < lanes → count ≤ lane → l < n → laneOf row lane l ≡ 0
+  pub lane-zero : (lane l : ℕ) → lane < lanes → count ≤ lane → l < n → laneOf row lane l ≡ 0
   lane-zero lane l h c b = w .at l lane b h ∙ simp (le-ltb lane count c)
 
   pub row-valid : ((t l : ℕ) → first ≤ t → t < first + count → l < n → Valid (signalIn words start n t l)) → ValidRow row n
@@ -81,15 +82,22 @@ module _ (words : List ℕ) (left right n : ℕ) (sheet : List ℕ) (roads : ℕ
       (λ k b. low words left n first count l wl (within centre) lane k h c b) in
       omega arith
 
-  pub block-done : (out : List ℕ) (m : ℕ) → CentresDone l r n sheet roads distances lower upper n out m
-      → BlockDone words left right n sheet roads distances first count lower upper out m
+  pub block-done : (before after : List ℕ) (m : ℕ) → CentresDone l r n sheet roads distances lower upper n before after m
+      → BlockDone words left right n sheet roads distances first count lower upper before after m
   unfolding laneSurround surroundValue blockRounds
-  block-done out m done = record {
+  block-done before after m done = record {
     values = λ centre lane b c.
-        done .values .at centre lane b (omega (arith, ready .few))
+        done .values .written .at centre lane b (omega (arith, ready .few))
         ∙ surround-kept chainLattice chainLattice (λ u v. u ≡ v) (same-kept chainLattice) (joinedBy sheet roads) n _ _ _ _
         (λ k d. lane-signal words left n first count l wl lane k (ready .few) c d) (λ k d. lane-signal words right n first count r wr lane k (ready .few) c d)
         (within centre) (about centre) centre;
+    idle = λ centre lane b c h.
+        done .values .written .at centre lane b h
+        ∙ surround-kept chainLattice chainLattice (λ u v. u ≡ v) (same-kept chainLattice) (joinedBy sheet roads) n _ _ _ _
+        (λ k d. lane-zero words left n first count l wl lane k h c d) (λ k d. lane-zero words right n first count r wr lane k h c d)
+        (within centre) (about centre) centre;
+    kept = done .values .kept;
+    long = done .values .long;
     rounds = done .rounds ∙ most-same _ _ n (λ centre b.
         most-front (roundsAt centre) count lanes 0 (ready .few) (ready .some) (no-rounds centre)
         ∙ most-same (roundsAt centre) _ count (same-rounds centre));

@@ -4,11 +4,13 @@ use mathlib.Core.Bool.{Bool}
 use mathlib.Core.List.{List}
 use Prim.Native.Nat.{ℕ, suc, _+_, _<_, max}
 use native.Mathlib.Numerals.{add-one}
+use lib.ListN.{length}
 use Rattle.logic.specs.Margin.{marginLattice}
 use Rattle.logic.specs.Iteration.{iterate, masked}
 use Rattle.logic.specs.Counts.{mostBelow}
 use Rattle.logic.proofs.Keeps.{same-kept, masked-kept, iterate-kept}
 use Rattle.logic.proofs.Rounds.{rounds-same}
+use Rattle.logic.proofs.Totals.{most-same}
 use Rattle.values.specs.Chain.{chainLattice, chainMargin, Valid}
 use Rattle.values.specs.Signals.{inTable}
 use Rattle.values.proofs.Valid.{valid-kept}
@@ -18,8 +20,7 @@ use Rattle.surround.specs.Lanes.{lanes, laneOf, joinedBy}
 use Rattle.surround.specs.Steps.{ValidRow, Settled, roundsIn}
 use Rattle.surround.specs.Blocks.{RowOf, laneSurround, laneRounds, CentreDone, CentresDone}
 use Rattle.surround.specs.Strips.{Written}
-use Rattle.logic.proofs.Totals.{most-same}
-use Rattle.surround.proofs.RowLaws.{row-none, row-more}
+use Rattle.surround.proofs.RowLaws.{row-written-none, row-written-more}
 
 abbrev MaskedRow : (ℕ → Bool) → List ℕ → List ℕ → ℕ → Type 0
 MaskedRow test from to n = RowOf (λ lane. masked chainLattice test (laneOf from lane)) to n
@@ -67,15 +68,15 @@ module _ (left right : List ℕ) (n : ℕ) (sheet : List ℕ) (roads : ℕ) (dis
 
 -- ---- centre after centre
 module _ (left right : List ℕ) (n : ℕ) (sheet : List ℕ) (roads : ℕ) (distances : List ℕ) (lower upper : ℕ) where
-  pub centres-none : (out : List ℕ) → CentresDone left right n sheet roads distances lower upper 0 out 0
+  pub centres-none : (out : List ℕ) → CentresDone left right n sheet roads distances lower upper 0 out out 0
   unfolding mostBelow
-  centres-none out = record { values = row-none _ out; rounds = refl }
+  centres-none out = record { values = row-written-none _ out; rounds = refl }
 
-  pub centres-more : (k : ℕ) (out x out′ : List ℕ) (m r : ℕ) → CentresDone left right n sheet roads distances lower upper k out m
-      → CentreDone left right n sheet roads distances lower upper k x r → Written k lanes (λ lane. laneOf x lane k) out out′
-      → CentresDone left right n sheet roads distances lower upper (k + 1) out′ (max m r)
+  pub centres-more : (k : ℕ) (before out x out′ : List ℕ) (m r : ℕ) → CentresDone left right n sheet roads distances lower upper k before out m
+      → CentreDone left right n sheet roads distances lower upper k x r → Written k lanes (λ lane. laneOf x lane k) out out′ → length out′ ≡ length out
+      → CentresDone left right n sheet roads distances lower upper (k + 1) before out′ (max m r)
   unfolding mostBelow
-  centres-more k out x out′ m r done at w = record {
-    values = row-more (laneSurround left right n sheet roads distances lower upper) (λ lane. laneOf x lane k) out out′ k (done .values) w (at .values);
+  centres-more k before out x out′ m r done at w long = record {
+    values = row-written-more (done .values) w long (at .values);
     rounds = rw add-one (ap₂ max (done .rounds) (at .rounds));
   }

@@ -2,22 +2,22 @@
 use mathlib.Core.Path.{_≡_, refl, ap, _∙_}
 use mathlib.Core.Bool.{Bool, true, false, cond}
 use mathlib.Core.List.{List}
-use Prim.Native.Nat.{ℕ, zero, suc, _+_, _-_, _*_, _≤_, _<_, min, max}
+use Prim.Native.Nat.{ℕ, zero, suc, _+_, _-_, _≤_, _<_, min, max}
 use native.Mathlib.Numerals.{add-one}
 use native.Mathlib.Omega.{arith}
-use lib.ListN.{getD}
 use Rattle.logic.specs.Lattice.{leastOver, greatestOver}
+use Rattle.logic.specs.Table.{Signal}
 use Rattle.logic.proofs.Keeps.{same-kept, least-kept, greatest-kept}
-use Rattle.values.specs.Chain.{chainLattice, chainOpposite, highest}
+use Rattle.values.specs.Chain.{chains, chainLattice, chainOpposite, highest}
 use Rattle.values.specs.Signals.{signalIn, inTable}
-use Rattle.values.proofs.ChainWords.{word-bound}
+use Rattle.values.proofs.ChainWords.{signal-bound}
 use Rattle.values.proofs.Naturals.{meet-min, join-max}
 use Rattle.surround.specs.Lanes.{lanes, laneOf}
 use Rattle.surround.specs.Strips.{ofTwo, Written}
-use Rattle.surround.specs.Blocks.{RowOf, laneSignal}
+use Rattle.surround.specs.Blocks.{RowOf, RowWritten, laneSignal}
 use Rattle.surround.specs.Ranges.{somewhereIn, ofNone, gathered, RangeReady, RangeDone}
 use Rattle.surround.proofs.StripLaws.{written-over}
-use Rattle.surround.proofs.BlockLaws.{lane-signal}
+use Rattle.surround.proofs.BlockLaws.{lane-signal, lane-zero}
 
 -- ---- the least or the greatest, one number more
 pub gathered-none : (least : Bool) (test : ℕ → Bool) (f : ℕ → ℕ) → ofNone least ≡ gathered least test f 0
@@ -68,27 +68,29 @@ least-dual test f zero h = refl
 least-dual test f (suc n) h = rw (meet-min, join-max) (one-more (test n) _ _ (f n) (least-dual test f n h) (least-small test f n) (h n))
 
 -- ---- the block
-signal-small : (words : List ℕ) (left n t l : ℕ) → signalIn words left n t l ≤ highest
-unfolding signalIn
-signal-small words left n t l = word-bound (getD words (left + (t * n + l)) 0)
-
 module _ (test : ℕ → Bool) (f g : ℕ → ℕ) (n : ℕ) (same : (k : ℕ) → k < n → f k ≡ g k) where
   gathered-same : (least : Bool) → gathered least test f n ≡ gathered least test g n
   gathered-same true = least-kept chainLattice chainLattice (λ u v. u ≡ v) (same-kept chainLattice) test f g n same
   gathered-same false = greatest-kept chainLattice chainLattice (λ u v. u ≡ v) (same-kept chainLattice) test f g n same
 
-gathered-meant : (dual : Bool) (words : List ℕ) (left n : ℕ) (distances : List ℕ) (lower upper t centre : ℕ)
-    → gathered dual (inTable distances n centre lower upper) (signalIn words left n t) n ≡ somewhereIn dual distances n (signalIn words left n) lower upper t centre
-gathered-meant true words left n distances lower upper t centre = least-dual (inTable distances n centre lower upper) (signalIn words left n t) n (signal-small words left n t)
-gathered-meant false words left n distances lower upper t centre = refl
+gathered-meant : (dual : Bool) (f : Signal chains) (n : ℕ) (distances : List ℕ) (lower upper t centre : ℕ) → ((k : ℕ) → f t k ≤ highest)
+    → gathered dual (inTable distances n centre lower upper) (f t) n ≡ somewhereIn dual distances n f lower upper t centre
+gathered-meant true f n distances lower upper t centre small = least-dual (inTable distances n centre lower upper) (f t) n small
+gathered-meant false f n distances lower upper t centre small = refl
 
-pub range-done : (words : List ℕ) (left n : ℕ) (distances : List ℕ) (first count lower upper : ℕ) (dual : Bool) (row out : List ℕ) → RangeReady words left n distances first count
-    → RowOf (laneSignal words left n first count) row n → RowOf (λ lane centre. gathered dual (inTable distances n centre lower upper) (laneOf row lane) n) out n
-    → RangeDone words left n distances first count lower upper dual out
-range-done words left n distances first count lower upper dual row out ready decoded done = record {
+pub range-done : (words : List ℕ) (left n : ℕ) (distances : List ℕ) (first count lower upper : ℕ) (dual : Bool) (row before after : List ℕ) → RangeReady words left n distances first count
+    → RowOf (laneSignal words left n first count) row n → RowWritten n (λ lane centre. gathered dual (inTable distances n centre lower upper) (laneOf row lane) n) before after
+    → RangeDone words left n distances first count lower upper dual before after
+range-done words left n distances first count lower upper dual row before after ready decoded done = record {
   values = λ centre lane b c.
-      done .at centre lane b (omega (arith, ready .few))
+      done .written .at centre lane b (omega (arith, ready .few))
       ∙ gathered-same (inTable distances n centre lower upper) (laneOf row lane) (signalIn words left n (first + lane)) n
       (λ k d. lane-signal words left n first count row decoded lane k (ready .few) c d) dual
-      ∙ gathered-meant dual words left n distances lower upper (first + lane) centre;
+      ∙ gathered-meant dual (signalIn words left n) n distances lower upper (first + lane) centre (signal-bound words left n (first + lane));
+  idle = λ centre lane b c h.
+      done .written .at centre lane b h
+      ∙ gathered-same (inTable distances n centre lower upper) (laneOf row lane) (λ _. 0) n (λ k d. lane-zero words left n first count row decoded lane k h c d) dual
+      ∙ gathered-meant dual (λ _ _. 0) n distances lower upper lane centre (λ _. omega arith);
+  kept = done .kept;
+  long = done .long;
 }

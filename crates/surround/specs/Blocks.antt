@@ -1,4 +1,5 @@
--- What is done for a block of samples: the strips of the operands are read once, and masked, settled and written centre by centre.
+-- What is done for a block of samples: the strips of the operands are read once, and masked, settled and written centre by centre. These are for
+-- contracts inside the engine: no promise to a host speaks of them.
 use mathlib.Core.Path.{_≡_}
 use mathlib.Core.Bool.{cond}
 use mathlib.Core.List.{List}
@@ -19,16 +20,24 @@ use Rattle.surround.specs.Steps.{RoadsIn, ValidRow}
 pub record RowOf (f : ℕ → ℕ → ℕ) (row : List ℕ) (k : ℕ) : Type 0 where
   pub at : (place lane : ℕ) → place < k → lane < lanes → laneOf row lane place ≡ f lane place
 
--- a lane holds the signal at one sample, and 0 past the last of the samples
+-- the strips of the first k places are written, and nothing else is
+pub record RowWritten (k : ℕ) (f : ℕ → ℕ → ℕ) (before after : List ℕ) : Type 0 where
+  pub written : RowOf f after k
+  pub kept : (place lane : ℕ) → k ≤ place → lane < lanes → laneOf after lane place ≡ laneOf before lane place
+  pub long : length after ≡ length before
+
+-- a lane holds the signal at one sample, and the lowest number past the last of the samples
 abbrev pub laneSignal : List ℕ → ℕ → ℕ → ℕ → ℕ → ℕ → ℕ → ℕ
 laneSignal words start n first count lane place = cond (ltb lane count) (signalIn words start n (first + lane) place) 0
 
 -- rows of the operands; a sheet with its roads; distances; bounds
 module _ (left right : List ℕ) (n : ℕ) (sheet : List ℕ) (roads : ℕ) (distances : List ℕ) (lower upper : ℕ) where
+  -- the surround of one lane at a centre
   unfoldable pub laneSurround : ℕ → ℕ → ℕ
   laneSurround lane centre = surround chainLattice (joinedBy sheet roads) n (inTable distances n centre 0 upper) (inTable distances n centre lower upper)
       (laneOf left lane) (laneOf right lane) centre
 
+  -- the rounds of one lane at a centre
   unfoldable pub laneRounds : ℕ → ℕ → ℕ
   laneRounds centre lane = rounds (joinedBy sheet roads) n
       (masked marginLattice (inTable distances n centre 0 upper) (λ l. chainMargin (laneOf left lane l)))
@@ -39,9 +48,9 @@ module _ (left right : List ℕ) (n : ℕ) (sheet : List ℕ) (roads : ℕ) (dis
     pub values : (lane : ℕ) → lane < lanes → laneOf after lane centre ≡ laneSurround lane centre
     pub rounds : r ≡ mostBelow (laneRounds centre) lanes
 
-  -- the same of the first k centres, in the row `out`
-  pub record CentresDone (k : ℕ) (out : List ℕ) (r : ℕ) : Type 0 where
-    pub values : RowOf laneSurround out k
+  -- the same of the first k centres, in a row
+  pub record CentresDone (k : ℕ) (before after : List ℕ) (r : ℕ) : Type 0 where
+    pub values : RowWritten k laneSurround before after
     pub rounds : r ≡ mostBelow (λ centre. mostBelow (laneRounds centre) lanes) k
 
 -- what the rows of the operands, the sheet and the distances must be for this
@@ -68,8 +77,13 @@ module _ (words : List ℕ) (left right n : ℕ) (sheet : List ℕ) (roads : ℕ
     pub left-valid : (t l : ℕ) → first ≤ t → t < first + count → l < n → Valid (signalIn words left n t l)
     pub right-valid : (t l : ℕ) → first ≤ t → t < first + count → l < n → Valid (signalIn words right n t l)
 
-  -- entry centre · lanes + lane of `out` is the surround of sample first + lane at the centre, and r the greatest rounds
-  pub record BlockDone (lower upper : ℕ) (out : List ℕ) (r : ℕ) : Type 0 where
+  -- entry centre · lanes + lane is the surround of sample first + lane at the centre, and r the greatest rounds; a lane without a sample has the
+  -- surround of the lowest signals, and what stands past the n places is kept
+  pub record BlockDone (lower upper : ℕ) (before after : List ℕ) (r : ℕ) : Type 0 where
     pub values : (centre lane : ℕ) → centre < n → lane < count
-        → laneOf out lane centre ≡ surroundValue words left right n sheet roads distances lower upper (first + lane) centre
+        → laneOf after lane centre ≡ surroundValue words left right n sheet roads distances lower upper (first + lane) centre
+    pub idle : (centre lane : ℕ) → centre < n → count ≤ lane → lane < lanes → laneOf after lane centre
+        ≡ surround chainLattice (joinedBy sheet roads) n (inTable distances n centre 0 upper) (inTable distances n centre lower upper) (λ _. 0) (λ _. 0) centre
+    pub kept : (place lane : ℕ) → n ≤ place → lane < lanes → laneOf after lane place ≡ laneOf before lane place
+    pub long : length after ≡ length before
     pub rounds : r ≡ blockRounds words left right n sheet roads distances lower upper first count

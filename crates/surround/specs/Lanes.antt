@@ -1,5 +1,6 @@
 -- What the kernel computes: the surround of two signals at one sample and centre, with its rounds, from words, roads and distances. Several
--- samples lie side by side in the lanes of a row: entry place · lanes + lane.
+-- samples lie side by side in the lanes of a row: entry place · lanes + lane. These are for contracts inside the engine: no promise to a host
+-- speaks of them.
 use mathlib.Core.Bool.{Bool}
 use mathlib.Core.List.{List}
 use Prim.Native.Nat.{ℕ, _+_, _*_}
@@ -13,6 +14,7 @@ use Rattle.sheet.specs.Roads.{weightAmong}
 use Rattle.values.specs.Chain.{chainLattice, chainMargin}
 use Rattle.values.specs.Signals.{signalIn, inTable}
 
+-- so many samples lie side by side
 abbrev pub lanes : ℕ
 lanes = 16
 
@@ -26,10 +28,12 @@ joinedBy sheet roads a b = isRoad (weightAmong sheet roads a b)
 
 -- words with the signals of the operands, n to a sample, which begin at `left` and `right`; a sheet with its roads; distances; bounds
 module _ (words : List ℕ) (left right n : ℕ) (sheet : List ℕ) (roads : ℕ) (distances : List ℕ) (lower upper : ℕ) where
+  -- the chain number of the surround at a sample and a centre
   unfoldable pub surroundValue : ℕ → ℕ → ℕ
   surroundValue t centre = surround chainLattice (joinedBy sheet roads) n (inTable distances n centre 0 upper) (inTable distances n centre lower upper)
       (signalIn words left n t) (signalIn words right n t) centre
 
+  -- the rounds of its margins
   unfoldable pub surroundRounds : ℕ → ℕ → ℕ
   surroundRounds t centre = rounds (joinedBy sheet roads) n
       (masked marginLattice (inTable distances n centre 0 upper) (λ l. chainMargin (signalIn words left n t l)))

@@ -1,4 +1,5 @@
--- What a round does, row by row: `both` holds what each place hands to its neighbours, and a pull takes it over where it is less.
+-- What a round does, row by row: `both` holds what each place hands to its neighbours, and a pull takes it over where it is less. These are for
+-- contracts inside the engine: no promise to a host speaks of them.
 use mathlib.Core.Path.{_≡_}
 use mathlib.Core.Bool.{Bool, false}
 use mathlib.Core.List.{List}
@@ -19,10 +20,11 @@ pub record RoadsIn (sheet : List ℕ) (roads n : ℕ) : Type 0 where
   pub order : (r : ℕ) → r < roads → firstPlace (wordAt sheet (roadAt r)) < secondPlace (wordAt sheet (roadAt r))
   pub inside : (r : ℕ) → r < roads → secondPlace (wordAt sheet (roadAt r)) < n
 
--- the numbers of n places, none above the highest; and all of them numbers that can arise
+-- the numbers of n places, none above the highest
 pub record Bounded (row : List ℕ) (n : ℕ) : Type 0 where
   pub bound : (place lane : ℕ) → place < n → lane < lanes → laneOf row lane place ≤ highest
 
+-- the numbers of n places, all of them numbers that can arise
 pub record ValidRow (row : List ℕ) (n : ℕ) : Type 0 where
   pub valid : (place lane : ℕ) → place < n → lane < lanes → Valid (laneOf row lane place)
 
@@ -69,7 +71,7 @@ pub record LeastOf (y x : ℕ) (test : ℕ → Bool) (f : ℕ → ℕ) : Type 0 
 pub record Stepped (sheet : List ℕ) (roads : ℕ) (both before after : List ℕ) : Type 0 where
   pub least : (place lane : ℕ) → lane < lanes → LeastOf (laneOf after lane place) (laneOf before lane place) (joinedBy sheet roads place) (laneOf both lane)
 
--- one round of Definition 4.4 in every lane, with the former numbers in `old`
+-- one step of Definition 4.4 in every lane, with the former numbers in `old`
 pub record Round (sheet : List ℕ) (roads n : ℕ) (right before old after : List ℕ) : Type 0 where
   pub former : (place lane : ℕ) → place < n → lane < lanes → laneOf old lane place ≡ laneOf before lane place
   pub stepped : (place lane : ℕ) → place < n → lane < lanes → laneOf after lane place

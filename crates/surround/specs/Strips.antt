@@ -1,4 +1,5 @@
--- What the loops over one place's lanes do: a strip is the lanes of one place in a row.
+-- What the loops over one place's lanes do: a strip is the lanes of one place in a row. These are for contracts inside the engine: no promise to
+-- a host speaks of them.
 use mathlib.Core.Path.{_≡_}
 use mathlib.Core.Bool.{Bool, true, false}
 use mathlib.Core.List.{List}

@@ -1,5 +1,5 @@
 // Definition 4.4's iteration on rows of lanes: all places step together from the former round.
-ghost use Prim.Native.Nat.{_+_, _*_, _/_, _≤_, _<_};
+ghost use Prim.Native.Nat.{_*_, _/_, _≤_, _<_};
 ghost use lib.ListN.{length};
 ghost use Rattle.words.specs.Bytes.{wordsOf};
 ghost use Rattle.sheet.specs.Limits.{mostPlaces};
@@ -17,7 +17,8 @@ const MARGIN: u32 = 2;
 // Keeps the former numbers, and makes of them what each place hands to its neighbours: a pull must not read a place that has stepped already.
 fn join(x: &[u32], right: &[u32], inside: &[bool], old: &mut [u32], both: &mut [u32])
     requires { ⌜ Rooms (length (now inside)) (now x) (now right) (now old) (now both) × LowRows (now inside) (length (now inside)) (now x) (now right) (now old) (now both) ⌝ }
-    ensures { λ _. ⌜ Joined (now (x .entry)) (now (right .entry)) (now (old .exit)) (now (both .exit)) (length (now (inside .entry))) × LowRows (now (inside .entry)) (length (now (inside .entry))) (now (x .entry)) (now (right .entry)) (now (old .exit)) (now (both .exit)) ⌝ }
+    ensures joined { λ _. ⌜ Joined (now (x .entry)) (now (right .entry)) (now (old .exit)) (now (both .exit)) (length (now (inside .entry))) ⌝ }
+    ensures low { λ _. ⌜ LowRows (now (inside .entry)) (length (now (inside .entry))) (now (x .entry)) (now (right .entry)) (now (old .exit)) (now (both .exit)) ⌝ }
 {
     for place in 0..inside.len() {
         if inside[place] {
@@ -64,7 +65,8 @@ fn round(
     roads: usize,
 )
     requires { ⌜ RoadsIn (wordsOf (now sheet)) roads (length (now inside)) × Bounded (now x) (length (now inside)) × Rooms (length (now inside)) (now x) (now right) (now old) (now both) × LowRows (now inside) (length (now inside)) (now x) (now right) (now old) (now both) ⌝ }
-    ensures { λ _. ⌜ Round (wordsOf (now (sheet .entry))) roads (length (now (inside .entry))) (now (right .entry)) (now (x .entry)) (now (old .exit)) (now (x .exit)) × LowRows (now (inside .entry)) (length (now (inside .entry))) (now (x .exit)) (now (right .entry)) (now (old .exit)) (now (both .exit)) ⌝ }
+    ensures stepped { λ _. ⌜ Round (wordsOf (now (sheet .entry))) roads (length (now (inside .entry))) (now (right .entry)) (now (x .entry)) (now (old .exit)) (now (x .exit)) ⌝ }
+    ensures low { λ _. ⌜ LowRows (now (inside .entry)) (length (now (inside .entry))) (now (x .exit)) (now (right .entry)) (now (old .exit)) (now (both .exit)) ⌝ }
 {
     join(x, right, inside, old, both);
     step(x, both, inside, sheet, roads);
@@ -83,7 +85,8 @@ fn changed(old: &[u32], x: &[u32], inside: &[bool], unit: u32) -> bool
     false
 }
 
-// Steps until no place changes in any lane. The rounds count the steps in which a margin fell; verdicts may still move after these.
+// Steps until no place changes in any lane. The rounds are 1 plus the number of steps in which a margin fell in some lane; verdicts may still
+// move after these.
 pub(crate) fn settle(
     x: &mut [u32],
     right: &[u32],

@@ -73,7 +73,7 @@ fn surround_centres(
     out: &mut [u32],
 ) -> u64
     requires { ⌜ RowsReady (now left) (now right) places (wordsOf (now sheet)) roads (numbersOf (wordsOf (now distances))) × (places * lanes ≤ length (now out)) ⌝ }
-    ensures { λ r. ⌜ CentresDone (now (left .entry)) (now (right .entry)) places (wordsOf (now (sheet .entry))) roads (numbersOf (wordsOf (now (distances .entry)))) lower upper places (now (out .exit)) r ⌝ }
+    ensures { λ r. ⌜ CentresDone (now (left .entry)) (now (right .entry)) places (wordsOf (now (sheet .entry))) roads (numbersOf (wordsOf (now (distances .entry)))) lower upper places (now (out .entry)) (now (out .exit)) r ⌝ }
 {
     let mut x: [u32; ROW] = [0; ROW];
     let mut ring: [u32; ROW] = [0; ROW];
@@ -121,7 +121,7 @@ pub fn surround_block(
     out: &mut [u32],
 ) -> u64
     requires { ⌜ BlockReady (wordsOf (now words)) left right places (wordsOf (now sheet)) roads (numbersOf (wordsOf (now distances))) first count × (places * lanes ≤ length (now out)) ⌝ }
-    ensures { λ r. ⌜ BlockDone (wordsOf (now (words .entry))) left right places (wordsOf (now (sheet .entry))) roads (numbersOf (wordsOf (now (distances .entry)))) first count lower upper (now (out .exit)) r ⌝ }
+    ensures { λ r. ⌜ BlockDone (wordsOf (now (words .entry))) left right places (wordsOf (now (sheet .entry))) roads (numbersOf (wordsOf (now (distances .entry)))) first count lower upper (now (out .entry)) (now (out .exit)) r ⌝ }
 {
     let mut left_row: [u32; ROW] = [0; ROW];
     let mut right_row: [u32; ROW] = [0; ROW];

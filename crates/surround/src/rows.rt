@@ -11,13 +11,13 @@ ghost use Rattle.values.specs.Signals.{inTable};
 ghost use Rattle.surround.specs.Lanes.{lanes, laneOf};
 ghost use Rattle.surround.specs.Strips.{Written};
 ghost use Rattle.surround.specs.Steps.{Marked, LowOutside};
-ghost use Rattle.surround.specs.Blocks.{RowOf, laneSignal};
+ghost use Rattle.surround.specs.Blocks.{RowWritten, laneSignal};
 use crate::LANES;
+use crate::strips::clear_strip;
 use crate::strips::copy_strip;
-use crate::strips::fill_strip;
 
-// The chain number of a place at the sample of a lane.
-fn signal_at(
+// The chain number of a place at the sample of a lane, and the lowest past the last of the samples.
+fn lane_signal(
     words: &[u8],
     start: usize,
     places: usize,
@@ -30,9 +30,9 @@ fn signal_at(
     ensures { λ r. ⌜ r ≡ laneSignal (wordsOf (now (words .entry))) start places first count lane place ⌝ }
 {
     if lane < count {
-        values::of_word(words::word_at(words, start + ((first + lane) * places + place)))
+        values::signal_at(words, start, places, first + lane, place)
     } else {
-        0
+        values::bottom()
     }
 }
 
@@ -49,7 +49,7 @@ fn load_strip(
     ensures { λ _. ⌜ Written place lanes (λ lane. laneSignal (wordsOf (now (words .entry))) start places first count lane place) (now (row .entry)) (now (row .exit)) ⌝ }
 {
     for lane in 0..LANES {
-        row[place * LANES + lane] = signal_at(words, start, places, first, count, place, lane);
+        row[place * LANES + lane] = lane_signal(words, start, places, first, count, place, lane);
     }
 }
 
@@ -63,7 +63,7 @@ pub(crate) fn load(
     row: &mut [u32],
 )
     requires { ⌜ (start + (first + count) * places ≤ length (wordsOf (now words))) × (places * lanes ≤ length (now row)) ⌝ }
-    ensures { λ _. ⌜ RowOf (laneSignal (wordsOf (now (words .entry))) start places first count) (now (row .exit)) places ⌝ }
+    ensures { λ _. ⌜ RowWritten places (laneSignal (wordsOf (now (words .entry))) start places first count) (now (row .entry)) (now (row .exit)) ⌝ }
 {
     for place in 0..places {
         load_strip(words, start, places, first, count, place, row);
@@ -95,12 +95,13 @@ pub(crate) fn mark_ball(inside: &mut [bool], distances: &[u8], centre: usize, up
 // Outside this ball the rows have what another centre's ball left there, and a pull would bring it in.
 pub(crate) fn clear_outside(inside: &[bool], old: &mut [u32], both: &mut [u32])
     requires { ⌜ (length (now inside) * lanes ≤ length (now old)) × (length (now inside) * lanes ≤ length (now both)) ⌝ }
-    ensures { λ _. ⌜ LowOutside (now (inside .entry)) (now (old .exit)) (length (now (inside .entry))) × LowOutside (now (inside .entry)) (now (both .exit)) (length (now (inside .entry))) ⌝ }
+    ensures former { λ _. ⌜ LowOutside (now (inside .entry)) (now (old .exit)) (length (now (inside .entry))) ⌝ }
+    ensures handed { λ _. ⌜ LowOutside (now (inside .entry)) (now (both .exit)) (length (now (inside .entry))) ⌝ }
 {
     for place in 0..inside.len() {
         if !inside[place] {
-            fill_strip(old, place, 0);
-            fill_strip(both, place, 0);
+            clear_strip(old, place);
+            clear_strip(both, place);
         }
     }
 }
@@ -112,7 +113,7 @@ fn mask_strip(from: &[u32], to: &mut [u32], place: usize, inside: bool)
     if inside {
         copy_strip(from, to, place);
     } else {
-        fill_strip(to, place, 0);
+        clear_strip(to, place);
     }
 }
 
@@ -127,7 +128,7 @@ pub(crate) fn mask(
     upper: u64,
 )
     requires { ⌜ (centre < places) × (places * places ≤ length (numbersOf (wordsOf (now distances)))) × (places * lanes ≤ length (now from)) × (places * lanes ≤ length (now to)) ⌝ }
-    ensures { λ _. ⌜ RowOf (λ lane. masked chainLattice (inTable (numbersOf (wordsOf (now (distances .entry)))) places centre lower upper) (laneOf (now (from .entry)) lane)) (now (to .exit)) places ⌝ }
+    ensures { λ _. ⌜ RowWritten places (λ lane. masked chainLattice (inTable (numbersOf (wordsOf (now (distances .entry)))) places centre lower upper) (laneOf (now (from .entry)) lane)) (now (to .entry)) (now (to .exit)) ⌝ }
 {
     for place in 0..places {
         let inside = in_range(distances, centre * places + place, lower, upper);

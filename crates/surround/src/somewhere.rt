@@ -11,7 +11,7 @@ ghost use Rattle.words.specs.Bytes.{wordsOf, numbersOf};
 ghost use Rattle.values.specs.Signals.{inTable};
 ghost use Rattle.surround.specs.Lanes.{lanes, laneOf};
 ghost use Rattle.surround.specs.Strips.{Written};
-ghost use Rattle.surround.specs.Blocks.{RowOf};
+ghost use Rattle.surround.specs.Blocks.{RowWritten};
 ghost use Rattle.surround.specs.Ranges.{ofNone, gathered, RangeReady, RangeDone};
 
 // The least of nothing, or the greatest.
@@ -57,7 +57,7 @@ fn gather_all(
     least: bool,
 )
     requires { ⌜ (places * places ≤ length (numbersOf (wordsOf (now distances)))) × (places * lanes ≤ length (now row)) × (places * lanes ≤ length (now out)) ⌝ }
-    ensures { λ _. ⌜ RowOf (λ lane centre. gathered least (inTable (numbersOf (wordsOf (now (distances .entry)))) places centre lower upper) (laneOf (now (row .entry)) lane) places) (now (out .exit)) places ⌝ }
+    ensures { λ _. ⌜ RowWritten places (λ lane centre. gathered least (inTable (numbersOf (wordsOf (now (distances .entry)))) places centre lower upper) (laneOf (now (row .entry)) lane) places) (now (out .entry)) (now (out .exit)) ⌝ }
 {
     for centre in 0..places {
         gather(row, out, distances, centre, places, lower, upper, least);
@@ -79,7 +79,7 @@ pub fn somewhere_block(
     out: &mut [u32],
 )
     requires { ⌜ RangeReady (wordsOf (now words)) left places (numbersOf (wordsOf (now distances))) first count × (places * lanes ≤ length (now out)) ⌝ }
-    ensures { λ _. ⌜ RangeDone (wordsOf (now (words .entry))) left places (numbersOf (wordsOf (now (distances .entry)))) first count lower upper dual (now (out .exit)) ⌝ }
+    ensures { λ _. ⌜ RangeDone (wordsOf (now (words .entry))) left places (numbersOf (wordsOf (now (distances .entry)))) first count lower upper dual (now (out .entry)) (now (out .exit)) ⌝ }
 {
     let mut row: [u32; ROW] = [0; ROW];
     load(words, left, places, first, count, &mut row);

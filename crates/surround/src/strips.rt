@@ -1,4 +1,4 @@
-// Loops over the lanes of one place. Their count is a constant, so that the compiler unrolls them.
+// Loops over the lanes of one place, a strip. Their count is a constant, so that the compiler unrolls them.
 ghost use mathlib.Core.Path.{_≡_};
 ghost use Prim.Native.Nat.{_+_, _*_, _/_, _≤_};
 ghost use lib.ListN.{length};
@@ -6,6 +6,7 @@ ghost use Rattle.values.specs.Chain.{chainLattice};
 ghost use Rattle.surround.specs.Lanes.{lanes, laneOf};
 ghost use Rattle.surround.specs.Strips.{ofTwo, Written, StripsApart};
 use crate::LANES;
+use values::bottom;
 use values::greater;
 use values::lesser;
 
@@ -16,6 +17,14 @@ pub(crate) fn fill_strip(row: &mut [u32], place: usize, value: u32)
     for lane in 0..LANES {
         row[place * LANES + lane] = value;
     }
+}
+
+// The lanes of a place become lowest.
+pub(crate) fn clear_strip(row: &mut [u32], place: usize)
+    requires { ⌜ place * lanes + lanes ≤ length (now row) ⌝ }
+    ensures { λ _. ⌜ Written place lanes (λ _. 0) (now (row .entry)) (now (row .exit)) ⌝ }
+{
+    fill_strip(row, place, bottom());
 }
 
 pub(crate) fn copy_strip(from: &[u32], to: &mut [u32], place: usize)

@@ -104,8 +104,8 @@ module _ {words : List ℕ} {L : Layout} {sheet distances : List ℕ} where
       → RangeReady words left (L .places) distances first size
   range-ready ready few = record { few-places = ready .few-places .1; few = few; there = ready .reads; distances-there = ready .distances-there }
 
-  pub surround-filled : {left right : ℕ} {b : Bounds} {first size : ℕ} {out : List ℕ} {r : ℕ}
-      → BlockDone words left right (L .places) sheet (L .roads) distances first size (b .lower) (b .upper) out r
+  pub surround-filled : {left right : ℕ} {b : Bounds} {first size : ℕ} {before out : List ℕ} {r : ℕ}
+      → BlockDone words left right (L .places) sheet (L .roads) distances first size (b .lower) (b .upper) before out r
       → BlockFilled words L sheet distances (Surround left right b) first size out r
   unfolding blockRounds
   surround-filled {left} {right} {b} {first} {size} done = record {
@@ -113,8 +113,8 @@ module _ {words : List ℕ} {L : Layout} {sheet distances : List ℕ} where
     rounds = done .rounds ∙ most-swap (λ centre lane. surroundRounds words left right (L .places) sheet (L .roads) distances (b .lower) (b .upper) (first + lane) centre) (L .places) size;
   }
 
-  pub somewhere-filled : {left : ℕ} {b : Bounds} {dual : Bool} {first size : ℕ} {out : List ℕ}
-      → RangeDone words left (L .places) distances first size (b .lower) (b .upper) dual out
+  pub somewhere-filled : {left : ℕ} {b : Bounds} {dual : Bool} {first size : ℕ} {before out : List ℕ}
+      → RangeDone words left (L .places) distances first size (b .lower) (b .upper) dual before out
       → BlockFilled words L sheet distances (Range left b dual) first size out 0
   somewhere-filled {size = size} done = record { values = done .values; rounds = most-none size (L .places) }
 

@@ -32,8 +32,8 @@ surround-centres-requires c κs =
     let r = c .before .before .before .before .load2 in (
       record {
         few-places = ready .few-places;
-        left-valid = row-valid w (g .left) (g .places) (g .first) (g .count) (l .last .1 .1 .1 .1 .1 .0) (l .ensures) (ready .left-valid);
-        right-valid = row-valid w (g .right) (g .places) (g .first) (g .count) (r .last .1 .1 .1 .1 .1 .0) (r .ensures) (ready .right-valid);
+        left-valid = row-valid w (g .left) (g .places) (g .first) (g .count) (l .last .1 .1 .1 .1 .1 .0) (l .ensures .written) (ready .left-valid);
+        right-valid = row-valid w (g .right) (g .places) (g .first) (g .count) (r .last .1 .1 .1 .1 .1 .0) (r .ensures .written) (ready .right-valid);
         left-room = search needs;
         right-room = search needs;
         roads-in = ready .roads-in;
@@ -53,7 +53,7 @@ returns c =
     let r = c .before .before .before .before .before .before .before .load2 in
     let s = c .before .before .surround-centres in
     block-done (wordsOf (g .words .now)) (g .left) (g .right) (g .places) (wordsOf (g .sheet .now)) (g .roads) (numbersOf (wordsOf (g .distances .now))) (g .first) (g .count) (g .lower) (g .upper)
-    (l .last .1 .1 .1 .1 .1 .0) (r .last .1 .1 .1 .1 .1 .0) (p .0) (l .ensures) (r .ensures) (s .last .1 .1 .1 .1 .1 .1 .1 .1 .0) (s .result) (s .ensures)
+    (l .last .1 .1 .1 .1 .1 .0) (r .last .1 .1 .1 .1 .1 .0) (p .0) (l .ensures .written) (r .ensures .written) (g .out .now) (s .last .1 .1 .1 .1 .1 .1 .1 .1 .0) (s .result) (s .ensures)
 
 pub surround-block-spec : {M : Type 1} → statement M
 surround-block-spec =

@@ -48,8 +48,8 @@ settle-requires c κs =
     × LowRows inside k (x .last .1 .0) (ring .last .1 .0) (clear .last .1 .0) (clear .last .1 .1 .0))
     (sym n) (
       ready .roads-in,
-      masked-valid _ (g .left .now) (x .last .1 .0) (g .places) (x .ensures) (ready .left-valid),
-      masked-valid _ (g .right .now) (ring .last .1 .0) (g .places) (ring .ensures) (ready .right-valid),
+      masked-valid _ (g .left .now) (x .last .1 .0) (g .places) (x .ensures .written) (ready .left-valid),
+      masked-valid _ (g .right .now) (ring .last .1 .0) (g .places) (ring .ensures .written) (ready .right-valid),
       ready .few-places,
       record {
         room = room;
@@ -58,8 +58,8 @@ settle-requires c κs =
         both-room = clear .kept .1 .1 .0 ∙ rooms .both-room ∙ sym kx;
       },
       record {
-        low = masked-low d (g .places) (g .centre) 0 (g .upper) inside (g .left .now) (x .last .1 .0) marked (x .ensures);
-        right-low = masked-low d (g .places) (g .centre) (g .lower) (g .upper) inside (g .right .now) (ring .last .1 .0) marked (ring .ensures);
+        low = masked-low d (g .places) (g .centre) 0 (g .upper) inside (g .left .now) (x .last .1 .0) marked (x .ensures .written);
+        right-low = masked-low d (g .places) (g .centre) (g .lower) (g .upper) inside (g .right .now) (ring .last .1 .0) marked (ring .ensures .written);
         old-low = subst (LowOutside inside (clear .last .1 .0)) n (clear .ensures .0);
         both-low = subst (LowOutside inside (clear .last .1 .1 .0)) n (clear .ensures .1);
       },
@@ -89,7 +89,7 @@ returns c =
     let ring = c .before .before .before .before .before .before .before .before .before .before .before .before .before .before .before .before .before .before .before .before .before .before .mask2 in
     let s = c .before .before .before .before .before .before .settle in
     centre-done (g .left .now) (g .right .now) (g .places) (wordsOf (g .sheet .now)) (g .roads) (numbersOf (wordsOf (g .distances .now))) (g .lower) (g .upper) (g .centre)
-    (x .last .1 .0) (ring .last .1 .0) (s .last .0) (s .result) (p .0) (p .2 .left-valid) (p .2 .right-valid) (x .ensures) (ring .ensures)
+    (x .last .1 .0) (ring .last .1 .0) (s .last .0) (s .result) (p .0) (p .2 .left-valid) (p .2 .right-valid) (x .ensures .written) (ring .ensures .written)
     (subst (λ (k : ℕ). Settled (wordsOf (g .sheet .now)) (g .roads) k (ring .last .1 .0) (x .last .1 .0) (s .result) (s .last .0)) (ball .kept .0 ∙ p .1) (s .ensures))
 
 pub surround-centre-spec : {M : Type 1} → statement M

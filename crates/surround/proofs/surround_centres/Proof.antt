@@ -1,6 +1,6 @@
 -- Each turn settles one centre more, copies its strip and keeps the greater rounds.
 use Prim.Native.Nat.{ℕ, _-_, _*_, _≤_}
-use mathlib.Core.Path.{_≡_, refl, sym, subst, _∙_}
+use mathlib.Core.Path.{_≡_, sym, subst, _∙_}
 use native.Mathlib.Omega.{arith}
 use lib.ListN.{length}
 use lib.Seq.{length-take-le, length-front}
@@ -15,8 +15,8 @@ use Rattle.surround.proofs.surround_centres.Tie as tie
 
 abbrev Inv-loop : tie.InvT-loop
 Inv-loop left right places sheet roads distances lower upper out₀ x₀ ring₀ old₀ both₀ inside₀ most₀ centre₀ out x ring old both inside most centre =
-    (centre ≤ places) × (length out ≡ length out₀) × (length x ≡ mostPlaces * lanes) × (length ring ≡ mostPlaces * lanes) × (length old ≡ mostPlaces * lanes) × (length both ≡ mostPlaces * lanes)
-    × (length inside ≡ mostPlaces) × CentresDone left right places (wordsOf sheet) roads (numbersOf (wordsOf distances)) lower upper centre out most
+    (centre ≤ places) × (length x ≡ mostPlaces * lanes) × (length ring ≡ mostPlaces * lanes) × (length old ≡ mostPlaces * lanes) × (length both ≡ mostPlaces * lanes)
+    × (length inside ≡ mostPlaces) × CentresDone left right places (wordsOf sheet) roads (numbersOf (wordsOf distances)) lower upper centre out₀ out most
 
 abbrev μ-loop : tie.MeasureT-loop
 μ-loop left right places sheet roads distances lower upper out₀ x₀ ring₀ old₀ both₀ inside₀ most₀ centre₀ out x ring old both inside most centre =
@@ -26,7 +26,6 @@ loop-holds : tie.Need-loop-holds Inv-loop μ-loop
 loop-holds c =
     let g = c .before .before .before .before .before .args in (
       search needs,
-      refl,
       search needs,
       search needs,
       search needs,
@@ -80,8 +79,8 @@ loop-again c =
     let s = c .before .before .before .before .before .before .before .before .before .before .before .surround-centre in
     let w = c .before .before .before .copy-strip in
     let done = centres-more (g .left .now) (g .right .now) (g .places) (wordsOf (g .sheet .now)) (g .roads) (numbersOf (wordsOf (g .distances .now))) (g .lower) (g .upper)
-    (h .centre) (h .out) (s .last .1 .1 .1 .1 .1 .1 .1 .1 .1 .0) (w .last .1 .0) (h .most) (s .result) (h .inv .7) (s .ensures) (w .ensures) in
-    (omega (arith, c .before .before .before .before .before .before .before .before .before .before .before .before .before .before .before .before .before .loop-test .taken), w .kept .1 .0 ∙ h .inv .1, search needs, search needs, search needs, search needs, length-front (h .inside) (s .last .1 .1 .1 .1 .1 .1 .1 .1 .1 .1 .1 .1 .1 .0) (g .places) (s .kept .1 .1 .1 .1 .1 .1 .1 .1 .1 .1 .1 .1 .1 .0) ∙ h .inv .6, rw (c .greater-of .ensures) done)
+    (h .centre) (g .out .now) (h .out) (s .last .1 .1 .1 .1 .1 .1 .1 .1 .1 .0) (w .last .1 .0) (h .most) (s .result) (h .inv .6) (s .ensures) (w .ensures) (w .kept .1 .0) in
+    (omega (arith, c .before .before .before .before .before .before .before .before .before .before .before .before .before .before .before .before .before .loop-test .taken), search needs, search needs, search needs, search needs, length-front (h .inside) (s .last .1 .1 .1 .1 .1 .1 .1 .1 .1 .1 .1 .1 .1 .0) (g .places) (s .kept .1 .1 .1 .1 .1 .1 .1 .1 .1 .1 .1 .1 .1 .0) ∙ h .inv .5, rw (c .greater-of .ensures) done)
 
 same-length : tie.Need-same-length Inv-loop μ-loop
 same-length c = search needs
@@ -91,7 +90,7 @@ returns c =
     let g = c .before .before .before .before .before .before .before .args in
     let h = c .before .loop in
     let e : h .centre ≡ g .places = omega arith in
-    subst (λ (k : ℕ). CentresDone (g .left .now) (g .right .now) (g .places) (wordsOf (g .sheet .now)) (g .roads) (numbersOf (wordsOf (g .distances .now))) (g .lower) (g .upper) k (h .out) (h .most)) e (h .inv .7)
+    subst (λ (k : ℕ). CentresDone (g .left .now) (g .right .now) (g .places) (wordsOf (g .sheet .now)) (g .roads) (numbersOf (wordsOf (g .distances .now))) (g .lower) (g .upper) k (g .out .now) (h .out) (h .most)) e (h .inv .6)
 
 pub surround-centres-spec : {M : Type 1} → statement M
 surround-centres-spec =

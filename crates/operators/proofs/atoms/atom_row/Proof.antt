@@ -58,7 +58,7 @@ add-atom-at-2 : tie.Need-add-atom-at-2 Inv-loop μ-loop
 add-atom-at-2 c = omega (arith, fits c)
 
 atom-at-requires : tie.Need-atom-at-requires Inv-loop μ-loop
-atom-at-requires c κs = (inside c, rw (toZ-ofZ (start c .fits .constant)) (start c .pre .2))
+atom-at-requires c κs = (omega (arith, inside c), rw (toZ-ofZ (start c .fits .constant)) (start c .pre .2))
 
 mul-row : tie.Need-mul-row Inv-loop μ-loop
 mul-row c = search needs

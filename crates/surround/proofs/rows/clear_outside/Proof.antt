@@ -23,11 +23,11 @@ loop-holds c = (search needs, search needs, search needs, low-none, low-none)
 shared-slice-read-if1 : tie.Need-shared-slice-read-if1 Inv-loop μ-loop
 shared-slice-read-if1 c = search needs
 
-fill-strip-requires : tie.Need-fill-strip-requires Inv-loop μ-loop
-fill-strip-requires c κs = search needs
+clear-strip-requires : tie.Need-clear-strip-requires Inv-loop μ-loop
+clear-strip-requires c κs = search needs
 
-fill-strip-requires-2 : tie.Need-fill-strip-requires-2 Inv-loop μ-loop
-fill-strip-requires-2 c κs = search needs
+clear-strip-requires-2 : tie.Need-clear-strip-requires-2 Inv-loop μ-loop
+clear-strip-requires-2 c κs = search needs
 
 add-place : tie.Need-add-place Inv-loop μ-loop
 add-place c = search needs
@@ -63,8 +63,8 @@ clear-outside-spec =
     μ-loop
     loop-holds
     shared-slice-read-if1
-    fill-strip-requires
-    fill-strip-requires-2
+    clear-strip-requires
+    clear-strip-requires-2
     add-place
     loop-less
     loop-again

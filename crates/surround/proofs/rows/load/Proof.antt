@@ -1,23 +1,22 @@
 -- Each turn decodes the strip of one place more.
-use Prim.Native.Nat.{ℕ, _-_, _≤_}
-use mathlib.Core.Path.{_≡_, refl, subst, _∙_}
+use Prim.Native.Nat.{_-_, _≤_}
+use mathlib.Core.Path.{_≡_, refl}
 use native.Mathlib.Omega.{arith}
-use lib.ListN.{length}
 use Rattle.words.specs.Bytes.{wordsOf}
-use Rattle.surround.specs.Blocks.{RowOf, laneSignal}
-use Rattle.surround.proofs.RowLaws.{row-none, row-more}
+use Rattle.surround.specs.Blocks.{RowWritten, laneSignal}
+use Rattle.surround.proofs.RowLaws.{row-written-none, row-written-more, row-written-all}
 use borrow.Author.Needs.{needs}
 use Rattle.surround.proofs.rows.load.Statement.{statement}
 use Rattle.surround.proofs.rows.load.Tie as tie
 
 abbrev Inv-loop : tie.InvT-loop
-Inv-loop words start places first count row₀ place₀ row place = (place ≤ places) × (length row ≡ length row₀) × RowOf (laneSignal (wordsOf words) start places first count) row place
+Inv-loop words start places first count row₀ place₀ row place = (place ≤ places) × RowWritten place (laneSignal (wordsOf words) start places first count) row₀ row
 
 abbrev μ-loop : tie.MeasureT-loop
 μ-loop words start places first count row₀ place₀ row place = places - place
 
 loop-holds : tie.Need-loop-holds Inv-loop μ-loop
-loop-holds c = (search needs, search needs, row-none _ (c .before .before .args .row .now))
+loop-holds c = (search needs, row-written-none _ _)
 
 load-strip-requires : tie.Need-load-strip-requires Inv-loop μ-loop
 load-strip-requires c κs = search needs
@@ -30,24 +29,14 @@ loop-less c = search needs
 
 loop-again : tie.Need-loop-again Inv-loop μ-loop
 loop-again c =
-    let g = c .before .before .before .before .before .before .before .before .args in
-    let h = c .before .before .before .before .before .loop in
-    let r = c .before .before .load-strip in
-    let f : ℕ → ℕ → ℕ = laneSignal (wordsOf (g .words .now)) (g .start) (g .places) (g .first) (g .count) in (
-      search needs,
-      r .kept .1 .1 .1 .1 .1 .1 .0 ∙ h .inv .1,
-      row-more f (λ lane. f lane (h .place)) (h .row) (r .last .1 .1 .1 .1 .1 .1 .0) (h .place) (h .inv .2) (r .ensures) (λ lane _. refl),
-    )
+    let strip = c .before .before .load-strip in
+    (search needs, row-written-more (c .before .before .before .before .before .loop .inv .1) (strip .ensures) (strip .kept .1 .1 .1 .1 .1 .1 .0) (λ _ _. refl))
 
 same-length : tie.Need-same-length Inv-loop μ-loop
 same-length c = search needs
 
 returns : tie.Need-returns Inv-loop μ-loop
-returns c =
-    let g = c .before .before .before .before .args in
-    let h = c .before .loop in
-    let e : h .place ≡ g .places = omega arith in
-    subst (RowOf (laneSignal (wordsOf (g .words .now)) (g .start) (g .places) (g .first) (g .count)) (h .row)) e (h .inv .2)
+returns c = let ended : c .before .loop .place ≡ c .before .before .before .before .args .places = omega arith in row-written-all (c .before .loop .inv .1) ended
 
 pub load-spec : {M : Type 1} → statement M
 load-spec =

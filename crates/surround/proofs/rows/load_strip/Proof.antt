@@ -18,8 +18,8 @@ abbrev μ-loop : tie.MeasureT-loop
 loop-holds : tie.Need-loop-holds Inv-loop μ-loop
 loop-holds c = search needs
 
-signal-at-requires : tie.Need-signal-at-requires Inv-loop μ-loop
-signal-at-requires c κs = search needs
+lane-signal-requires : tie.Need-lane-signal-requires Inv-loop μ-loop
+lane-signal-requires c κs = search needs
 
 mul-row : tie.Need-mul-row Inv-loop μ-loop
 mul-row c = search needs
@@ -40,7 +40,7 @@ loop-less : tie.Need-loop-less Inv-loop μ-loop
 loop-less c = search needs
 
 loop-again : tie.Need-loop-again Inv-loop μ-loop
-loop-again c = writing-more (c .before .before .loop .inv) (omega arith) (omega arith) (c .signal-at .ensures)
+loop-again c = writing-more (c .before .before .loop .inv) (omega arith) (omega arith) (c .lane-signal .ensures)
 
 same-length : tie.Need-same-length Inv-loop μ-loop
 same-length c = search needs
@@ -55,7 +55,7 @@ load-strip-spec =
     Inv-loop
     μ-loop
     loop-holds
-    signal-at-requires
+    lane-signal-requires
     mul-row
     add-row
     mul-row-2

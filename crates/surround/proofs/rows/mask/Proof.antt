@@ -1,6 +1,6 @@
 -- Each turn masks the strip of one place more.
-use Prim.Native.Nat.{ℕ, _+_, _-_, _*_, _≤_, _<_}
-use mathlib.Core.Path.{_≡_, ap, subst, _∙_}
+use Prim.Native.Nat.{_+_, _-_, _*_, _≤_, _<_}
+use mathlib.Core.Path.{_≡_, ap}
 use mathlib.Core.Bool.{Bool, cond}
 use native.Mathlib.Omega.{arith}
 use lib.ListN.{length}
@@ -11,20 +11,20 @@ use Rattle.logic.specs.Iteration.{masked}
 use Rattle.values.specs.Chain.{chainLattice}
 use Rattle.values.specs.Signals.{inTable}
 use Rattle.surround.specs.Lanes.{laneOf}
-use Rattle.surround.specs.Blocks.{RowOf}
-use Rattle.surround.proofs.RowLaws.{row-none, row-more}
+use Rattle.surround.specs.Blocks.{RowWritten}
+use Rattle.surround.proofs.RowLaws.{row-written-none, row-written-more, row-written-all}
 use borrow.Author.Needs.{needs}
 use Rattle.surround.proofs.rows.mask.Statement.{statement}
 use Rattle.surround.proofs.rows.mask.Tie as tie
 
 abbrev Inv-loop : tie.InvT-loop
-Inv-loop from to₀ distances centre places lower upper place₀ to place = (place ≤ places) × (length to ≡ length to₀) × RowOf (λ lane. masked chainLattice (inTable (numbersOf (wordsOf distances)) places centre lower upper) (laneOf from lane)) to place
+Inv-loop from to₀ distances centre places lower upper place₀ to place = (place ≤ places) × RowWritten place (λ lane. masked chainLattice (inTable (numbersOf (wordsOf distances)) places centre lower upper) (laneOf from lane)) to₀ to
 
 abbrev μ-loop : tie.MeasureT-loop
 μ-loop from to₀ distances centre places lower upper place₀ to place = places - place
 
 loop-holds : tie.Need-loop-holds Inv-loop μ-loop
-loop-holds c = (search needs, search needs, row-none _ (c .before .before .before .args .to .now))
+loop-holds c = (search needs, row-written-none _ _)
 
 index : (c : tie.In-loop Inv-loop μ-loop) → let g = c .before .before .before .before .before .args in g .centre * g .places + c .before .loop .place < length (numbersOf (wordsOf (g .distances .now)))
 index c = let t = in-table (c .before .before .before .before .before .pre .0) (c .loop-test .taken) in omega (arith, c .before .before .before .before .before .pre .1)
@@ -52,11 +52,9 @@ unfolding masked inTable
 loop-again c =
     let g = c .before .before .before .before .before .before .before .before .before .before .args in
     let h = c .before .before .before .before .before .before .loop in
-    let r = c .before .before .mask-strip in
-    let f : ℕ → ℕ → ℕ = λ lane. masked chainLattice (inTable (numbersOf (wordsOf (g .distances .now))) (g .places) (g .centre) (g .lower) (g .upper)) (laneOf (g .from .now) lane) in (
+    let strip = c .before .before .mask-strip in (
       search needs,
-      r .kept .1 .0 ∙ h .inv .1,
-      row-more f (λ lane. cond (c .before .before .before .before .in-range .result) (laneOf (g .from .now) lane (h .place)) 0) (h .to) (r .last .1 .0) (h .place) (h .inv .2) (r .ensures)
+      row-written-more (h .inv .1) (strip .ensures) (strip .kept .1 .0)
           (λ lane _. ap (λ (t : Bool). cond t (laneOf (g .from .now) lane (h .place)) 0) (c .before .before .before .before .in-range .ensures)),
     )
 
@@ -64,11 +62,7 @@ same-length : tie.Need-same-length Inv-loop μ-loop
 same-length c = search needs
 
 returns : tie.Need-returns Inv-loop μ-loop
-returns c =
-    let g = c .before .before .before .before .before .args in
-    let h = c .before .loop in
-    let e : h .place ≡ g .places = omega arith in
-    subst (RowOf (λ lane. masked chainLattice (inTable (numbersOf (wordsOf (g .distances .now))) (g .places) (g .centre) (g .lower) (g .upper)) (laneOf (g .from .now) lane)) (h .to)) e (h .inv .2)
+returns c = let ended : c .before .loop .place ≡ c .before .before .before .before .before .args .places = omega arith in row-written-all (c .before .loop .inv .1) ended
 
 pub mask-spec : {M : Type 1} → statement M
 mask-spec =

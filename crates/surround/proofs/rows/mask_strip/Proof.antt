@@ -6,8 +6,8 @@ use Rattle.surround.proofs.rows.mask_strip.Tie as tie
 copy-strip-requires : tie.Need-copy-strip-requires
 copy-strip-requires c κs = search needs
 
-fill-strip-requires : tie.Need-fill-strip-requires
-fill-strip-requires c κs = search needs
+clear-strip-requires : tie.Need-clear-strip-requires
+clear-strip-requires c κs = search needs
 
 same-length : tie.Need-same-length
 same-length c = search needs
@@ -19,9 +19,9 @@ same-length-2 : tie.Need-same-length-2
 same-length-2 c = search needs
 
 returns-2 : tie.Need-returns-2
-returns-2 c = rw (c .before .before .before .before .if1 .left) (c .before .before .fill-strip .ensures)
+returns-2 c = rw (c .before .before .before .before .if1 .left) (c .before .before .clear-strip .ensures)
 
 pub mask-strip-spec : {M : Type 1} → statement M
 mask-strip-spec =
     tie.close
-    (tie.spec copy-strip-requires fill-strip-requires same-length returns same-length-2 returns-2)
+    (tie.spec copy-strip-requires clear-strip-requires same-length returns same-length-2 returns-2)

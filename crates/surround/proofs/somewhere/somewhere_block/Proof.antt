@@ -27,7 +27,7 @@ returns c =
     let decode = c .before .before .before .before .before .before .load in
     let fill = c .before .before .gather-all in
     range-done (wordsOf (a .words .now)) (a .left) (a .places) (numbersOf (wordsOf (a .distances .now))) (a .first) (a .count) (a .lower) (a .upper) (a .dual)
-    (decode .last .1 .1 .1 .1 .1 .0) (fill .last .1 .0) (start .pre .0) (decode .ensures) (fill .ensures)
+    (decode .last .1 .1 .1 .1 .1 .0) (a .out .now) (fill .last .1 .0) (start .pre .0) (decode .ensures .written) (fill .ensures)
 
 pub somewhere-block-spec : {M : Type 1} → statement M
 somewhere-block-spec =
