@@ -1,4 +1,5 @@
--- What a host written in C and the printing program are given: bytes, lowest first, and the refusal 16 before all else.
+-- Document 01, "The answer" and, for the refusal 16 before all else, "Where a sheet is turned back": what a host written in C and the printing
+-- program are given, in bytes, lowest first.
 use Prim.Native.Nat.{ℕ, _%_}
 use mathlib.Core.Bool.{Bool, cond, _&&_}
 use mathlib.Core.List.{List, [], _∷_}
@@ -12,9 +13,9 @@ use Rattle.engine.specs.Lent.{judgedIn}
 abbrev multiple : ℕ → ℕ → Bool
 multiple size bytes = eqb (bytes % size) 0
 
--- the refusal of bytes that are not whole words, numbers or a result
-abbrev pub notWholeNumber : ℕ
-notWholeNumber = 16
+-- the refusal of bytes: of lengths that are not whole words, whole distances or a result, and of an input of the program above 32,768 bytes
+abbrev pub bytesRefused : ℕ
+bytesRefused = 16
 
 -- ---- the host
 
@@ -42,10 +43,10 @@ zeros lent = replicate (length lent) 0
 -- lengths that are not whole leave zeros, but for the number in a result of the right size
 abbrev pub notWhole : List ℕ → List ℕ → List ℕ → HostJudged
 notWhole distances answer result = record {
-  number = notWholeNumber;
+  number = bytesRefused;
   answer = zeros answer;
   distances = zeros distances;
-  result = cond (eqb (length result) resultSize) (resultBytes (record { number = notWholeNumber; place = 0; words = 0; rounds = 0; yes = 0 })) (zeros result);
+  result = cond (eqb (length result) resultSize) (resultBytes (record { number = bytesRefused; place = 0; words = 0; rounds = 0; yes = 0 })) (zeros result);
 }
 
 -- what the engine leaves
@@ -81,4 +82,4 @@ unfoldable pub inputTaken : ℕ → Bool
 inputTaken bytes = multiple 4 bytes && leb bytes mostInput
 
 unfoldable pub programJudged : List ℕ → Judged
-programJudged input = cond (inputTaken (length input)) (judged (wordsOf input) programDistances programWords) (refusal programDistances programWords notWholeNumber 0)
+programJudged input = cond (inputTaken (length input)) (judged (wordsOf input) programDistances programWords) (refusal programDistances programWords bytesRefused 0)

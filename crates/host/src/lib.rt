@@ -15,8 +15,8 @@ ghost use Rattle.host.specs.Host.{resultSize, resultBytes, lentWhole, no
 // Five numbers of eight bytes.
 const RESULT_BYTES: usize = 40;
 
-// Told of lengths that are not whole.
-pub const NOT_WHOLE: u64 = 16;
+// Told of bytes, before all else: their lengths are not whole, or the program's input is too long.
+pub const BYTES_REFUSED: u64 = 16;
 
 // Whether these lengths have whole words, whole distances and a result.
 fn lent_whole(sheet: usize, distances: usize, answer: usize, result: usize) -> bool
@@ -63,19 +63,10 @@ fn refuse(distances: &mut [u8], answer: &mut [u8], result: &mut [u8]) -> u64
     words::fill_zero(answer);
     words::fill_zero(result);
     if result.len() != RESULT_BYTES {
-        return NOT_WHOLE;
+        return BYTES_REFUSED;
     }
-    put_result(
-        result,
-        Result {
-            number: NOT_WHOLE,
-            place: 0,
-            words: 0,
-            rounds: 0,
-            yes: 0,
-        },
-    );
-    NOT_WHOLE
+    put_result(result, engine::refusal(BYTES_REFUSED, 0));
+    BYTES_REFUSED
 }
 
 // Judges a sheet and returns the number of its refusal, 0 for none. Lengths that are not whole are 16, before all else.

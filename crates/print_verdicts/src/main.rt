@@ -9,7 +9,7 @@
 // where it is refused:
 //     refused NUMBER PLACE
 use engine::Result;
-use host::NOT_WHOLE;
+use host::BYTES_REFUSED;
 use libc::STDIN_FILENO;
 use libc::STDOUT_FILENO;
 ghost use mathlib.Core.Path.{_≡_};
@@ -90,13 +90,11 @@ fn print_line(answer: &[u8], line: usize, at: usize, samples: usize, places: usi
 
 // The rows of all lines, and last how many they are. The fields of 8 and 12 bits keep every index small, whatever the words are.
 fn print_lines(answer: &[u8]) {
-    let head = words::word_or_zero(answer, 0);
-    let places = (head / 1048576 % 256) as usize;
-    let lines = (head / 4096 % 256) as usize;
+    let places = lookup::places(answer);
     let mut at: usize = 1;
     let mut rows: usize = 0;
-    for line in 0..lines {
-        let samples = (words::word_or_zero(answer, at) % 4096) as usize;
+    for line in 0..lookup::lines(answer) {
+        let samples = lookup::length_at(answer, at);
         at = print_line(answer, line, at + 1, samples, places);
         rows += samples;
     }
@@ -139,13 +137,7 @@ fn judge_input(input: &[u8], distances: &mut [u8], answer: &mut [u8]) -> Result
     if !input_taken(input.len()) {
         words::fill_zero(distances);
         words::fill_zero(answer);
-        return Result {
-            number: NOT_WHOLE,
-            place: 0,
-            words: 0,
-            rounds: 0,
-            yes: 0,
-        };
+        return engine::refusal(BYTES_REFUSED, 0);
     }
     engine::judge(input, distances, answer)
 }

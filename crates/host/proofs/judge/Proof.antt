@@ -76,7 +76,7 @@ returns-2 c =
       ap (λ (r : Result). r .number) (call .ensures .0),
       (
         sym words ∙ ap bytesOf (call .ensures .1 .0),
-        (sym numbers ∙ ap (λ (x : List ℕ). bytesOf (halvesOf x)) (call .ensures .1 .1), c .before .before .put-result .ensures ∙ ap resultBytes (call .ensures .0)),
+        (sym numbers ∙ ap (λ (x : List ℕ). bytesOf (halvesOf x)) (call .ensures .1 .1 .0), c .before .before .put-result .ensures ∙ ap resultBytes (call .ensures .0)),
       ),
     )
 

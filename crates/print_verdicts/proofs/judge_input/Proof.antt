@@ -1,6 +1,6 @@
 -- An input that is not taken leaves zeros; one that is taken is the engine's, which is lent as many distances and words as the definition says.
 use Prim.Native.Nat.{ℕ}
-use mathlib.Core.Path.{_≡_, refl, sym, _∙_, ap}
+use mathlib.Core.Path.{_≡_, sym, _∙_, ap}
 use mathlib.Core.List.{List}
 use native.Mathlib.Omega.{arith}
 use lib.ListN.{length, replicate}
@@ -9,6 +9,7 @@ use Rattle.words.specs.Bytes.{wordsOf, numbersOf}
 use Rattle.words.proofs.Words.{length-words, words-zeros}
 use Rattle.words.proofs.Numbers.{length-numbers}
 use Rattle.sheet.proofs.Surveys.{zero-numbers}
+use Rattle.engine.specs.Result.{resultSaid}
 use Rattle.host.specs.Host.{programDistances, programWords, programJudged}
 use borrow.Author.Needs.{needs}
 use Rattle.print_verdicts.proofs.judge_input.Statement.{statement}
@@ -35,17 +36,20 @@ same-length c = search needs
 same-length-2 : tie.Need-same-length-2
 same-length-2 c = search needs
 
+refusal-requires : tie.Need-refusal-requires
+refusal-requires c κs = search needs
+
 returns : tie.Need-returns
 unfolding programJudged
 returns c =
-    let start = c .before .before .before .before .before .before .before .before .before .before .before .before .before in
+    let start = c .before .before .before .before .before .before .before .before .before .before .before .before .before .before in
     let D = start .args .distances .now in
     let A = start .args .answer .now in
     let count = counts start in
-    let not-taken = sym (c .before .before .before .before .before .before .before .before .before .input-taken .ensures) ∙ not-true _ (c .before .before .before .before .before .before .before .before .if1 .taken) in
-    let distances = ap (λ (b : List ℕ). numbersOf (wordsOf b)) (c .before .before .before .before .before .before .fill-zero .ensures) ∙ zero-numbers D in
-    let answer = ap wordsOf (c .before .before .fill-zero2 .ensures) ∙ words-zeros (length A) ∙ ap zeros (sym (length-words A)) in
-    rw not-taken (refl, (answer ∙ ap zeros (count .1), distances ∙ ap zeros (count .0)))
+    let not-taken = sym (c .before .before .before .before .before .before .before .before .before .before .input-taken .ensures) ∙ not-true _ (c .before .before .before .before .before .before .before .before .before .if1 .taken) in
+    let distances = ap (λ (b : List ℕ). numbersOf (wordsOf b)) (c .before .before .before .before .before .before .before .fill-zero .ensures) ∙ zero-numbers D in
+    let answer = ap wordsOf (c .before .before .before .fill-zero2 .ensures) ∙ words-zeros (length A) ∙ ap zeros (sym (length-words A)) in
+    rw not-taken (ap resultSaid (c .refusal .ensures), (answer ∙ ap zeros (count .1), distances ∙ ap zeros (count .0)))
 
 judge-requires : tie.Need-judge-requires
 judge-requires c κs = search needs
@@ -61,7 +65,8 @@ unfolding programJudged
 returns-2 c =
     let count = counts (c .before .before .before .before .before .before .before .before .before .before .before .before) in
     let taken = sym (c .before .before .before .before .before .before .before .before .input-taken .ensures) ∙ not-false _ (c .before .before .before .before .before .before .before .if1 .left) in
-    rw (taken, ← count .0, ← count .1) (c .before .before .before .before .judge .ensures)
+    let told = c .before .before .before .before .judge .ensures in
+    rw (taken, ← count .0, ← count .1) (told .0, (told .1 .0, told .1 .1 .0))
 
 pub judge-input-spec : {M : Type 1} → statement M
 judge-input-spec =
@@ -70,6 +75,7 @@ judge-input-spec =
     input-taken-requires
     fill-zero-requires
     fill-zero-requires-2
+    refusal-requires
     same-length
     same-length-2
     returns

@@ -5,28 +5,22 @@ use Rattle.print_verdicts.proofs.print_lines.Statement.{statement}
 use Rattle.print_verdicts.proofs.print_lines.Tie as tie
 
 abbrev Inv-loop : tie.InvT-loop
-Inv-loop answer head places lines at₀ rows₀ line₀ t9 t10 at rows line = (line ≤ lines) × (at ≤ 1 + line * 2 ^ 20) × (rows ≤ line * 2 ^ 12)
+Inv-loop answer places at₀ rows₀ line₀ t7 t8 line-end at rows line = (line ≤ line-end) × (at ≤ 1 + line * 2 ^ 20) × (rows ≤ line * 2 ^ 12)
 
 abbrev μ-loop : tie.MeasureT-loop
-μ-loop answer head places lines at₀ rows₀ line₀ t9 t10 at rows line = lines - line
+μ-loop answer places at₀ rows₀ line₀ t7 t8 line-end at rows line = line-end - line
 
-word-or-zero-requires : tie.Need-word-or-zero-requires Inv-loop μ-loop
-word-or-zero-requires c κs = search needs
+places-requires : tie.Need-places-requires Inv-loop μ-loop
+places-requires c κs = search needs
 
-cast-places : tie.Need-cast-places Inv-loop μ-loop
-cast-places c = search needs
-
-cast-lines : tie.Need-cast-lines Inv-loop μ-loop
-cast-lines c = search needs
+lines-requires : tie.Need-lines-requires Inv-loop μ-loop
+lines-requires c κs = search needs
 
 loop-holds : tie.Need-loop-holds Inv-loop μ-loop
 loop-holds c = search needs
 
-word-or-zero-requires-2 : tie.Need-word-or-zero-requires-2 Inv-loop μ-loop
-word-or-zero-requires-2 c κs = search needs
-
-cast-samples : tie.Need-cast-samples Inv-loop μ-loop
-cast-samples c = search needs
+length-at-requires : tie.Need-length-at-requires Inv-loop μ-loop
+length-at-requires c κs = search needs
 
 add-print-line : tie.Need-add-print-line Inv-loop μ-loop
 add-print-line c = search needs
@@ -70,12 +64,10 @@ print-lines-spec =
     (tie.spec
     Inv-loop
     μ-loop
-    word-or-zero-requires
-    cast-places
-    cast-lines
+    places-requires
+    lines-requires
     loop-holds
-    word-or-zero-requires-2
-    cast-samples
+    length-at-requires
     add-print-line
     print-line-requires
     add-rows
