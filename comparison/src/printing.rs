@@ -5,17 +5,14 @@ use crate::reached::Reached;
 use reference::fast::Fast;
 use reference::generate::limits;
 use reference::generate::random::Random;
-use reference::print;
-use reference::words;
+use reference::print::{print, ANSWER_WORDS, MOST_BYTES};
+use reference::words::{self, BYTES_PER_WORD};
 use std::io::Write;
 use std::path::PathBuf;
 use std::process::{Child, Command, Stdio};
 
 /// The words of the longest input that the program takes.
-const MOST_WORDS: usize = 8_192;
-
-/// The answer words that the program lends.
-const ANSWER_WORDS: usize = 16_384;
+const MOST_WORDS: usize = MOST_BYTES / BYTES_PER_WORD;
 
 /// What a run must have reached in print.
 pub const LABELS: [&str; 6] = [

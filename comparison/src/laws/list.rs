@@ -1,8 +1,9 @@
 //! The laws.
 
-use super::table::{Bounds, Table, GREATEST};
+use super::table::{Bounds, Table};
 use super::{Law, Pair};
 use reference::generate::random::Random;
+use reference::sheet::GREATEST_WEIGHT as GREATEST;
 
 const AND: u32 = 4;
 const SOMEWHERE: u32 = 6;

@@ -4,10 +4,10 @@ use crate::judging::Left;
 use reference::distance::NO_DISTANCE;
 use reference::generate::Case;
 use reference::judge::BYTES_PER_DISTANCE;
-use reference::sheet::{self, Line, Operator, Sheet, DISTANCE_ENTRIES, LAST_CODE};
+use reference::print::MOST_BYTES;
+use reference::sheet::{self, Line, Operator, Sheet, DISTANCE_ENTRIES, GREATEST_WEIGHT, LAST_CODE};
 use reference::words::{self, kinds, BYTES_PER_WORD};
 
-const GREATEST_BOUND: u32 = (1 << 28) - 1;
 const GREATEST_MARGIN: u32 = (1 << 27) - 1;
 
 /// What is looked for in a sheet, beside its codes.
@@ -93,10 +93,10 @@ fn in_sheet(sheet: &Sheet, words: &[u32], left: &Left) -> [bool; 13] {
         !sheet.roads.is_empty() && distances.any(|entry| entry == none),
         bounds(|lower, upper| lower == 0 && upper == 0),
         bounds(|lower, upper| lower > 0 && lower == upper),
-        bounds(|_, upper| upper == GREATEST_BOUND),
+        bounds(|_, upper| upper == GREATEST_WEIGHT),
         deepest(&sheet.lines) >= 8,
         left.outcome().is_some_and(|outcome| outcome.rounds == 64),
-        words.len() * BYTES_PER_WORD > 32_768,
+        words.len() * BYTES_PER_WORD > MOST_BYTES,
     ]
 }
 

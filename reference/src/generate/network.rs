@@ -1,10 +1,8 @@
 //! Networks of many shapes.
 
 use super::random::Random;
+use crate::sheet::GREATEST_WEIGHT;
 use std::collections::BTreeMap;
-
-/// The greatest weight of a road and the greatest bound: 2^28 - 1.
-pub const GREATEST: u32 = (1 << 28) - 1;
 
 /// A road: first place, second place, weight.
 pub type Triple = (u32, u32, u32);
@@ -84,7 +82,7 @@ fn weight(random: &mut Random, weights: Weights) -> u32 {
     match weights {
         Weights::Ones => 1,
         Weights::Small => random.field(1, 4),
-        Weights::Huge => random.field(GREATEST - 1, GREATEST),
-        Weights::Any => random.field(1, GREATEST),
+        Weights::Huge => random.field(GREATEST_WEIGHT - 1, GREATEST_WEIGHT),
+        Weights::Any => random.field(1, GREATEST_WEIGHT),
     }
 }

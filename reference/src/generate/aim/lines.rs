@@ -2,14 +2,14 @@
 
 use super::{find, other_kind};
 use crate::generate::damage::renew_end;
-use crate::generate::network::GREATEST;
 use crate::generate::random::Random;
+use crate::sheet::GREATEST_WEIGHT as GREATEST;
 use crate::sheet::{check, Operator, DISTANCE_ENTRIES, LAST_CODE, MOST_LINES};
 use crate::words::{self, kinds};
 
 /// The indices of the line words.
 fn line_words(words: &[u32]) -> Vec<usize> {
-    (0..words.len()).filter(|&index| words::kind(words[index]) == kinds::LINE).collect()
+    words::indices(words, |kind| kind == kinds::LINE)
 }
 
 /// 10: no first line, or a 65th.

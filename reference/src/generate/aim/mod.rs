@@ -55,8 +55,7 @@ fn blow(number: u64) -> Option<Blow> {
 
 /// The index of some word of a kind.
 fn find(random: &mut Random, words: &[u32], kind: u32) -> Option<usize> {
-    let found: Vec<usize> =
-        (0..words.len()).filter(|&index| words::kind(words[index]) == kind).collect();
+    let found = words::indices(words, |other| other == kind);
     (!found.is_empty()).then(|| random.pick(&found))
 }
 
