@@ -45,6 +45,17 @@ const WEIGHTS: [Weights; 4] = [Weights::Ones, Weights::Small, Weights::Huge, Wei
 /// The roads of a random network, in the order a sheet wants them.
 pub fn roads(random: &mut Random, places: usize) -> Vec<Triple> {
     let shape = random.pick(&SHAPES);
+    shaped(random, shape, places)
+}
+
+/// The roads of a network in which one can go round in circles, if it has three
+/// places or more.
+pub fn roads_in_circles(random: &mut Random, places: usize) -> Vec<Triple> {
+    let shape = random.pick(&[Shape::Ring, Shape::Full, Shape::Split]);
+    shaped(random, shape, places)
+}
+
+fn shaped(random: &mut Random, shape: Shape, places: usize) -> Vec<Triple> {
     let weights = random.pick(&WEIGHTS);
     let mut names: Vec<u32> = (0..places as u32).collect();
     if random.chance(60) {
