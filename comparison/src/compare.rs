@@ -74,17 +74,20 @@ impl<'a> Comparison<'a> {
     }
 
     /// A sheet with places, signals and samples at their limits, and the same
-    /// sheet with a fault behind its million samples.
+    /// sheet with faults behind its million samples and with a short answer.
     pub fn largest(&mut self, random: &mut Random) -> Checked {
         let words = valid::largest_sheet(random);
-        let case = Case::lend(random, &words);
+        let mut case = Case::lend(random, &words);
         self.judge(random, &case)?;
-        let number = random.pick(&OF_TABLE);
-        let Some(struck) = aim::struck_table(random, number, &words) else {
-            return Ok(());
-        };
-        let case = Case::lend(random, &struck);
-        self.judge(random, &case)
+        aim::lent::short_answer(random, &mut case);
+        self.judge(random, &case)?;
+        for number in OF_TABLE {
+            if let Some(struck) = aim::struck_table(random, number, &words) {
+                let case = Case::lend(random, &struck);
+                self.judge(random, &case)?;
+            }
+        }
+        Ok(())
     }
 
     /// The case's bytes, and sometimes a sheet at a limit, in print.

@@ -17,6 +17,10 @@ const IN_TABLE: std::ops::RangeInclusive<u64> = 11..=14;
 /// Large sizes, and a place that one byte cannot hold.
 const LARGE: [&str; 3] = ["40 places or more", "above 8 samples", "place above 255"];
 
+/// A place that two bytes cannot hold, which only faults behind the samples of
+/// the largest sheets have.
+const FAR: &str = "place above 65,535";
+
 /// How many lines begin before the place or at it.
 const LATE: [&str; 2] = ["after the 12th line", "in the 64th line"];
 
@@ -41,6 +45,7 @@ pub fn labels() -> Vec<(u64, &'static str)> {
     each(IN_SHEET, &LARGE)
         .chain(each(IN_TABLE, &LATE))
         .filter(|&label| label != (14, LATE[1]))
+        .chain(each(10..=15, &[FAR]))
         .chain(BEYOND)
         .chain(BESIDES)
         .collect()
@@ -57,6 +62,7 @@ pub fn shown(words: &[u32], case: &Case, number: u64, place: usize) -> Vec<&'sta
         (LARGE[0], words::field(head, 27, 20) >= 40),
         (LARGE[1], words::field(head, 11, 0) > 8),
         (LARGE[2], place > 255),
+        (FAR, place > 65_535),
         (LATE[0], lines > 12),
         (LATE[1], lines == MOST_LINES),
         (BEYOND[0].1, head_is(head, 27, 20, MOST_PLACES) && second_is_64(words, place)),
