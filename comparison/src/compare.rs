@@ -1,11 +1,11 @@
 //! A run of the comparison: a seed after the other, everything it determines.
 
 use crate::difference::Checked;
-use crate::printing::{Program, LABELS};
+use crate::printing::{self, Program};
 use crate::reached::Reached;
 use crate::{judging, laws, lookups, steadiness, Engine};
 use reference::generate::random::Random;
-use reference::generate::{case, valid, Case};
+use reference::generate::{aim, case, valid, Case};
 
 /// Networks have at most so many places.
 const MOST_PLACES: usize = 64;
@@ -16,8 +16,11 @@ const PAIRS_EVERY: u64 = 8;
 /// One seed in so many is also given to the printing program.
 const PRINTS_EVERY: u64 = 16;
 
-/// One seed in so many also judges a sheet of a million words.
-const LARGEST_EVERY: u64 = 1 << 15;
+/// One seed in so many also judges sheets of a million words.
+const LARGEST_EVERY: u64 = 1 << 13;
+
+/// The refusals that are aimed at the table of a sheet of a million words.
+const OF_TABLE: [u64; 5] = [10, 11, 12, 13, 14];
 
 /// What is compared, and what has been reached so far.
 pub struct Comparison<'a> {
@@ -32,7 +35,7 @@ impl<'a> Comparison<'a> {
     pub fn new(engine: &'a dyn Engine, program: Option<Program>) -> Self {
         let mut reached = Reached::default();
         if program.is_some() {
-            reached.expect(&LABELS);
+            reached.expect(printing::labels());
         }
         Comparison { engine, program, reached }
     }
@@ -52,9 +55,7 @@ impl<'a> Comparison<'a> {
             self.print(&mut random, &case)?;
         }
         if seed.is_multiple_of(LARGEST_EVERY) {
-            let words = valid::largest_sheet(&mut random, 4);
-            let case = Case::lend(&mut random, &words);
-            judging::compared(self.engine, &mut random, &case)?;
+            self.largest(&mut random)?;
         }
         Ok(())
     }
@@ -70,6 +71,23 @@ impl<'a> Comparison<'a> {
             }
             _ => Ok(()),
         }
+    }
+
+    /// A sheet with places, signals and samples at their limits, and the same
+    /// sheet with faults behind its million samples and with a short answer.
+    pub fn largest(&mut self, random: &mut Random) -> Checked {
+        let words = valid::largest_sheet(random);
+        let mut case = Case::lend(random, &words);
+        self.judge(random, &case)?;
+        aim::lent::short_answer(random, &mut case);
+        self.judge(random, &case)?;
+        for number in OF_TABLE {
+            if let Some(struck) = aim::struck_table(random, number, &words) {
+                let case = Case::lend(random, &struck);
+                self.judge(random, &case)?;
+            }
+        }
+        Ok(())
     }
 
     /// The case's bytes, and sometimes a sheet at a limit, in print.

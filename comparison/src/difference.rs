@@ -1,8 +1,15 @@
 //! What differs, in words that lead to it.
 
+use reference::generate::Case;
+
 /// A difference between an engine and what it should have done.
 #[derive(Debug)]
-pub struct Difference(pub String);
+pub struct Difference {
+    /// What it is.
+    pub what: String,
+    /// The bytes on which it was found, each with a name: a sheet, an answer.
+    pub found_on: Vec<(String, Vec<u8>)>,
+}
 
 /// Nothing, or the difference that was found.
 pub type Checked = Result<(), Difference>;
@@ -10,7 +17,22 @@ pub type Checked = Result<(), Difference>;
 impl Difference {
     /// A difference that says this.
     pub fn new(what: impl Into<String>) -> Self {
-        Difference(what.into())
+        Difference { what: what.into(), found_on: Vec::new() }
+    }
+
+    /// The difference with bytes on which it was found.
+    pub fn on(mut self, name: impl Into<String>, bytes: &[u8]) -> Self {
+        self.found_on.push((name.into(), bytes.to_vec()));
+        self
+    }
+
+    /// The difference with the case on which it was found.
+    pub fn on_case(self, case: &Case) -> Self {
+        let Case { sheet, distances, answer, result } = case;
+        let name = format!(
+            "sheet (bytes lent: {distances} of distances, {answer} of answer, {result} of result)"
+        );
+        self.on(name, sheet)
     }
 }
 
@@ -19,7 +41,7 @@ pub fn demand(condition: bool, otherwise: impl FnOnce() -> String) -> Checked {
     if condition {
         Ok(())
     } else {
-        Err(Difference(otherwise()))
+        Err(Difference::new(otherwise()))
     }
 }
 
@@ -37,7 +59,7 @@ pub fn same_bytes(what: &str, item: usize, engine: &[u8], implementation: &[u8])
         let digits = bytes[index * item..end].iter().rev().map(|byte| format!("{byte:02X}"));
         digits.collect::<String>()
     };
-    Err(Difference(format!(
+    Err(Difference::new(format!(
         "{what}, item {index}: engine {}, implementation {}",
         told(engine),
         told(implementation)

@@ -1,14 +1,17 @@
 //! One case judged by an engine and by the implementation.
 
-use crate::difference::{demand, same_bytes, Difference};
+use crate::difference::{demand, same_bytes, Checked, Difference};
 use crate::lent::Lent;
-use crate::{Engine, Filled, Implementation};
+use crate::{Definitions, Engine, Filled, Implementation};
 use reference::answer::Answer;
 use reference::generate::random::Random;
 use reference::generate::Case;
 use reference::judge::{Outcome, BYTES_PER_DISTANCE, RESULT_BYTES};
 use reference::sheet::DISTANCE_ENTRIES;
 use reference::words::{self, BYTES_PER_WORD};
+
+/// Up to so many places the definitions are asked as well.
+const MOST_TO_ENUMERATE: u32 = 6;
 
 /// Everything a judge leaves behind.
 pub struct Left {
@@ -36,7 +39,7 @@ impl Left {
 
 /// What an engine leaves of a case in dirty buffers. It must write nothing
 /// beside what is lent, and nothing into the sheet.
-pub fn judged(engine: &dyn Engine, random: &mut Random, case: &Case) -> Result<Left, Difference> {
+fn judged(engine: &dyn Engine, random: &mut Random, case: &Case) -> Result<Left, Difference> {
     let sheet = Lent::holding(random, &case.sheet);
     let mut distances = Lent::dirty(random, case.distances);
     let mut answer = Lent::dirty(random, case.answer);
@@ -63,16 +66,35 @@ pub fn judged(engine: &dyn Engine, random: &mut Random, case: &Case) -> Result<L
 
 /// Judges a case with both; every byte and the number must be the same.
 pub fn compared(engine: &dyn Engine, random: &mut Random, case: &Case) -> Result<Left, Difference> {
+    agreed(engine, random, case).map_err(|difference| difference.on_case(case))
+}
+
+/// Where there are few places the definitions themselves are asked as well.
+fn agreed(engine: &dyn Engine, random: &mut Random, case: &Case) -> Result<Left, Difference> {
     let left = judged(engine, random, case)?;
-    let right = judged(&Implementation, random, case)?;
+    same(&left, &judged(&Implementation, random, case)?)?;
+    if is_small(&left) {
+        same(&left, &judged(&Definitions, random, case)?)?;
+    }
+    Ok(left)
+}
+
+/// Whether a sheet was accepted that has so few places that all regions of its
+/// surrounds can be enumerated in no time.
+fn is_small(left: &Left) -> bool {
+    let head = left.answer.first_chunk().map_or(0, |&bytes| u32::from_le_bytes(bytes));
+    left.number == 0 && words::field(head, 27, 20) <= MOST_TO_ENUMERATE
+}
+
+/// Demands the same number and the same bytes.
+fn same(left: &Left, right: &Left) -> Checked {
     let numbers = (left.number, right.number);
     demand(numbers.0 == numbers.1, || {
         format!("number: engine {}, implementation {}", numbers.0, numbers.1)
     })?;
     same_bytes("result", BYTES_PER_DISTANCE, &left.result, &right.result)?;
     same_bytes("distances", BYTES_PER_DISTANCE, &left.distances, &right.distances)?;
-    same_bytes("answer", BYTES_PER_WORD, &left.answer, &right.answer)?;
-    Ok(left)
+    same_bytes("answer", BYTES_PER_WORD, &left.answer, &right.answer)
 }
 
 /// Judges the words of a valid sheet with enough lent; gives the whole answer.
@@ -82,9 +104,11 @@ pub fn answered(
     words: &[u32],
 ) -> Result<Answer, Difference> {
     let case = Case::lend(random, words);
-    let left = judged(engine, random, &case)?;
-    demand(left.number == 0, || format!("a valid sheet was refused with {}", left.number))?;
-    left.whole_answer().ok_or(Difference::new("the answer is not a whole one"))
+    let whole = judged(engine, random, &case).and_then(|left| {
+        demand(left.number == 0, || format!("a valid sheet was refused with {}", left.number))?;
+        left.whole_answer().ok_or(Difference::new("the answer is not a whole one"))
+    });
+    whole.map_err(|difference| difference.on_case(&case))
 }
 
 /// A case of these words with so many answer words and everything else as it

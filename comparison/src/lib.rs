@@ -54,3 +54,18 @@ impl Engine for Implementation {
         reference::lookup(answer, line, sample, place)
     }
 }
+
+/// The reference implementation as an engine, with the evaluator that follows
+/// the definitions to the letter: slow, so for few places only.
+pub struct Definitions;
+
+impl Engine for Definitions {
+    fn judge(&self, sheet: &[u8], left: Filled) -> u64 {
+        let Filled { distances, answer, result } = left;
+        reference::judge::<reference::meaning::Meaning>(sheet, distances, answer, result)
+    }
+
+    fn lookup(&self, answer: &[u8], line: u64, sample: u64, place: u64) -> u64 {
+        reference::lookup(answer, line, sample, place)
+    }
+}

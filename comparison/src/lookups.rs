@@ -7,7 +7,7 @@ use crate::{Engine, Implementation};
 use reference::answer::Answer;
 use reference::generate::answers::{damaged, invented, query, Query};
 use reference::generate::random::Random;
-use reference::words;
+use reference::words::{self, BYTES_PER_WORD};
 
 /// How many lookups are made in one answer.
 const QUERIES: usize = 6;
@@ -17,11 +17,12 @@ const QUERIES: usize = 6;
 const MOST_FOR_ALL: usize = 200;
 
 /// What a run must have reached in lookups.
-pub const LABELS: [&str; 4] = [
+pub const LABELS: [&str; 5] = [
     "lookup: none in bytes that are no whole answer",
     "lookup: none outside a whole answer",
     "lookup: yes",
     "lookup: no",
+    "lookup: yes or no in an answer above 65,536 words",
 ];
 
 /// Looks up in an answer as it was lent, in a damaged copy, and now and then in
@@ -50,7 +51,18 @@ fn look_up(
     answer: &[u8],
     reached: &mut Reached,
 ) -> Checked {
+    look_up_all(engine, random, answer, reached)
+        .map_err(|difference| difference.on("answer", answer))
+}
+
+fn look_up_all(
+    engine: &dyn Engine,
+    random: &mut Random,
+    answer: &[u8],
+    reached: &mut Reached,
+) -> Checked {
     let lent = Lent::holding(random, answer);
+    let is_long = answer.len() > 65_536 * BYTES_PER_WORD;
     let is_whole = words::from_bytes(answer).is_some_and(|words| Answer::read(&words).is_some());
     for _ in 0..QUERIES {
         let asked = any_query(random, answer);
@@ -65,6 +77,9 @@ fn look_up(
             1 => LABELS[2],
             _ => LABELS[3],
         });
+        if is_long && found > 0 {
+            reached.count(LABELS[4]);
+        }
     }
     demand(lent.bytes() == answer, || "the lookup wrote into the answer".into())
 }
@@ -93,5 +108,6 @@ pub fn all_words(engine: &dyn Engine, bytes: &[u8], answer: &Answer) -> Checked 
         demand(found == expected, || {
             format!("lookup ({line}, {sample}, {place}) gives {found} for {verdict:?}")
         })
+        .map_err(|difference| difference.on("answer", bytes))
     })
 }

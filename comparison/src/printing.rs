@@ -5,27 +5,39 @@ use crate::reached::Reached;
 use reference::fast::Fast;
 use reference::generate::limits;
 use reference::generate::random::Random;
-use reference::print;
-use reference::words;
+use reference::print::{print, ANSWER_WORDS, MOST_BYTES};
+use reference::words::{self, BYTES_PER_WORD};
 use std::io::Write;
 use std::path::PathBuf;
 use std::process::{Child, Command, Stdio};
 
 /// The words of the longest input that the program takes.
-const MOST_WORDS: usize = 8_192;
+const MOST_WORDS: usize = MOST_BYTES / BYTES_PER_WORD;
 
-/// The answer words that the program lends.
-const ANSWER_WORDS: usize = 16_384;
-
-/// What a run must have reached in print.
-pub const LABELS: [&str; 6] = [
-    "printed: accepted",
-    "printed: refused",
+/// What a run must have reached at the limits of the program.
+const LIMITS: [&str; 4] = [
     "printed: input of 32,768 bytes",
     "printed: input above 32,768 bytes",
     "printed: answer of 16,384 words",
     "printed: answer above 16,384 words",
 ];
+
+/// What a run must have reached in print: acceptance, every refusal but that of
+/// too few distances, of which the program lends enough, and its limits.
+pub fn labels() -> Vec<String> {
+    let refusals = (2..=16).map(|number| format!("printed: refused {number}"));
+    let accepted = std::iter::once("printed: accepted".into());
+    accepted.chain(refusals).chain(LIMITS.map(String::from)).collect()
+}
+
+/// The label of a printed text: its first word and, of a refusal, the number.
+fn label(text: &str) -> String {
+    let mut parts = text.split_ascii_whitespace();
+    match (parts.next(), parts.next()) {
+        (Some("refused"), Some(number)) => format!("printed: refused {number}"),
+        _ => "printed: accepted".into(),
+    }
+}
 
 /// The printing program, by its path.
 pub struct Program(pub PathBuf);
@@ -34,27 +46,27 @@ impl Program {
     /// Gives the input to the program, which must print what the implementation
     /// prints, nothing on standard error, and end well.
     pub fn compare(&self, input: &[u8], reached: &mut Reached) -> Checked {
-        let printed = self
-            .run(input)
-            .map_err(|error| Difference(format!("{} cannot be run: {error}", self.0.display())))?;
+        let printed = self.run(input).map_err(|error| {
+            Difference::new(format!("{} cannot be run: {error}", self.0.display()))
+        })?;
         let expected = print::<Fast>(input);
-        demand(printed == expected, || told(&printed, &expected))?;
-        let accepted = expected.starts_with("accepted");
-        reached.count(LABELS[usize::from(!accepted)]);
+        demand(printed == expected, || told(&printed, &expected))
+            .map_err(|difference| difference.on("input", input))?;
+        reached.count(&label(&expected));
         Ok(())
     }
 
     /// Gives a sheet just at or just beyond a limit to the program.
     pub fn compare_limit(&self, random: &mut Random, reached: &mut Reached) -> Checked {
         let (words, label) = match random.below(4) {
-            0 => (limits::sheet_of_words(random, MOST_WORDS), LABELS[2]),
-            1 => (limits::sheet_of_words(random, MOST_WORDS + 1), LABELS[3]),
-            2 => (limits::sheet_of_answer(random, ANSWER_WORDS), LABELS[4]),
-            _ => (limits::sheet_of_answer(random, ANSWER_WORDS + 1), LABELS[5]),
+            0 => (limits::sheet_of_words(random, MOST_WORDS), LIMITS[0]),
+            1 => (limits::sheet_of_words(random, MOST_WORDS + 1), LIMITS[1]),
+            2 => (limits::sheet_of_answer(random, ANSWER_WORDS), LIMITS[2]),
+            _ => (limits::sheet_of_answer(random, ANSWER_WORDS + 1), LIMITS[3]),
         };
         let mut input = words::to_bytes(&words);
         // Beyond the limit of the input some bytes more or less change nothing.
-        if label == LABELS[3] {
+        if label == LIMITS[1] {
             let more = random.pick(&[0, 0, 1, 3, 8_000, 60_000, 300_000]);
             input.truncate(input.len() - random.below(4));
             input.resize(input.len() + more, 0);

@@ -5,6 +5,7 @@
 use crate::difference::{demand, Checked};
 use crate::judging::answered;
 use crate::Engine;
+use reference::answer::Answer;
 use reference::generate::random::Random;
 use reference::generate::valid::{self, LEAST, MOST};
 use reference::margin::{Margin, Verdict};
@@ -18,8 +19,16 @@ pub fn check(engine: &dyn Engine, random: &mut Random) -> Checked {
     let second = moved(random, &first, far);
     let one = answered(engine, random, &first)?;
     let other = answered(engine, random, &second)?;
-    let shape = |lines: &[Vec<Verdict>]| lines.iter().map(Vec::len).collect::<Vec<_>>();
-    demand(shape(&one.lines) == shape(&other.lines), || "answers of unlike shape".into())?;
+    all_steady(&one, &other, far).map_err(|difference| {
+        let difference = difference.on("one sheet", &words::to_bytes(&first));
+        difference.on("the other sheet", &words::to_bytes(&second))
+    })
+}
+
+/// Demands that two whole answers are as near as samples so far apart allow.
+fn all_steady(one: &Answer, other: &Answer, far: i64) -> Checked {
+    let shape = |answer: &Answer| answer.lines.iter().map(Vec::len).collect::<Vec<_>>();
+    demand(shape(one) == shape(other), || "answers of unlike shape".into())?;
     for (line, pair) in one.lines.iter().zip(&other.lines).enumerate() {
         let unsteady = pair.0.iter().zip(pair.1).find(|(x, y)| !steady(x, y, far));
         demand(unsteady.is_none(), || {

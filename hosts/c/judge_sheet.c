@@ -1,19 +1,23 @@
 /*
  * An example of a host: judges the sheets in the files it is given and prints a
  * summary of each. Ends with 0 if all were accepted, 1 if one was refused, 2 if
- * one could not be read.
+ * one could not be read or judged, or if the summaries could not be written.
  */
 #include <inttypes.h>
 #include <stdio.h>
 #include <stdlib.h>
 #include <string.h>
 
+#include "numbers.h"
 #include "tecuhualma.h"
 
 struct bytes {
     uint8_t *at;
     size_t length;
 };
+
+/* The bytes that are taken for a file at first. */
+enum { FIRST_ROOM = 65536 };
 
 /* A sheet with the buffers that are lent for it. */
 struct job {
@@ -23,15 +27,7 @@ struct job {
     uint8_t result[TECUHUALMA_RESULT_BYTES];
 };
 
-/* ---- Numbers in bytes, lowest byte first ---- */
-
-static uint64_t number_at(const uint8_t *bytes, size_t count)
-{
-    uint64_t number = 0;
-    while (count > 0)
-        number = number << 8 | bytes[--count];
-    return number;
-}
+/* ---- Words and results ---- */
 
 static uint32_t word_at(struct bytes words, size_t index)
 {
@@ -45,14 +41,34 @@ static uint64_t result_of(const struct job *job, enum tecuhualma_result index)
 
 /* ---- Memory and files ---- */
 
-static struct bytes taken(size_t length)
+/* Takes so many bytes; gives 0 if there is no memory for them. */
+static int take(struct bytes *bytes, size_t length)
 {
-    struct bytes bytes = {malloc(length > 0 ? length : 1), length};
-    if (bytes.at == NULL) {
-        fputs("out of memory\n", stderr);
-        exit(2);
-    }
-    return bytes;
+    bytes->at = malloc(length > 0 ? length : 1);
+    bytes->length = length;
+    return bytes->at != NULL;
+}
+
+/*
+ * Reads on to the end of a file, which may grow meanwhile or be a pipe: its
+ * length is not asked for. Gives 0 if reading fails or memory runs out.
+ */
+static int read_on(FILE *file, struct bytes *content)
+{
+    size_t room = 0;
+    size_t read = 0;
+    do {
+        content->length += read;
+        if (content->length == room) {
+            room = room > 0 ? 2 * room : FIRST_ROOM;
+            uint8_t *larger = realloc(content->at, room);
+            if (larger == NULL)
+                return 0;
+            content->at = larger;
+        }
+        read = fread(content->at + content->length, 1, room - content->length, file);
+    } while (read > 0);
+    return !ferror(file);
 }
 
 /* Reads a whole file; gives 0 if that fails. */
@@ -61,10 +77,7 @@ static int read_file(const char *path, struct bytes *content)
     FILE *file = fopen(path, "rb");
     if (file == NULL)
         return 0;
-    long length = fseek(file, 0, SEEK_END) == 0 ? ftell(file) : -1;
-    int whole = length >= 0 && fseek(file, 0, SEEK_SET) == 0;
-    *content = taken(whole ? (size_t)length : 0);
-    whole = whole && fread(content->at, 1, content->length, file) == content->length;
+    int whole = read_on(file, content);
     fclose(file);
     return whole;
 }
@@ -93,10 +106,15 @@ static size_t answer_words(struct bytes sheet)
     return TECUHUALMA_ANSWER_WORDS(places, samples, at_most(lines, TECUHUALMA_MOST_LINES));
 }
 
+/* Takes what is to be lent; gives 0 if there is no memory for it. */
+static int lend(struct job *job)
+{
+    return take(&job->distances, TECUHUALMA_DISTANCES_BYTES) &&
+           take(&job->answer, answer_words(job->sheet) * TECUHUALMA_WORD_BYTES);
+}
+
 static uint64_t judge_job(struct job *job)
 {
-    job->distances = taken(TECUHUALMA_DISTANCES_BYTES);
-    job->answer = taken(answer_words(job->sheet) * TECUHUALMA_WORD_BYTES);
     return judge(job->sheet.at, job->sheet.length, job->distances.at, job->distances.length,
                  job->answer.at, job->answer.length, job->result, sizeof job->result);
 }
@@ -190,19 +208,30 @@ static void print_summary(const struct job *job, uint64_t number)
     print_lines(job);
 }
 
-/* Judges one file; gives what the program is to end with. */
-static int judge_file(const char *path)
+/* Reads, judges and tells; gives what the program is to end with. */
+static int judge_into(struct job *job, const char *path)
 {
-    struct job job;
-    if (!read_file(path, &job.sheet)) {
+    if (!read_file(path, &job->sheet)) {
         fprintf(stderr, "%s cannot be read\n", path);
         return 2;
     }
+    if (!lend(job)) {
+        fprintf(stderr, "%s: out of memory\n", path);
+        return 2;
+    }
+    uint64_t number = judge_job(job);
     printf("%s\n", path);
-    uint64_t number = judge_job(&job);
-    print_summary(&job, number);
-    give_back(&job);
+    print_summary(job, number);
     return number != TECUHUALMA_ACCEPTED;
+}
+
+/* Judges one file; whatever comes of it, what was taken is given back. */
+static int judge_file(const char *path)
+{
+    struct job job = {0};
+    int ended = judge_into(&job, path);
+    give_back(&job);
+    return ended;
 }
 
 int main(int count, char **arguments)
@@ -215,6 +244,10 @@ int main(int count, char **arguments)
     for (int index = 1; index < count; index++) {
         int ended = judge_file(arguments[index]);
         status = ended > status ? ended : status;
+    }
+    if (fflush(stdout) != 0 || ferror(stdout)) {
+        fputs("the summaries cannot be written\n", stderr);
+        return 2;
     }
     return status;
 }

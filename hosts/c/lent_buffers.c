@@ -8,6 +8,7 @@
 #include <stdlib.h>
 #include <string.h>
 
+#include "numbers.h"
 #include "tecuhualma.h"
 
 enum { SHEET_WORDS = 19, ANSWER_WORDS = 20, MOST_BYTES = 2 * TECUHUALMA_DISTANCES_BYTES };
@@ -54,14 +55,6 @@ static int is_zero(const uint8_t *bytes, size_t length)
     while (index < length && bytes[index] == 0)
         index++;
     return index == length;
-}
-
-static uint64_t number_at(const uint8_t *bytes, size_t count)
-{
-    uint64_t number = 0;
-    while (count > 0)
-        number = number << 8 | bytes[--count];
-    return number;
 }
 
 /* Lays as much of example A out as there is room for. */

@@ -1,4 +1,4 @@
-//! A small helper that lays out the words of a sheet.
+//! The words of a sheet, laid out front to back.
 
 use crate::words::{self, kinds};
 

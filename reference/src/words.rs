@@ -84,6 +84,11 @@ pub fn margin_payload(margin: i32) -> u32 {
     margin as u32 & PAYLOAD_MASK
 }
 
+/// The indices of the words whose kind is wanted, in their order.
+pub fn indices(words: &[u32], wanted: impl Fn(u32) -> bool) -> Vec<usize> {
+    (0..words.len()).filter(|&index| wanted(kind(words[index]))).collect()
+}
+
 /// The words that bytes hold, "each word four bytes, lowest byte first", or
 /// nothing where the length is no multiple of four.
 pub fn from_bytes(bytes: &[u8]) -> Option<Vec<u32>> {

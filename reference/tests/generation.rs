@@ -66,9 +66,9 @@ fn limits_are_reached() {
 
 #[test]
 fn the_largest_sheet_is_judged() {
-    let words = valid::largest_sheet(&mut Random::new(1), 3);
+    let words = valid::largest_sheet(&mut Random::new(1));
     assert!(words.len() > 16 * 64 * 1024);
-    let left = judged_by::<Fast>(&common::case(&words, 2 + 3 * (1 + 64 * 1024)));
+    let left = judged_by::<Fast>(&common::case(&words, 2 + 5 * (1 + 64 * 1024)));
     assert_eq!(left.number, 0);
 }
 

@@ -13,11 +13,14 @@ use comparison::compare::Comparison;
 use comparison::difference::Difference;
 use comparison::printing::Program;
 use library::Library;
-use reference::generate::case;
+use reference::words::BYTES_PER_WORD;
 use std::process::ExitCode;
 
 /// Runs of fewer seeds cannot be expected to reach everything.
 const FEWEST_TO_REACH_ALL: u64 = 50_000;
+
+/// Longer sheets and answers are not printed: their seed makes them again.
+const MOST_BYTES_TOLD: usize = 1_000;
 
 fn main() -> ExitCode {
     let arguments: Vec<String> = std::env::args().skip(1).collect();
@@ -44,29 +47,30 @@ fn main() -> ExitCode {
 fn end(comparison: &Comparison, count: u64) -> ExitCode {
     print!("{}", comparison.reached.rows());
     let missed = comparison.reached.missed();
-    if count >= FEWEST_TO_REACH_ALL && !missed.is_empty() {
+    if !missed.is_empty() {
         println!("comparison: {count} seeds, but never reached: {}", missed.join("; "));
-        return ExitCode::FAILURE;
+        if count >= FEWEST_TO_REACH_ALL {
+            return ExitCode::FAILURE;
+        }
     }
     println!("comparison: {count} seeds, no difference");
     ExitCode::SUCCESS
 }
 
-/// Prints a difference and the sheet of its seed, if that is short.
+/// Prints a difference and the bytes on which it was found.
 fn tell(seed: u64, before: u64, difference: &Difference) {
     println!("comparison: seed {seed}, after {before} without a difference");
-    println!("{}", difference.0);
-    let case = case(seed, 64);
-    println!(
-        "sheet of {} bytes; lent {} of distances, {} of answer, {} of result",
-        case.sheet.len(),
-        case.distances,
-        case.answer,
-        case.result
-    );
-    if case.sheet.len() <= 1_000 {
-        let words = reference::words::from_bytes(&case.sheet).unwrap_or_default();
-        let words: Vec<String> = words.iter().map(|word| format!("{word:08X}")).collect();
-        println!("{}", words.join(" "));
+    println!("{}", difference.what);
+    for (name, bytes) in &difference.found_on {
+        println!("{name}: {} bytes", bytes.len());
+        if bytes.len() <= MOST_BYTES_TOLD {
+            println!("{}", told(bytes));
+        }
     }
+}
+
+/// Bytes as hex words, a last one that is cut short with fewer digits.
+fn told(bytes: &[u8]) -> String {
+    let word = |chunk: &[u8]| chunk.iter().rev().map(|byte| format!("{byte:02X}")).collect();
+    bytes.chunks(BYTES_PER_WORD).map(word).collect::<Vec<String>>().join(" ")
 }

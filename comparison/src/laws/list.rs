@@ -1,8 +1,9 @@
 //! The laws.
 
-use super::table::{Bounds, Table, GREATEST};
+use super::table::{Bounds, Table};
 use super::{Law, Pair};
 use reference::generate::random::Random;
+use reference::sheet::GREATEST_WEIGHT as GREATEST;
 
 const AND: u32 = 4;
 const SOMEWHERE: u32 = 6;
@@ -43,140 +44,140 @@ fn distances(random: &mut Random) -> Bounds {
     (a.min(b), upper)
 }
 
-fn not_not(table: &mut Table, random: &mut Random) -> Pair {
+fn not_not(table: &mut Table, random: &mut Random) -> Option<Pair> {
     let left = table.any(random);
     let not = table.not(left);
-    (left, table.not(not))
+    Some((left, table.not(not)))
 }
 
-fn or_is_not_and(table: &mut Table, random: &mut Random) -> Pair {
+fn or_is_not_and(table: &mut Table, random: &mut Random) -> Option<Pair> {
     let (left, right) = two(table, random);
     let (not_left, not_right) = (table.not(left), table.not(right));
     let neither = table.join(AND, not_left, not_right);
-    (table.join(OR, left, right), table.not(neither))
+    Some((table.join(OR, left, right), table.not(neither)))
 }
 
-fn and_exchanges(table: &mut Table, random: &mut Random) -> Pair {
+fn and_exchanges(table: &mut Table, random: &mut Random) -> Option<Pair> {
     let (left, right) = two(table, random);
-    (table.join(AND, left, right), table.join(AND, right, left))
+    Some((table.join(AND, left, right), table.join(AND, right, left)))
 }
 
-fn eventually_is_until(table: &mut Table, random: &mut Random) -> Pair {
+fn eventually_is_until(table: &mut Table, random: &mut Random) -> Option<Pair> {
     let left = table.any(random);
     let bounds = table.times(random, &[left]);
     let truth = table.truth();
-    (table.ahead(EVENTUALLY, left, bounds), table.until(truth, left, bounds))
+    Some((table.ahead(EVENTUALLY, left, bounds), table.until(truth, left, bounds)))
 }
 
-fn always_is_not_eventually(table: &mut Table, random: &mut Random) -> Pair {
+fn always_is_not_eventually(table: &mut Table, random: &mut Random) -> Option<Pair> {
     let left = table.any(random);
     let bounds = table.times(random, &[left]);
     let not = table.not(left);
     let eventually = table.ahead(EVENTUALLY, not, bounds);
-    (table.ahead(ALWAYS, left, bounds), table.not(eventually))
+    Some((table.ahead(ALWAYS, left, bounds), table.not(eventually)))
 }
 
-fn everywhere_is_not_somewhere(table: &mut Table, random: &mut Random) -> Pair {
+fn everywhere_is_not_somewhere(table: &mut Table, random: &mut Random) -> Option<Pair> {
     let left = table.any(random);
     let bounds = distances(random);
     let not = table.not(left);
     let somewhere = table.around(SOMEWHERE, not, bounds);
-    (table.around(EVERYWHERE, left, bounds), table.not(somewhere))
+    Some((table.around(EVERYWHERE, left, bounds), table.not(somewhere)))
 }
 
-fn until_now(table: &mut Table, random: &mut Random) -> Pair {
+fn until_now(table: &mut Table, random: &mut Random) -> Option<Pair> {
     let (left, right) = two(table, random);
-    (table.until(left, right, (0, 0)), table.join(AND, left, right))
+    Some((table.until(left, right, (0, 0)), table.join(AND, left, right)))
 }
 
 /// From 0 on: left now, and right now or until from the next sample on.
-fn until_unrolled(table: &mut Table, random: &mut Random) -> Pair {
+fn until_unrolled(table: &mut Table, random: &mut Random) -> Option<Pair> {
     let (left, right) = two(table, random);
     let upper = table.times(random, &[left, right]).1;
     if upper == 0 {
-        return until_now(table, random);
+        return None;
     }
     let shorter = table.until(left, right, (0, upper - 1));
     let next = table.ahead(EVENTUALLY, shorter, (1, 1));
     let either = table.join(OR, right, next);
-    (table.until(left, right, (0, upper)), table.join(AND, left, either))
+    Some((table.until(left, right, (0, upper)), table.join(AND, left, either)))
 }
 
 /// From later on: left now, and until from the next sample on, a step sooner.
-fn until_waits(table: &mut Table, random: &mut Random) -> Pair {
+fn until_waits(table: &mut Table, random: &mut Random) -> Option<Pair> {
     let (left, right) = two(table, random);
     let (lower, upper) = table.times(random, &[left, right]);
     if lower == 0 {
-        return until_unrolled(table, random);
+        return None;
     }
     let sooner = table.until(left, right, (lower - 1, upper - 1));
     let next = table.ahead(EVENTUALLY, sooner, (1, 1));
-    (table.until(left, right, (lower, upper)), table.join(AND, left, next))
+    Some((table.until(left, right, (lower, upper)), table.join(AND, left, next)))
 }
 
-fn windows_add_up(table: &mut Table, random: &mut Random) -> Pair {
+fn windows_add_up(table: &mut Table, random: &mut Random) -> Option<Pair> {
     let left = table.any(random);
     let one = table.times(random, &[left]);
     let other = table.times(random, &[left]);
     let code = random.pick(&[EVENTUALLY, ALWAYS]);
     let inner = table.ahead(code, left, one);
     let both = (one.0 + other.0, one.1 + other.1);
-    (table.ahead(code, inner, other), table.ahead(code, left, both))
+    Some((table.ahead(code, inner, other), table.ahead(code, left, both)))
 }
 
-fn somewhere_here(table: &mut Table, random: &mut Random) -> Pair {
+fn somewhere_here(table: &mut Table, random: &mut Random) -> Option<Pair> {
     let left = table.any(random);
     let code = random.pick(&[SOMEWHERE, EVERYWHERE]);
-    (left, table.around(code, left, (0, 0)))
+    Some((left, table.around(code, left, (0, 0))))
 }
 
-fn somewhere_splits(table: &mut Table, random: &mut Random) -> Pair {
+fn somewhere_splits(table: &mut Table, random: &mut Random) -> Option<Pair> {
     let left = table.any(random);
     let middle = random.field(0, 6);
     let far = random.pick(&[middle + 1, middle + 4, GREATEST]);
     let near = table.around(SOMEWHERE, left, (0, middle));
     let beyond = table.around(SOMEWHERE, left, (middle + 1, far));
-    (table.around(SOMEWHERE, left, (0, far)), table.join(OR, near, beyond))
+    Some((table.around(SOMEWHERE, left, (0, far)), table.join(OR, near, beyond)))
 }
 
-fn somewhere_of_or(table: &mut Table, random: &mut Random) -> Pair {
+fn somewhere_of_or(table: &mut Table, random: &mut Random) -> Option<Pair> {
     let (left, right) = two(table, random);
     let bounds = distances(random);
     let either = table.join(OR, left, right);
     let one = table.around(SOMEWHERE, left, bounds);
     let other = table.around(SOMEWHERE, right, bounds);
-    (table.around(SOMEWHERE, either, bounds), table.join(OR, one, other))
+    Some((table.around(SOMEWHERE, either, bounds), table.join(OR, one, other)))
 }
 
 /// The centre belongs to its region.
-fn surround_needs_left(table: &mut Table, random: &mut Random) -> Pair {
+fn surround_needs_left(table: &mut Table, random: &mut Random) -> Option<Pair> {
     let (left, right) = two(table, random);
     let surround = table.surround(left, right, distances(random));
-    (surround, table.join(AND, surround, left))
+    Some((surround, table.join(AND, surround, left)))
 }
 
 /// The centre alone is a region, and every road is within the greatest bound.
-fn surround_by_true(table: &mut Table, random: &mut Random) -> Pair {
+fn surround_by_true(table: &mut Table, random: &mut Random) -> Option<Pair> {
     let left = table.any(random);
     let truth = table.truth();
-    (left, table.surround(left, truth, (0, GREATEST)))
+    Some((left, table.surround(left, truth, (0, GREATEST))))
 }
 
-fn surround_grows(table: &mut Table, random: &mut Random) -> Pair {
+fn surround_grows(table: &mut Table, random: &mut Random) -> Option<Pair> {
     let (left, right) = two(table, random);
     let (lower, upper) = distances(random);
     let wide = (random.field(0, lower), (upper + random.field(0, 3)).min(GREATEST));
     let narrow = table.surround(left, right, (lower, upper));
     let wider = table.surround(left, right, wide);
-    (wider, table.join(OR, narrow, wider))
+    Some((wider, table.join(OR, narrow, wider)))
 }
 
-fn surround_of_both(table: &mut Table, random: &mut Random) -> Pair {
+fn surround_of_both(table: &mut Table, random: &mut Random) -> Option<Pair> {
     let (left, right) = two(table, random);
     let other = table.any(random);
     let bounds = distances(random);
     let both = table.join(AND, right, other);
     let by_both = table.surround(left, both, bounds);
     let by_one = table.surround(left, right, bounds);
-    (by_both, table.join(AND, by_both, by_one))
+    Some((by_both, table.join(AND, by_both, by_one)))
 }

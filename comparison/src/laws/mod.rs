@@ -12,6 +12,7 @@ use crate::reached::Reached;
 use crate::Engine;
 use reference::generate::random::Random;
 use reference::generate::valid;
+use reference::words;
 use table::Table;
 
 /// How many laws are tried on one sheet; with its own lines they stay below 64.
@@ -20,8 +21,9 @@ const LAWS_A_SHEET: usize = 5;
 /// Two lines of a table that say the same.
 pub type Pair = (u32, u32);
 
-/// Writes two lines that say the same into a table.
-pub type Write = fn(&mut Table, &mut Random) -> Pair;
+/// Writes two lines that say the same into a table; nothing where the lines
+/// drawn are too short for that.
+pub type Write = fn(&mut Table, &mut Random) -> Option<Pair>;
 
 /// A law: its name, and how it is written.
 pub type Law = (&'static str, Write);
@@ -30,25 +32,24 @@ pub type Law = (&'static str, Write);
 pub fn check(engine: &dyn Engine, random: &mut Random, reached: &mut Reached) -> Checked {
     let words = valid::small_sheet(random, 12);
     let mut table = Table::resume(&words);
-    let pairs = written(&mut table, random, reached);
-    let answer = answered(engine, random, &table.words())?;
+    let pairs = written(&mut table, random);
+    let words = table.words();
+    let answer = answered(engine, random, &words)?;
     let line = |number: u32| answer.lines.get(number as usize);
     for (name, (one, other)) in pairs {
-        demand(line(one) == line(other), || format!("lines {one} and {other} break: {name}"))?;
+        let broken = || format!("lines {one} and {other} break: {name}");
+        demand(line(one) == line(other), broken)
+            .map_err(|difference| difference.on("sheet", &words::to_bytes(&words)))?;
+        reached.count(&format!("law: {name}"));
     }
     Ok(())
 }
 
 /// Writes some laws into a table; gives each with its two lines.
-fn written(
-    table: &mut Table,
-    random: &mut Random,
-    reached: &mut Reached,
-) -> Vec<(&'static str, Pair)> {
+fn written(table: &mut Table, random: &mut Random) -> Vec<(&'static str, Pair)> {
     let mut write = |_| {
         let (name, write) = random.pick(&LAWS);
-        reached.count(&format!("law: {name}"));
-        (name, write(table, random))
+        write(table, random).map(|pair| (name, pair))
     };
-    (0..LAWS_A_SHEET).map(&mut write).collect()
+    (0..LAWS_A_SHEET).filter_map(&mut write).collect()
 }

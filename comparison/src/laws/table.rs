@@ -7,9 +7,6 @@ use reference::sheet::{check, DISTANCE_ENTRIES};
 /// Lower and upper.
 pub type Bounds = (u32, u32);
 
-/// The greatest bound, which is also the greatest weight of a road.
-pub const GREATEST: u32 = (1 << 28) - 1;
-
 /// A sheet whose lines are being added; every line's length is kept, so that
 /// bounds of time can be chosen that leave one.
 pub struct Table {

@@ -4,20 +4,21 @@ use crate::judging::Left;
 use reference::distance::NO_DISTANCE;
 use reference::generate::Case;
 use reference::judge::BYTES_PER_DISTANCE;
-use reference::sheet::{self, Line, Operator, Sheet, DISTANCE_ENTRIES, LAST_CODE};
+use reference::print::MOST_BYTES;
+use reference::sheet::{self, Line, Operator, Sheet, DISTANCE_ENTRIES, GREATEST_WEIGHT, LAST_CODE};
+use reference::sheet::{MOST_LINES, MOST_PLACES, MOST_SAMPLES, MOST_SIGNALS};
 use reference::words::{self, kinds, BYTES_PER_WORD};
 
-const GREATEST_BOUND: u32 = (1 << 28) - 1;
 const GREATEST_MARGIN: u32 = (1 << 27) - 1;
 
 /// What is looked for in a sheet, beside its codes.
-const IN_SHEET: [&str; 13] = [
+const IN_SHEET: [&str; 16] = [
     "64 places",
     "16 signals",
     "1,024 samples",
     "64 lines",
     "2,016 roads",
-    "no road",
+    "no road between two places or more",
     "some places without a distance",
     "bounds 0..0",
     "equal bounds above 0",
@@ -25,6 +26,9 @@ const IN_SHEET: [&str; 13] = [
     "operands nested eight deep",
     "64 rounds",
     "above 32,768 bytes",
+    "places, signals and samples all at their limits",
+    "a surround in circles of roads, above 16 places and 16 samples",
+    "a surround in circles of roads, 64 places and 1,024 samples",
 ];
 
 /// What is looked for in what is lent.
@@ -76,28 +80,40 @@ pub fn shown(words: &[u32], case: &Case, left: &Left) -> Vec<String> {
 }
 
 /// In the order of [`IN_SHEET`].
-fn in_sheet(sheet: &Sheet, words: &[u32], left: &Left) -> [bool; 13] {
+fn in_sheet(sheet: &Sheet, words: &[u32], left: &Left) -> [bool; 16] {
     let bounds = |wanted: fn(u32, u32) -> bool| {
         let mut all = sheet.lines.iter().filter_map(|line| line.operator.bounds());
         all.any(|bounds| wanted(bounds.lower, bounds.upper))
     };
+    let (places, samples) = (sheet.head.places, sheet.head.samples);
+    let circles = surrounds_in_circles(sheet);
     let none = NO_DISTANCE.to_le_bytes();
     let mut distances = left.distances.chunks_exact(BYTES_PER_DISTANCE);
     [
-        sheet.head.places == 64,
-        sheet.head.signals == 16,
-        sheet.head.samples == 1024,
-        sheet.lines.len() == 64,
+        places == MOST_PLACES,
+        sheet.head.signals == MOST_SIGNALS,
+        samples == MOST_SAMPLES,
+        sheet.lines.len() == MOST_LINES,
         sheet.roads.len() == 2016,
-        sheet.roads.is_empty(),
+        sheet.roads.is_empty() && sheet.head.places > 1,
         !sheet.roads.is_empty() && distances.any(|entry| entry == none),
         bounds(|lower, upper| lower == 0 && upper == 0),
         bounds(|lower, upper| lower > 0 && lower == upper),
-        bounds(|_, upper| upper == GREATEST_BOUND),
+        bounds(|_, upper| upper == GREATEST_WEIGHT),
         deepest(&sheet.lines) >= 8,
         left.outcome().is_some_and(|outcome| outcome.rounds == 64),
-        words.len() * BYTES_PER_WORD > 32_768,
+        words.len() * BYTES_PER_WORD > MOST_BYTES,
+        (places, sheet.head.signals, samples) == (MOST_PLACES, MOST_SIGNALS, MOST_SAMPLES),
+        circles && places > 16 && samples > 16,
+        circles && places == MOST_PLACES && samples == MOST_SAMPLES,
     ]
+}
+
+/// Whether a surround looks at a network in which roads go round in circles: one
+/// with as many roads as places has to.
+fn surrounds_in_circles(sheet: &Sheet) -> bool {
+    let is_surround = |line: &Line| matches!(line.operator, Operator::Surround { .. });
+    sheet.roads.len() >= sheet.head.places && sheet.lines.iter().any(is_surround)
 }
 
 /// The greatest number of lines on top of one another.

@@ -4,6 +4,7 @@
 
 mod accepted;
 mod refused;
+mod setting;
 
 use crate::judging::Left;
 use crate::laws::LAWS;
@@ -41,11 +42,9 @@ impl Reached {
     }
 
     /// Asks for more labels.
-    pub fn expect(&mut self, labels: &[&str]) {
-        for label in labels {
-            self.labels.push((*label).into());
-            self.counts.insert((*label).into(), 0);
-        }
+    pub fn expect(&mut self, labels: Vec<String>) {
+        self.counts.extend(labels.iter().map(|label| (label.clone(), 0)));
+        self.labels.extend(labels);
     }
 
     /// Counts a label.

@@ -1,5 +1,6 @@
 //! The kinds of places that a refusal strikes.
 
+use super::setting;
 use reference::generate::Case;
 use reference::judge::{BYTES_PER_DISTANCE, RESULT_BYTES};
 use reference::sheet::{LAST_CODE, MOST_PLACES, MOST_SAMPLES, MOST_SIGNALS};
@@ -14,20 +15,26 @@ const WITH_BOUNDS: [u32; 6] = [5, 6, 7, 9, 10, 11];
 /// Codes whose bounds are of time.
 const TIMED: [u32; 3] = [5, 9, 10];
 
+/// What a field of a line word can be refused for.
+const FIELDS: [&str; 5] =
+    ["signal", "left operand", "right operand", "unused left field", "unused right field"];
+
 /// What is told of a word that is missing, and of one of another kind.
 const ABSENT: &str = "absent";
 const OTHER_KIND: &str = "another kind";
 
 /// All labels.
 pub fn labels() -> Vec<String> {
-    let fixed: [(u64, &[&str]); 10] = [
+    let fixed: [(u64, &[&str]); 12] = [
         (1, &["no entry", "an entry short", "some entries"]),
         (2, &[ABSENT, OTHER_KIND]),
-        (3, &["places", "signals", "samples"]),
+        (3, &["places 0", "signals 0", "samples 0", "65 places or more", "17 signals or more"]),
+        (3, &["1,025 samples or more"]),
         (5, &["places equal", "places exchanged", "second beyond n"]),
         (6, &["pair repeated", "pair lower"]),
         (7, &[ABSENT, OTHER_KIND, "weight 0"]),
         (8, &[ABSENT, OTHER_KIND]),
+        (11, &FIELDS),
         (10, &[ABSENT, "an end", "a sample", OTHER_KIND, "65th line"]),
         (14, &[ABSENT, OTHER_KIND, "wrong count", "a word follows"]),
         (15, &["a word short", "no word", "some words"]),
@@ -40,6 +47,7 @@ pub fn labels() -> Vec<String> {
         .chain((0..=LAST_CODE + 1).map(|code| label(11, &code_text(code))))
         .chain(parameter_labels())
         .chain(TIMED.iter().map(|&code| label(13, &code_text(code))))
+        .chain(setting::labels().into_iter().map(|(number, text)| label(number, text)))
         .collect()
 }
 
@@ -73,8 +81,16 @@ fn code_text(code: u32) -> String {
     }
 }
 
-/// The labels of a refused case.
+/// The labels of a refused case: what was wrong, and where.
 pub fn shown(words: &[u32], case: &Case, number: u64, place: usize) -> Vec<String> {
+    let mut shown = fault(words, case, number, place);
+    let setting = setting::shown(words, case, number, place);
+    shown.extend(setting.into_iter().map(|text| label(number, text)));
+    shown
+}
+
+/// The labels that tell what was wrong.
+fn fault(words: &[u32], case: &Case, number: u64, place: usize) -> Vec<String> {
     let word = words.get(place).copied();
     let found = match number {
         1 => vec![entries(case.distances / BYTES_PER_DISTANCE)],
@@ -85,8 +101,9 @@ pub fn shown(words: &[u32], case: &Case, number: u64, place: usize) -> Vec<Strin
         7 if word == Some(words::word(kinds::ROAD_WEIGHT, 0)) => vec!["weight 0"],
         7 => vec![word_there(word)],
         10 => vec![line_there(word)],
-        11 | 13 => return vec![label(number, &code_text(code(words[place])))],
+        11 => return line_word(words, place),
         12 => return vec![parameter(words, place)],
+        13 => return vec![label(13, &code_text(code(words[place])))],
         14 => vec![end_there(words, place)],
         15 => vec![answer_words(case, words)],
         16 => odd_lengths(case),
@@ -112,13 +129,37 @@ fn entries(entries: usize) -> &'static str {
 }
 
 fn limits(head: u32) -> Vec<&'static str> {
-    let sizes = [
-        ("places", words::field(head, 27, 20) as usize, MOST_PLACES),
-        ("signals", words::field(head, 19, 12) as usize, MOST_SIGNALS),
-        ("samples", words::field(head, 11, 0) as usize, MOST_SAMPLES),
+    let size = |high, low| words::field(head, high, low) as usize;
+    let outside = [
+        ("places 0", size(27, 20) == 0),
+        ("signals 0", size(19, 12) == 0),
+        ("samples 0", size(11, 0) == 0),
+        ("65 places or more", size(27, 20) > MOST_PLACES),
+        ("17 signals or more", size(19, 12) > MOST_SIGNALS),
+        ("1,025 samples or more", size(11, 0) > MOST_SAMPLES),
     ];
-    let outside = sizes.iter().filter(|(_, size, most)| !(1..=*most).contains(size));
-    outside.map(|(name, ..)| *name).collect()
+    outside.iter().filter(|(_, outside)| *outside).map(|(text, _)| *text).collect()
+}
+
+/// The code of a refused line word, and each of its fields that is at fault.
+fn line_word(words: &[u32], place: usize) -> Vec<String> {
+    let word = words[place];
+    let code = code(word);
+    let signals = words::field(words[0], 19, 12);
+    let earlier = words::indices(&words[..place], |kind| kind == kinds::LINE).len() as u32;
+    let (left, right) = (words::field(word, 19, 10), words::field(word, 9, 0));
+    let is_known = code <= LAST_CODE;
+    let (takes_left, takes_right) = (is_known && code > 2, matches!(code, 4 | 5 | 7 | 8));
+    let faults = [
+        WITH_CONSTANT.contains(&code) && left >= signals,
+        takes_left && left >= earlier,
+        takes_right && right >= earlier,
+        code == 0 && left > 0,
+        is_known && !takes_right && right > 0,
+    ];
+    let found = FIELDS.iter().zip(faults).filter(|(_, found)| *found);
+    let fields = found.map(|(text, _)| label(11, text));
+    std::iter::once(label(11, &code_text(code))).chain(fields).collect()
 }
 
 fn road_places(word: u32) -> &'static str {

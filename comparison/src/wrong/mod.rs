@@ -3,6 +3,8 @@
 
 mod bytes;
 mod evaluator;
+mod refusals;
+mod sizes;
 
 use crate::compare::Comparison;
 use crate::{Engine, Implementation};
@@ -13,7 +15,7 @@ const SEEDS: u64 = 3_000;
 /// The seed at which the comparison finds a difference.
 fn caught(engine: &dyn Engine) -> Option<u64> {
     let mut comparison = Comparison::new(engine, None);
-    // Seed 0 would judge the largest sheet, which says no more than others here.
+    // Seed 0 would judge the largest sheet too, which takes long.
     (1..=SEEDS).find(|&seed| comparison.seed(seed).is_err())
 }
 

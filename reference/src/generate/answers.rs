@@ -69,8 +69,7 @@ fn strike(random: &mut Random, words: &mut Vec<u32>) {
 
 /// An index, often of one of the rare words that frame the verdicts.
 fn position(random: &mut Random, words: &[u32]) -> usize {
-    let frame: Vec<usize> =
-        (0..words.len()).filter(|&index| words::kind(words[index]) >= kinds::ANSWER_HEAD).collect();
+    let frame = words::indices(words, |kind| kind >= kinds::ANSWER_HEAD);
     if frame.is_empty() || random.chance(50) {
         random.below(words.len())
     } else {

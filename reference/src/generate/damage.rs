@@ -49,8 +49,7 @@ fn position(random: &mut Random, words: &[u32]) -> usize {
         return random.below(words.len());
     }
     let wanted = random.pick(&[1, 2, 3, 4, 5, 5, 6, 7, 8, 15]);
-    let found: Vec<usize> =
-        (0..words.len()).filter(|&index| words::kind(words[index]) == wanted).collect();
+    let found = words::indices(words, |kind| kind == wanted);
     if found.is_empty() {
         random.below(words.len())
     } else {

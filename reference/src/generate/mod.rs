@@ -79,17 +79,17 @@ pub fn valid_case(random: &mut Random, most_places: usize) -> Case {
     Case::lend(random, &words)
 }
 
-/// A sheet damaged anywhere; now and then too little is lent as well, so that
-/// the order of the refusals is seen.
+/// A sheet damaged anywhere; now and then too little is lent as well, in one way
+/// or in several, so that the order of the refusals is seen.
 pub fn damaged_case(random: &mut Random, most_places: usize) -> Case {
-    let mut words = valid::small_sheet(random, most_places);
+    let mut words = valid::sheet_to_damage(random, most_places);
     damage::damage(random, &mut words);
     let mut case = Case::lend(random, &words);
-    match random.below(40) {
-        0 => aim::lent::few_distances(random, &mut case),
-        1 => aim::lent::short_answer(random, &mut case),
-        2 => aim::lent::odd_bytes(random, &mut case),
-        _ => {}
+    // Bytes last, since a sheet of odd bytes has no words to count.
+    for too_little in [aim::lent::few_distances, aim::lent::short_answer, aim::lent::odd_bytes] {
+        if random.chance(5) {
+            too_little(random, &mut case);
+        }
     }
     case
 }

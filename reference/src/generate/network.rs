@@ -1,10 +1,8 @@
 //! Networks of many shapes.
 
 use super::random::Random;
+use crate::sheet::GREATEST_WEIGHT;
 use std::collections::BTreeMap;
-
-/// The greatest weight of a road and the greatest bound: 2^28 - 1.
-pub const GREATEST: u32 = (1 << 28) - 1;
 
 /// A road: first place, second place, weight.
 pub type Triple = (u32, u32, u32);
@@ -47,6 +45,17 @@ const WEIGHTS: [Weights; 4] = [Weights::Ones, Weights::Small, Weights::Huge, Wei
 /// The roads of a random network, in the order a sheet wants them.
 pub fn roads(random: &mut Random, places: usize) -> Vec<Triple> {
     let shape = random.pick(&SHAPES);
+    shaped(random, shape, places)
+}
+
+/// The roads of a network in which one can go round in circles, if it has three
+/// places or more.
+pub fn roads_in_circles(random: &mut Random, places: usize) -> Vec<Triple> {
+    let shape = random.pick(&[Shape::Ring, Shape::Full, Shape::Split]);
+    shaped(random, shape, places)
+}
+
+fn shaped(random: &mut Random, shape: Shape, places: usize) -> Vec<Triple> {
     let weights = random.pick(&WEIGHTS);
     let mut names: Vec<u32> = (0..places as u32).collect();
     if random.chance(60) {
@@ -84,7 +93,7 @@ fn weight(random: &mut Random, weights: Weights) -> u32 {
     match weights {
         Weights::Ones => 1,
         Weights::Small => random.field(1, 4),
-        Weights::Huge => random.field(GREATEST - 1, GREATEST),
-        Weights::Any => random.field(1, GREATEST),
+        Weights::Huge => random.field(GREATEST_WEIGHT - 1, GREATEST_WEIGHT),
+        Weights::Any => random.field(1, GREATEST_WEIGHT),
     }
 }

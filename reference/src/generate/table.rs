@@ -1,9 +1,9 @@
 //! Tables of lines for valid sheets.
 
-use super::network::GREATEST;
 use super::random::Random;
 use super::valid::Numbers;
 use crate::builder::SheetBuilder;
+use crate::sheet::GREATEST_WEIGHT as GREATEST;
 
 /// What the lines of a sheet draw on.
 pub struct Source<'a> {

@@ -1,10 +1,10 @@
 //! Valid sheets.
 
-use super::network;
+use super::network::{self, Triple};
 use super::random::Random;
 use super::table;
 use crate::builder::SheetBuilder;
-use crate::sheet::{MOST_LINES, MOST_PLACES, MOST_SAMPLES, MOST_SIGNALS};
+use crate::sheet::{GREATEST_WEIGHT, MOST_LINES, MOST_PLACES, MOST_SAMPLES, MOST_SIGNALS};
 
 /// The least sample and constant.
 pub const LEAST: i32 = -67_108_864;
@@ -63,24 +63,39 @@ pub fn small_sheet(random: &mut Random, most_places: usize) -> Vec<u32> {
     sheet_of(random, sizes)
 }
 
-/// The words of a sheet with places, signals and samples all at their limits,
-/// a million words long, and so many lines.
-pub fn largest_sheet(random: &mut Random, lines: usize) -> Vec<u32> {
-    let sizes = Sizes { places: MOST_PLACES, signals: MOST_SIGNALS, samples: MOST_SAMPLES, lines };
+/// The words of a valid sheet that is to be damaged: half of these are small,
+/// the others large in one way or another. They are never judged to the end, so
+/// that size costs little.
+pub fn sheet_to_damage(random: &mut Random, most_places: usize) -> Vec<u32> {
+    let sizes = sizes_to_damage(random, most_places);
     sheet_of(random, sizes)
+}
+
+/// The words of a sheet with places, signals and samples all at their limits,
+/// a million words long. Its lines are always the same, so that each such sheet
+/// has until, somewhere and surround over all of it.
+pub fn largest_sheet(random: &mut Random) -> Vec<u32> {
+    let roads = network::roads_in_circles(random, MOST_PLACES);
+    let numbers = Numbers::Small;
+    let readings = readings(random, numbers, MOST_PLACES * MOST_SIGNALS * MOST_SAMPLES);
+    let weights = roads.iter().map(|road| road.2);
+    let near = weights.max().map_or(1, |weight| (2 * weight).min(GREATEST_WEIGHT));
+    let last_signal = MOST_SIGNALS as u32 - 1;
+    recorded((MOST_PLACES, MOST_SIGNALS, MOST_SAMPLES), &roads, &readings)
+        .at_least(0, numbers.draw(random))
+        .at_most(last_signal, numbers.draw(random))
+        .bounded(5, 0, 1, (1, random.field(1, 9)))
+        .bounded(6, 1, 0, (1, near))
+        .bounded(7, 0, 3, (0, near))
+        .end()
 }
 
 fn sheet_of(random: &mut Random, sizes: Sizes) -> Vec<u32> {
     let Sizes { places, signals, samples, lines } = sizes;
     let numbers = random.pick(&[Numbers::Ties, Numbers::Small, Numbers::Extreme, Numbers::Any]);
     let roads = network::roads(random, places);
-    let readings: Vec<i32> =
-        (0..places * signals * samples).map(|_| numbers.draw(random)).collect();
-    let mut sheet = SheetBuilder::new(places as u32, signals as u32, samples as u32);
-    for &(first, second, weight) in &roads {
-        sheet = sheet.road(first, second, weight);
-    }
-    let sheet = sheet.samples(&readings);
+    let readings = readings(random, numbers, places * signals * samples);
+    let sheet = recorded((places, signals, samples), &roads, &readings);
     let source = table::Source {
         signals,
         samples,
@@ -89,6 +104,20 @@ fn sheet_of(random: &mut Random, sizes: Sizes) -> Vec<u32> {
         weights: roads.iter().map(|road| road.2).collect(),
     };
     table::lines(random, sheet, &source, lines).end()
+}
+
+fn readings(random: &mut Random, numbers: Numbers, count: usize) -> Vec<i32> {
+    (0..count).map(|_| numbers.draw(random)).collect()
+}
+
+/// A sheet up to its table: the head of so many places, signals and samples, the
+/// roads, and the numbers sampled.
+fn recorded(sizes: (usize, usize, usize), roads: &[Triple], readings: &[i32]) -> SheetBuilder {
+    let (places, signals, samples) = sizes;
+    let sheet = SheetBuilder::new(places as u32, signals as u32, samples as u32);
+    let add =
+        |sheet: SheetBuilder, &(first, second, weight): &Triple| sheet.road(first, second, weight);
+    roads.iter().fold(sheet, add).samples(readings)
 }
 
 fn small(random: &mut Random, most_places: usize) -> Sizes {
@@ -129,6 +158,35 @@ fn sizes(random: &mut Random, most_places: usize) -> Sizes {
             places: random.count(1, most_places.min(12)),
             signals: random.count(1, 2),
             lines: random.count(3, 8),
+        },
+        61..=68 => wide_and_long(random, most_places),
+        _ => small,
+    }
+}
+
+/// Many places and many samples at once, on which few lines cost enough.
+fn wide_and_long(random: &mut Random, most_places: usize) -> Sizes {
+    Sizes {
+        places: random.count(most_places.min(17), most_places),
+        signals: random.count(1, 2),
+        samples: random.count(17, 64),
+        lines: random.count(4, 7),
+    }
+}
+
+/// Half of them small, the others with one size or another large.
+fn sizes_to_damage(random: &mut Random, most_places: usize) -> Sizes {
+    let small = small(random, most_places);
+    match random.below(10) {
+        0 => Sizes { lines: random.count(12, MOST_LINES), ..small },
+        1 => Sizes { places: random.count(1, most_places), ..small },
+        2 => Sizes { samples: random.pick(&[9, 100, MOST_SAMPLES, MOST_SAMPLES]), ..small },
+        3 => Sizes { signals: MOST_SIGNALS, lines: random.count(1, 4), ..small },
+        4 => Sizes {
+            places: most_places,
+            lines: random.pick(&[small.lines, MOST_LINES]),
+            signals: random.pick(&[small.signals, MOST_SIGNALS]),
+            ..small
         },
         _ => small,
     }

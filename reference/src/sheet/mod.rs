@@ -10,6 +10,8 @@ mod table;
 
 pub use check::check;
 
+use crate::words::PAYLOAD_MASK;
+
 /// The least number of entries of a lent distance table: 64 times 64.
 pub const DISTANCE_ENTRIES: usize = 4096;
 
@@ -24,6 +26,9 @@ pub const MOST_SAMPLES: usize = 1024;
 
 /// The greatest number of lines.
 pub const MOST_LINES: usize = 64;
+
+/// The greatest weight of a road and the greatest bound: a full payload.
+pub const GREATEST_WEIGHT: u32 = PAYLOAD_MASK;
 
 /// The greatest code of a line.
 pub const LAST_CODE: u32 = 11;

@@ -2,14 +2,14 @@
 
 use super::{find, other_kind};
 use crate::generate::damage::renew_end;
-use crate::generate::network::GREATEST;
 use crate::generate::random::Random;
+use crate::sheet::GREATEST_WEIGHT as GREATEST;
 use crate::sheet::{check, Operator, DISTANCE_ENTRIES, LAST_CODE, MOST_LINES};
 use crate::words::{self, kinds};
 
 /// The indices of the line words.
 fn line_words(words: &[u32]) -> Vec<usize> {
-    (0..words.len()).filter(|&index| words::kind(words[index]) == kinds::LINE).collect()
+    words::indices(words, |kind| kind == kinds::LINE)
 }
 
 /// 10: no first line, or a 65th.
@@ -40,7 +40,8 @@ pub fn line_count(random: &mut Random, mut words: Vec<u32>) -> Option<Vec<u32>> 
 /// line, or an unused field that is not zero.
 pub fn line_word(random: &mut Random, mut words: Vec<u32>) -> Option<Vec<u32>> {
     let lines = line_words(&words);
-    let number = random.below(lines.len());
+    let any = random.below(lines.len());
+    let number = random.pick(&[any, any, lines.len() - 1]);
     let at = lines[number];
     let code = words::field(words[at], 27, 20);
     let signals = words::field(words[0], 19, 12);
@@ -66,7 +67,9 @@ pub fn line_word(random: &mut Random, mut words: Vec<u32>) -> Option<Vec<u32>> {
 /// bound below the lower.
 pub fn parameter(random: &mut Random, mut words: Vec<u32>) -> Option<Vec<u32>> {
     let kind = random.pick(&[kinds::CONSTANT, kinds::LOWER, kinds::UPPER]);
-    let at = find(random, &words, kind)?;
+    let any = find(random, &words, kind)?;
+    let last = words.iter().rposition(|&word| words::kind(word) == kind)?;
+    let at = random.pick(&[any, any, last]);
     match random.below(5) {
         0 => words.truncate(at),
         1 => drop(words.remove(at)),
@@ -108,10 +111,9 @@ pub fn line_length(random: &mut Random, mut words: Vec<u32>) -> Option<Vec<u32>>
             _ => None,
         })
         .collect();
-    if timed.is_empty() {
-        return None;
-    }
-    let (at, operand_length) = random.pick(&timed);
+    let last = *timed.last()?;
+    let any = random.pick(&timed);
+    let (at, operand_length) = random.pick(&[any, any, last]);
     let any = random.field(operand_length, GREATEST);
     let upper = random.pick(&[operand_length, operand_length, any, GREATEST]);
     words[at + 2] = words::word(kinds::UPPER, upper);

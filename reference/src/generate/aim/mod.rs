@@ -5,7 +5,7 @@ mod lines;
 mod places;
 
 use super::random::Random;
-use super::{valid, Case};
+use super::{damage, valid, Case};
 use crate::words;
 
 /// Damage that is aimed: nothing where the sheet has not what it strikes at.
@@ -15,22 +15,43 @@ type Blow = fn(&mut Random, Vec<u32>) -> Option<Vec<u32>>;
 /// a road, so their sheets may have two places though fewer were asked for.
 pub fn aimed(random: &mut Random, number: u64, most_places: usize) -> Case {
     let Some(blow) = blow(number) else {
-        let words = valid::small_sheet(random, most_places);
-        let mut case = Case::lend(random, &words);
-        match number {
-            1 => lent::few_distances(random, &mut case),
-            15 => lent::short_answer(random, &mut case),
-            _ => lent::odd_bytes(random, &mut case),
-        }
-        return case;
+        return aimed_at_lent(random, number, most_places);
     };
     let most_places = if (4..=7).contains(&number) { most_places.max(2) } else { most_places };
     loop {
-        let words = valid::small_sheet(random, most_places);
+        let words = valid::sheet_to_damage(random, most_places);
         if let Some(words) = blow(random, words) {
             return Case::lend(random, &words);
         }
     }
+}
+
+/// A case that is refused with 1, 15 or 16. What would be refused later is often
+/// wrong as well: of 1 the sheet and the answer, of 16 the distances too.
+fn aimed_at_lent(random: &mut Random, number: u64, most_places: usize) -> Case {
+    let mut words = valid::sheet_to_damage(random, most_places);
+    if number != 15 && random.chance(20) {
+        damage::damage(random, &mut words);
+    }
+    let mut case = Case::lend(random, &words);
+    if number == 1 || (number == 16 && random.chance(30)) {
+        lent::few_distances(random, &mut case);
+    }
+    if number == 15 || random.chance(30) {
+        lent::short_answer(random, &mut case);
+    }
+    if number == 16 {
+        lent::odd_bytes(random, &mut case);
+    }
+    case
+}
+
+/// A blow of a number that strikes the table of the words, so that the place is
+/// behind all samples; nothing where there is no such number, or nothing to
+/// strike.
+pub fn struck_table(random: &mut Random, number: u64, words: &[u32]) -> Option<Vec<u32>> {
+    let blow = blow(number).filter(|_| number >= 10)?;
+    blow(random, words.to_vec())
 }
 
 /// The blow for a refusal that lies in the sheet itself.
@@ -55,8 +76,7 @@ fn blow(number: u64) -> Option<Blow> {
 
 /// The index of some word of a kind.
 fn find(random: &mut Random, words: &[u32], kind: u32) -> Option<usize> {
-    let found: Vec<usize> =
-        (0..words.len()).filter(|&index| words::kind(words[index]) == kind).collect();
+    let found = words::indices(words, |other| other == kind);
     (!found.is_empty()).then(|| random.pick(&found))
 }
 

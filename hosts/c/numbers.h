@@ -1,0 +1,16 @@
+/* Numbers in bytes, lowest byte first, as sheets, answers and results hold them. */
+#ifndef NUMBERS_H
+#define NUMBERS_H
+
+#include <stddef.h>
+#include <stdint.h>
+
+static inline uint64_t number_at(const uint8_t *bytes, size_t count)
+{
+    uint64_t number = 0;
+    while (count > 0)
+        number = number << 8 | bytes[--count];
+    return number;
+}
+
+#endif
