@@ -1,23 +1,19 @@
 -- Calls of the engine, by its contract alone, whatever was lent: what a call leaves is what is judged; so the starred examples hold of calls, the
 -- rounds are at most the places, the lookup in what a call left gives the verdicts that are meant, and demand 3 holds of any two calls.
 use mathlib.Core.Path.{_≡_, sym, ap, subst, subst₂, _∙_}
-use mathlib.Core.Bool.{cond, _&&_}
 use mathlib.Core.List.{List}
 use Prim.Native.Nat.{ℕ, _≤_}
-use lib.Dec.{ltb}
 use lib.ListN.{length}
 use contract.Lifetimes
 use borrow.Fn.Kinds.{Dens, endedOf}
 use denote.Triple.Clauses.{AtExit}
 use Rattle.words.specs.Bytes.{wordsOf, numbersOf}
-use Rattle.logic.specs.Formulas.{lineIn}
-use Rattle.logic.specs.Table.{verdicts, margins, valueAt}
 use Rattle.sheet.specs.Layout.{Layout}
 use Rattle.sheet.specs.Roads.{network, recording}
 use Rattle.sheet.specs.Apart.{SamplesApart}
 use Rattle.sheet.proofs.Whole.{accepted-sheet}
-use Rattle.values.specs.Said.{says, nothing}
 use Rattle.lookup.specs.Lookup.{verdictNumber, saidAt, lookedUp}
+use Rattle.verdicts.specs.Meant.{meantAt}
 use Rattle.verdicts.specs.Judged.{Judged, judged}
 use Rattle.verdicts.specs.Steady.{Steady}
 use Rattle.verdicts.proofs.Accepted.{accepted-answered, answered-lookup, answered-rounds}
@@ -97,8 +93,7 @@ pub call-lookup : (c : Call) (z : c .result .number ≡ 0) (κ : Lifetimes.Lfts 
     let i : ℕ = asked .1 .0 in
     let t : ℕ = asked .1 .1 .0 in
     let l : ℕ = asked .1 .1 .1 .0 in
-    r ≡ verdictNumber (cond (ltb i (length (L .lines)) && (ltb t (lineIn (L .lines) i .length) && ltb l (L .sizes .places)))
-    (says (valueAt verdicts (network (sheetOf c) L) (recording (sheetOf c) L) (L .lines) i t l) (valueAt margins (network (sheetOf c) L) (recording (sheetOf c) L) (L .lines) i t l)) nothing)
+    r ≡ verdictNumber (meantAt (network (sheetOf c) L) (recording (sheetOf c) L) (L .lines) i t l)
 unfolding layoutOf
 call-lookup c z κ asked r left learnt same =
     let found = accepted-answered (sheetOf c) (distancesLent c) (answerLent c) (accepts c z) in

@@ -1,13 +1,11 @@
 -- What the number 0 of a result says: the sheet was accepted and answered, and its answer says at every line, sample and place what is meant.
 use mathlib.Core.Path.{_≡_, refl, sym, ap, subst, _∙_}
-use mathlib.Core.Bool.{Bool, true, false, cond, _&&_}
+use mathlib.Core.Bool.{Bool, true, false, cond}
 use mathlib.Core.List.{List}
 use Prim.Native.Nat.{ℕ, _+_, _-_, _*_, _≤_}
 use native.Mathlib.Omega.{arith}
-use lib.Dec.{T, ltb, leb}
+use lib.Dec.{T, leb}
 use lib.ListN.{length}
-use Rattle.logic.specs.Formulas.{lineIn}
-use Rattle.logic.specs.Table.{verdicts, margins, valueAt}
 use Rattle.logic.proofs.Counts.{rounds-at-most-places}
 use Rattle.sheet.specs.Limits.{mostLines}
 use Rattle.sheet.specs.Checked.{Checked, accepted, refused, between, wordAt}
@@ -19,7 +17,7 @@ use Rattle.sheet.proofs.Accepted.{SizesWithin}
 use Rattle.sheet.proofs.Whole.{AcceptedSheet}
 use Rattle.sheet.proofs.AcceptedLines.{sample-bits, good-length, table-good, good-constants}
 use Rattle.sheet.proofs.RefusalNumbers.{Numbered, refuses, check-numbered}
-use Rattle.values.specs.Said.{says, nothing}
+use Rattle.verdicts.specs.Meant.{meantAt}
 use Rattle.verdicts.specs.Answer.{wordsNeeded}
 use Rattle.verdicts.specs.Judged.{refusal, answered, judgedBy, judged}
 use Rattle.lookup.specs.Lookup.{verdictNumber, wholeAnswer, saidAt, lookedUp}
@@ -31,7 +29,6 @@ use Rattle.verdicts.proofs.WholeAnswer.{InAnswer, answer-whole}
 pub record Answered (s : List ℕ) (distances answer : ℕ) : Type 0 where
   pub layout : Layout
   pub found : checked s distances ≡ accepted layout
-  pub enough : T (leb (wordsNeeded (layout .sizes .places) (layout .lines)) answer)
   pub left : judged s distances answer ≡ answered s distances answer layout
 
 number-zero : (number : ℕ) → T (between 1 14 number) → number ≡ 0 → ⊥
@@ -47,7 +44,7 @@ module _ (s : List ℕ) (distances answer : ℕ) where
       judged-by t e = ap (judgedBy s distances answer) c ∙ ap (λ (b : Bool). cond b (answered s distances answer L) (refusal distances answer 15 (length s))) e
 
       go : (t : Bool) → leb (wordsNeeded (L.sizes.places) (L.lines)) answer ≡ t → Answered s distances answer
-      go true e = record { layout = L; found = c; enough = rw e tt; left = judged-by true e }
+      go true e = record { layout = L; found = c; left = judged-by true e }
       go false e = absurd (let fifteen : _≡_ {A = ℕ} 15 0 = sym (ap (λ j. j .result .number) (judged-by false e)) ∙ z in omega arith)
 
   pub accepted-answered : judged s distances answer .result .number ≡ 0 → Answered s distances answer
@@ -74,9 +71,7 @@ module _ (s : List ℕ) (distances : ℕ) (L : Layout) (sheet : AcceptedSheet s 
   }
 
   -- the answer says what is meant, and nothing elsewhere
-  pub answered-says : (answer i t l : ℕ) → saidAt (answered s distances answer L .answer) i t l
-      ≡ cond (ltb i (length (L.lines)) && (ltb t (lineIn (L.lines) i .length) && ltb l (L.sizes.places)))
-      (says (valueAt verdicts (network s L) (recording s L) (L.lines) i t l) (valueAt margins (network s L) (recording s L) (L.lines) i t l)) nothing
+  pub answered-says : (answer i t l : ℕ) → saidAt (answered s distances answer L .answer) i t l ≡ meantAt (network s L) (recording s L) (L.lines) i t l
   unfolding answered network recording
   answered-says answer = answer-says (network s L) (L.sizes.samples) (recording s L) (L.lines) answer fields
       (λ signal t l. sample-bits (wordAt s (roadAt (L.roads) + ((t * L.sizes.places + l) * L.sizes.signals + signal))))
@@ -97,9 +92,8 @@ module _ (s : List ℕ) (distances : ℕ) (L : Layout) (sheet : AcceptedSheet s 
       (good-constants (L.sizes.signals) (L.sizes.samples) (L.lines) (table .good)) sizes
 
   -- so the lookup gives the verdict that is meant, and 0 elsewhere
-  pub answered-lookup : (answer i t l : ℕ) → lookedUp (answered s distances answer L .answer) i t l
-      ≡ verdictNumber (cond (ltb i (length (L.lines)) && (ltb t (lineIn (L.lines) i .length) && ltb l (L.sizes.places)))
-      (says (valueAt verdicts (network s L) (recording s L) (L.lines) i t l) (valueAt margins (network s L) (recording s L) (L.lines) i t l)) nothing)
+  pub answered-lookup : (answer i t l : ℕ)
+      → lookedUp (answered s distances answer L .answer) i t l ≡ verdictNumber (meantAt (network s L) (recording s L) (L.lines) i t l)
   answered-lookup answer i t l =
       whole-looked (answered s distances answer L .answer) i t l (whole answer)
       ∙ ap verdictNumber (answered-says answer i t l)

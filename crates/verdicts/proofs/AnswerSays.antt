@@ -14,6 +14,7 @@ use Rattle.logic.proofs.Small.{margins-small}
 use Rattle.logic.proofs.TableKeeps.{ConstantsIn}
 use Rattle.sheet.specs.Checked.{wordAt}
 use Rattle.values.specs.Said.{Said, says, nothing, saidBy}
+use Rattle.verdicts.specs.Meant.{meantAt}
 use Rattle.verdicts.specs.Answer.{wordFor}
 use Rattle.lookup.specs.Lookup.{headPlaces, headLines, lineLength, lineStart, saidAt}
 use Rattle.values.proofs.ReadBack.{read-back}
@@ -30,12 +31,8 @@ same-choice p q r true true true a b c e f g h = rw (e, f tt, g) (h tt tt tt)
 module _ (N : Network) (T : ℕ) (x : Recording) (lines : List Line) (room : ℕ) (fits : InFields (N.places) T lines)
     (samples : (s t l : ℕ) → InBits 27 (x s t l)) (constants : ConstantsIn (InBits 27) lines) where
   -- verdict and margin of the definition
-  abbrev pub meant : ℕ → ℕ → ℕ → Said
+  abbrev meant : ℕ → ℕ → ℕ → Said
   meant i t l = says (valueAt verdicts N x lines i t l) (valueAt margins N x lines i t l)
-
-  -- the line, the sample and the place are there
-  abbrev pub present : ℕ → ℕ → ℕ → Bool
-  present i t l = ltb i (length lines) && (ltb t (lineIn lines i .length) && ltb l (N.places))
 
   pub word-says : (i t l : ℕ) → l < N.places → saidBy (wordFor N T x lines i t l) ≡ meant i t l
   unfolding wordFor
@@ -50,7 +47,7 @@ module _ (N : Network) (T : ℕ) (x : Recording) (lines : List Line) (room : ℕ
       ∙ verdict-word N T x lines room fits i t l h k b)
       ∙ word-says i t l b
 
-  pub answer-says : (i t l : ℕ) → saidAt (answer N T x lines room fits) i t l ≡ cond (present i t l) (meant i t l) nothing
+  pub answer-says : (i t l : ℕ) → saidAt (answer N T x lines room fits) i t l ≡ meantAt N x lines i t l
   unfolding saidAt
   answer-says i t l =
       let a : List ℕ = answer N T x lines room fits in

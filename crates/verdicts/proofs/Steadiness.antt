@@ -2,7 +2,7 @@
 -- accepted, whatever was lent to either. At every line, sample and place both answers have a verdict or neither has; the margins are at most
 -- d apart or the same infinity; and the verdict is the same where the margin is beyond d.
 use mathlib.Core.Path.{_≡_, sym, ap, subst, subst₂, _∙_}
-use mathlib.Core.Bool.{Bool, true, false, cond, _&&_}
+use mathlib.Core.Bool.{Bool, true, false, cond}
 use mathlib.Core.List.{List}
 use Prim.Native.Nat.{ℕ, _<_}
 use lib.Dec.{T, ltb, ltb→lt}
@@ -21,6 +21,7 @@ use Rattle.sheet.proofs.Whole.{AcceptedSheet, accepted-sheet}
 use Rattle.sheet.proofs.SameLayout.{same-layout}
 use Rattle.sheet.proofs.SameNetwork.{network-same, recordings-near}
 use Rattle.values.specs.Said.{says, nothing}
+use Rattle.verdicts.specs.Meant.{present}
 use Rattle.verdicts.specs.Judged.{Judged, answered, judged}
 use Rattle.lookup.specs.Lookup.{saidAt}
 use Rattle.verdicts.specs.Steady.{Steady}
@@ -39,11 +40,10 @@ module _ (d : ℕ) (X Y : List ℕ) (apart : SamplesApart d X Y) where
   found-steady dx dy L x y ax ay i t l =
       let N : Network = network X L in
       let lines : List Line = L.lines in
-      let there : Bool = ltb i (length lines) && (ltb t (lineIn lines i .length) && ltb l (L.sizes.places)) in
-      let place : T there → l < L.sizes.places =
+      let place : T (present N lines i t l) → l < L.sizes.places =
       λ h. ltb→lt l (L.sizes.places) (and-r (ltb t (lineIn lines i .length)) _ (and-r (ltb i (length lines)) _ h)) in
       subst₂ (Steady d) (sym (answered-says X dx L x ax i t l)) (sym (answered-says Y dy L y ay i t l))
-      (both d there _ _ _ _ (λ h. subst
+      (both d (present N lines i t l) _ _ _ _ (λ h. subst
       (λ (M : Network). SteadyVerdicts d (valueAt verdicts N (recording X L) lines i t l) (valueAt verdicts M (recording Y L) lines i t l)
       (valueAt margins N (recording X L) lines i t l) (valueAt margins M (recording Y L) lines i t l))
       (network-same d X Y apart dy L y)
