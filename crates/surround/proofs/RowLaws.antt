@@ -6,6 +6,8 @@ use native.Mathlib.Nat.{le-mul-of-pos-right}
 use native.Mathlib.Omega.{arith}
 use borrow.Author.Count.{below-more}
 use lib.ListN.{length}
+use Rattle.words.specs.Bytes.{wordsOf, numbersOf}
+use Rattle.words.proofs.Numbers.{length-numbers}
 use Rattle.words.proofs.Rows.{in-table}
 use Rattle.surround.specs.Lanes.{lanes, laneOf}
 use Rattle.surround.specs.Strips.{Written}
@@ -47,3 +49,10 @@ signal-index start first count n l lane room h b c =
     let t = in-table i b in
     let m = le-mul-of-pos-right {m = n} (first + lane) (omega arith) in
     (m, omega arith)
+
+-- the distance from a centre to a place stands in the table, at an index that is none above the count of the table's bytes
+abbrev pub DistanceThere : List ℕ → ℕ → ℕ → ℕ → Type 0
+DistanceThere bytes n centre place = (centre * n + place < length (numbersOf (wordsOf bytes))) × (centre * n + place ≤ length bytes)
+
+pub distance-there : (bytes : List ℕ) {n centre place : ℕ} → centre < n → place < n → n * n ≤ length (numbersOf (wordsOf bytes)) → DistanceThere bytes n centre place
+distance-there bytes b c room = let t = in-table b c in (omega arith, omega (arith, length-numbers bytes))

@@ -1,13 +1,12 @@
 -- Each turn flags one place more.
-use Prim.Native.Nat.{_+_, _-_, _*_, _≤_, _<_}
+use Prim.Native.Nat.{_-_, _≤_}
 use mathlib.Core.Path.{_≡_, subst}
 use native.Mathlib.Omega.{arith}
 use lib.ListN.{length}
 use Rattle.words.specs.Bytes.{wordsOf, numbersOf}
-use Rattle.words.proofs.Numbers.{length-numbers}
-use Rattle.words.proofs.Rows.{in-table}
 use Rattle.values.specs.Signals.{inTable}
 use Rattle.surround.specs.Steps.{Marked}
+use Rattle.surround.proofs.RowLaws.{DistanceThere, distance-there}
 use Rattle.surround.proofs.Outside.{marked-none, marked-more}
 use borrow.Author.Needs.{needs}
 use Rattle.surround.proofs.rows.mark_ball.Statement.{statement}
@@ -22,17 +21,17 @@ abbrev μ-loop : tie.MeasureT-loop
 loop-holds : tie.Need-loop-holds Inv-loop μ-loop
 loop-holds c = (search needs, search needs, marked-none _ _)
 
-index : (c : tie.In-loop Inv-loop μ-loop) → let g = c .before .before .before .before .args in g .centre * length (g .inside .now) + c .before .loop .place < length (numbersOf (wordsOf (g .distances .now)))
-index c = let t = in-table (c .before .before .before .before .pre .0) (c .loop-test .taken) in omega (arith, c .before .before .before .before .pre .1)
+there : (c : tie.In-loop Inv-loop μ-loop) → let g = c .before .before .before .before .args in DistanceThere (g .distances .now) (length (g .inside .now)) (g .centre) (c .before .loop .place)
+there c = let start = c .before .before .before .before in distance-there (start .args .distances .now) (start .pre .0) (c .loop-test .taken) (start .pre .1)
 
 mul-in-range : tie.Need-mul-in-range Inv-loop μ-loop
-mul-in-range c = omega (arith, index c, length-numbers (c .before .before .before .before .args .distances .now))
+mul-in-range c = omega (arith, there c)
 
 add-in-range : tie.Need-add-in-range Inv-loop μ-loop
-add-in-range c = omega (arith, index c, length-numbers (c .before .before .before .before .args .distances .now))
+add-in-range c = omega (arith, there c)
 
 in-range-requires : tie.Need-in-range-requires Inv-loop μ-loop
-in-range-requires c κs = index c
+in-range-requires c κs = there c .0
 
 slice-write-inside : tie.Need-slice-write-inside Inv-loop μ-loop
 slice-write-inside c = search needs

@@ -1,18 +1,15 @@
 -- Each turn masks the strip of one place more.
-use Prim.Native.Nat.{_+_, _-_, _*_, _≤_, _<_}
+use Prim.Native.Nat.{_-_, _≤_}
 use mathlib.Core.Path.{_≡_, ap}
 use mathlib.Core.Bool.{Bool, cond}
 use native.Mathlib.Omega.{arith}
-use lib.ListN.{length}
 use Rattle.words.specs.Bytes.{wordsOf, numbersOf}
-use Rattle.words.proofs.Numbers.{length-numbers}
-use Rattle.words.proofs.Rows.{in-table}
 use Rattle.logic.specs.Iteration.{masked}
 use Rattle.values.specs.Chain.{chainLattice}
 use Rattle.values.specs.Signals.{inTable}
 use Rattle.surround.specs.Lanes.{laneOf}
 use Rattle.surround.specs.Blocks.{RowWritten}
-use Rattle.surround.proofs.RowLaws.{row-written-none, row-written-more, row-written-all}
+use Rattle.surround.proofs.RowLaws.{row-written-none, row-written-more, row-written-all, DistanceThere, distance-there}
 use borrow.Author.Needs.{needs}
 use Rattle.surround.proofs.rows.mask.Statement.{statement}
 use Rattle.surround.proofs.rows.mask.Tie as tie
@@ -26,17 +23,17 @@ abbrev μ-loop : tie.MeasureT-loop
 loop-holds : tie.Need-loop-holds Inv-loop μ-loop
 loop-holds c = (search needs, row-written-none _ _)
 
-index : (c : tie.In-loop Inv-loop μ-loop) → let g = c .before .before .before .before .before .args in g .centre * g .places + c .before .loop .place < length (numbersOf (wordsOf (g .distances .now)))
-index c = let t = in-table (c .before .before .before .before .before .pre .0) (c .loop-test .taken) in omega (arith, c .before .before .before .before .before .pre .1)
+there : (c : tie.In-loop Inv-loop μ-loop) → let g = c .before .before .before .before .before .args in DistanceThere (g .distances .now) (g .places) (g .centre) (c .before .loop .place)
+there c = let start = c .before .before .before .before .before in distance-there (start .args .distances .now) (start .pre .0) (c .loop-test .taken) (start .pre .1)
 
 mul-in-range : tie.Need-mul-in-range Inv-loop μ-loop
-mul-in-range c = omega (arith, index c, length-numbers (c .before .before .before .before .before .args .distances .now))
+mul-in-range c = omega (arith, there c)
 
 add-in-range : tie.Need-add-in-range Inv-loop μ-loop
-add-in-range c = omega (arith, index c, length-numbers (c .before .before .before .before .before .args .distances .now))
+add-in-range c = omega (arith, there c)
 
 in-range-requires : tie.Need-in-range-requires Inv-loop μ-loop
-in-range-requires c κs = index c
+in-range-requires c κs = there c .0
 
 mask-strip-requires : tie.Need-mask-strip-requires Inv-loop μ-loop
 mask-strip-requires c κs = search needs

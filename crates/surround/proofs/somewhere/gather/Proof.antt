@@ -1,17 +1,16 @@
 -- Each turn takes in one place more, if it is in range.
 use mathlib.Core.Path.{_≡_, sym, subst, _∙_}
 use mathlib.Core.Logic.{⊎-elim}
-use Prim.Native.Nat.{ℕ, _+_, _-_, _*_, _≤_, _<_}
+use Prim.Native.Nat.{ℕ, _-_, _≤_}
 use native.Mathlib.Omega.{arith}
 use lib.ListN.{length}
 use borrow.Author.Needs.{needs}
 use Rattle.words.specs.Bytes.{wordsOf, numbersOf}
-use Rattle.words.proofs.Numbers.{length-numbers}
-use Rattle.words.proofs.Rows.{in-table}
 use Rattle.values.specs.Signals.{inTable}
 use Rattle.surround.specs.Lanes.{lanes, laneOf}
 use Rattle.surround.specs.Strips.{Written}
 use Rattle.surround.specs.Ranges.{gathered}
+use Rattle.surround.proofs.RowLaws.{DistanceThere, distance-there}
 use Rattle.surround.proofs.StripLaws.{written-already, written-over}
 use Rattle.surround.proofs.Ranges.{gathered-none, gathering-more, gathering-past}
 use Rattle.surround.proofs.somewhere.gather.Statement.{statement}
@@ -35,17 +34,17 @@ loop-holds c =
     let a = c .before .before .before .before .before .before .before .before .args in
     (search needs, search needs, written-already (λ lane l. c .before .before .fill-strip .ensures .written lane l ∙ c .before .before .before .of-none .ensures ∙ gathered-none (a .least) _ _))
 
-index : (c : tie.In-loop Inv-loop μ-loop) → let g = c .before .before .before .before .before .before .before .before .before .before .args in g .centre * g .places + c .before .loop .place < length (numbersOf (wordsOf (g .distances .now)))
-index c = let start = c .before .before .before .before .before .before .before .before .before .before in omega (arith, in-table (start .pre .0) (c .loop-test .taken), start .pre .1)
+there : (c : tie.In-loop Inv-loop μ-loop) → let g = c .before .before .before .before .before .before .before .before .before .before .args in DistanceThere (g .distances .now) (g .places) (g .centre) (c .before .loop .place)
+there c = let start = c .before .before .before .before .before .before .before .before .before .before in distance-there (start .args .distances .now) (start .pre .0) (c .loop-test .taken) (start .pre .1)
 
 mul-in-range : tie.Need-mul-in-range Inv-loop μ-loop
-mul-in-range c = omega (arith, index c, length-numbers (c .before .before .before .before .before .before .before .before .before .before .args .distances .now))
+mul-in-range c = omega (arith, there c)
 
 add-in-range : tie.Need-add-in-range Inv-loop μ-loop
-add-in-range c = omega (arith, index c, length-numbers (c .before .before .before .before .before .before .before .before .before .before .args .distances .now))
+add-in-range c = omega (arith, there c)
 
 in-range-requires : tie.Need-in-range-requires Inv-loop μ-loop
-in-range-requires c κs = index c
+in-range-requires c κs = there c .0
 
 pull-strip-requires : tie.Need-pull-strip-requires Inv-loop μ-loop
 pull-strip-requires c κs = search needs
