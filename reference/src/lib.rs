@@ -31,6 +31,7 @@ pub mod judge;
 pub mod lookup;
 pub mod margin;
 pub mod meaning;
+pub mod page;
 pub mod print;
 pub mod refusal;
 pub mod sheet;
