@@ -67,7 +67,7 @@ impl<'a> Comparison<'a> {
     pub fn page(&mut self) -> Checked {
         let mut random = Random::new(0);
         for label in page::SHEETS {
-            let case = judging::case_of(&page::words(label), ANSWER_WORDS);
+            let case = Case::of(&page::words(label), ANSWER_WORDS);
             self.judge(&mut random, &case)?;
             if let Some(program) = &self.program {
                 program.compare(&case.sheet, &mut self.reached)?;

@@ -28,6 +28,7 @@ pub mod evaluation;
 pub mod fast;
 pub mod generate;
 pub mod judge;
+pub mod left;
 pub mod lookup;
 pub mod margin;
 pub mod meaning;

@@ -17,8 +17,8 @@ fn example_a() {
     let sheet = page::words("words a-sheet");
     assert_eq!(sheet, EXAMPLE_A);
     let answer = page::words("words a-answer");
-    assert_eq!(judged_words(&sheet).answer_words()[..answer.len()], answer);
-    assert_eq!(judged_words(&sheet).outcome().words, answer.len() as u64);
+    assert_eq!(answer_words(&judged_words(&sheet))[..answer.len()], answer);
+    assert_eq!(outcome(&judged_words(&sheet)).words, answer.len() as u64);
     assert_eq!(printed(&sheet), page::block("rows a-printed").join("\n") + "\n");
 }
 
