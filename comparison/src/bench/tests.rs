@@ -20,6 +20,12 @@ fn the_grid_has_every_code() {
 }
 
 #[test]
+fn a_grid_may_have_one_sample() {
+    let sheet = checked(&sheets::grid(8, 1));
+    assert!(sheet.lines.iter().all(|line| line.length == 1));
+}
+
+#[test]
 fn the_path_takes_64_rounds() {
     let words = sheets::path();
     let case = reference::generate::Case::of(&words, 2 + 3 * (1 + 64 * 1024));

@@ -21,9 +21,9 @@ pub struct Times {
 }
 
 impl Times {
-    /// How many times as fast as the implementation the engine is.
-    pub fn ratio(&self) -> f64 {
-        self.implementation.as_secs_f64() / self.engine.as_secs_f64()
+    /// The engine's time as a share of the implementation's.
+    pub fn share(&self) -> f64 {
+        self.engine.as_secs_f64() / self.implementation.as_secs_f64()
     }
 }
 
