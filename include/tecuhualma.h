@@ -1,24 +1,30 @@
+/* SPDX-License-Identifier: MIT */
 /*
  * Tecuhualma: verdicts of a station network, for hosts in C.
  *
  * A host hands over a sheet (stations and roads, counts per sample, a table of
  * conditions) and lends three buffers. judge() decides on the sheet and fills
- * them; lookup() reads one verdict out of an answer. docs/SHEETS.md tells how
- * a sheet and an answer are laid out, word by word.
+ * them; lookup() reads one verdict out of an answer. SHEETS.md, which is
+ * installed under share/doc/tecuhualma, tells how a sheet and an answer are
+ * laid out, word by word.
  *
  * Bytes. Every buffer is plain bytes at any address. A word is four bytes, a
  * distance and a number of the result eight, always lowest byte first.
  *
  * Ownership. All buffers are the host's, before, during and after a call. The
- * library keeps nothing between calls, takes no memory of its own but the
- * stack, and reads and writes nothing beside what is lent. A buffer of no
- * bytes may be NULL. What the lent buffers hold before the call is of no
- * account; judge() sets each of their bytes.
+ * library keeps nothing between calls, takes no memory of its own but at most
+ * 64 KiB of the stack, and reads and writes nothing beside what is lent. What
+ * the lent buffers hold before the call is of no account; judge() sets each of
+ * their bytes.
  *
- * Overlap. The four buffers of judge() must not overlap: not the sheet with a
- * lent one, nor two lent ones. This is the one duty the library cannot check.
+ * The host's duties, which the library cannot check. Each pointer is valid for
+ * as many bytes as its length says, and NULL only where that is 0. The four
+ * buffers of judge() do not overlap: not the sheet with a lent one, nor two
+ * lent ones.
  *
- * Threads. Calls whose lent buffers are different ones may run side by side.
+ * Threads. Calls may run side by side. They may share a sheet in judge(), or an
+ * answer in lookup(), as long as nobody writes to it; each call of judge() has
+ * lent buffers of its own.
  */
 #ifndef TECUHUALMA_H
 #define TECUHUALMA_H
@@ -31,6 +37,9 @@ extern "C" {
 #endif
 
 #define TECUHUALMA_VERSION "0.1.0"
+#define TECUHUALMA_VERSION_MAJOR 0
+#define TECUHUALMA_VERSION_MINOR 1
+#define TECUHUALMA_VERSION_PATCH 0
 
 /* The limits of a sheet. */
 #define TECUHUALMA_MOST_PLACES 64
@@ -39,8 +48,9 @@ extern "C" {
 #define TECUHUALMA_MOST_LINES 64
 #define TECUHUALMA_MOST_ROADS 2016
 
-/* The words of the longest sheet that can be accepted. */
-#define TECUHUALMA_MOST_SHEET_WORDS 1052802
+/* The words of the longest sheet that can be accepted: head and end, two for
+ * each road, the samples, two for the first line and three for each other. */
+#define TECUHUALMA_MOST_SHEET_WORDS 1052801
 
 /* What to lend. The distance table has at least 4,096 entries, whatever the
  * number of places; the result has just 40 bytes. */
@@ -63,13 +73,19 @@ extern "C" {
 /* The five numbers of the result: the index of each, eight bytes apart. */
 enum tecuhualma_result {
     TECUHUALMA_NUMBER = 0, /* 0 on acceptance, else why the sheet is refused */
-    TECUHUALMA_PLACE = 1,  /* the index of the faulty word; 0 on acceptance */
+    TECUHUALMA_PLACE = 1,  /* where the fault is, see below; 0 on acceptance */
     TECUHUALMA_WORDS = 2,  /* the words of the answer, head to end */
     TECUHUALMA_ROUNDS = 3, /* the greatest rounds of a surround, 0 without one */
     TECUHUALMA_YES = 4     /* the count of yes verdicts */
 };
 
-/* The numbers. The first fault counts, front to back. */
+/*
+ * The numbers. The first fault counts, front to back.
+ *
+ * The place is the index of the faulty word, from 0. It is the sheet's length
+ * in words, where no word is to be read, if the word is missing, and with
+ * number 15; it is 0 with numbers 1 and 16, whatever the sheet holds.
+ */
 enum tecuhualma_number {
     TECUHUALMA_ACCEPTED = 0,
     TECUHUALMA_FEW_DISTANCES = 1,     /* under 4,096 entries lent */
@@ -117,10 +133,22 @@ uint64_t judge(const uint8_t *sheet, size_t sheet_len, uint8_t *distances, size_
 /*
  * Looks up the verdict of a line at a sample and a place: 1 yes, 2 no, 0 none.
  *
- * It is 0 exactly if the bytes are not a whole answer as judge() writes one
- * (with nothing but zeros behind its end), or if they are but line, sample or
- * place is not in it. A refused sheet's answer is all zero and has no verdict.
- * Every call reads the whole answer.
+ * It is 0 exactly if line, sample or place is not in the answer, or if the bytes
+ * are not a whole answer, which is to say:
+ *
+ *  - a multiple of 4 bytes, of which the words are, in this order,
+ *  - a head of kind 13: 1 to 64 places, 1 to 64 lines, 1 to 1,024 samples T;
+ *  - for each line a word of kind 14 whose payload is its length, 1 to T; then for
+ *    each sample of that length and each place a word of kind 9 with a margin of
+ *    0 or above, of kind 10 with one of 0 or below but not -2^27, or of kind 11
+ *    or 12 with a payload of 0;
+ *  - an end of kind 15 with the count of words before it;
+ *  - nothing but zeros.
+ *
+ * What judge() leaves of an accepted sheet is one; that of a refused sheet is all
+ * zero and has no verdict. An answer that somebody else laid out like this is
+ * looked up as well: the lookup does not know the sheet. Every call reads the
+ * whole answer.
  */
 uint64_t lookup(const uint8_t *answer, size_t answer_len, uint64_t line, uint64_t sample,
                 uint64_t place);

@@ -6,6 +6,8 @@ use crate::reached::Reached;
 use crate::{judging, laws, lookups, steadiness, Engine};
 use reference::generate::random::Random;
 use reference::generate::{aim, case, valid, Case};
+use reference::page;
+use reference::print::ANSWER_WORDS;
 
 /// Networks have at most so many places.
 const MOST_PLACES: usize = 64;
@@ -56,6 +58,20 @@ impl<'a> Comparison<'a> {
         }
         if seed.is_multiple_of(LARGEST_EVERY) {
             self.largest(&mut random)?;
+        }
+        Ok(())
+    }
+
+    /// The sheets of the page for newcomers. The implementation's own tests hold
+    /// the page to what it gives, so here it is enough to be the same.
+    pub fn page(&mut self) -> Checked {
+        let mut random = Random::new(0);
+        for label in page::SHEETS {
+            let case = Case::of(&page::words(label), ANSWER_WORDS);
+            self.judge(&mut random, &case)?;
+            if let Some(program) = &self.program {
+                program.compare(&case.sheet, &mut self.reached)?;
+            }
         }
         Ok(())
     }

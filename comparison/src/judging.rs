@@ -6,36 +6,12 @@ use crate::{Definitions, Engine, Filled, Implementation};
 use reference::answer::Answer;
 use reference::generate::random::Random;
 use reference::generate::Case;
-use reference::judge::{Outcome, BYTES_PER_DISTANCE, RESULT_BYTES};
-use reference::sheet::DISTANCE_ENTRIES;
+use reference::judge::BYTES_PER_DISTANCE;
+use reference::left::Left;
 use reference::words::{self, BYTES_PER_WORD};
 
 /// Up to so many places the definitions are asked as well.
 const MOST_TO_ENUMERATE: u32 = 6;
-
-/// Everything a judge leaves behind.
-pub struct Left {
-    /// The number given back.
-    pub number: u64,
-    /// The distance table's bytes.
-    pub distances: Vec<u8>,
-    /// The answer's bytes.
-    pub answer: Vec<u8>,
-    /// The result's bytes.
-    pub result: Vec<u8>,
-}
-
-impl Left {
-    /// The result, if 40 bytes were lent for it.
-    pub fn outcome(&self) -> Option<Outcome> {
-        Outcome::from_bytes(&self.result)
-    }
-
-    /// The answer, if it is a whole one.
-    pub fn whole_answer(&self) -> Option<Answer> {
-        Answer::read(&words::from_bytes(&self.answer)?)
-    }
-}
 
 /// What an engine leaves of a case in dirty buffers. It must write nothing
 /// beside what is lent, and nothing into the sheet.
@@ -109,15 +85,4 @@ pub fn answered(
         left.whole_answer().ok_or(Difference::new("the answer is not a whole one"))
     });
     whole.map_err(|difference| difference.on_case(&case))
-}
-
-/// A case of these words with so many answer words and everything else as it
-/// should be lent.
-pub fn case_of(words: &[u32], answer_words: usize) -> Case {
-    Case {
-        sheet: words::to_bytes(words),
-        distances: DISTANCE_ENTRIES * BYTES_PER_DISTANCE,
-        answer: answer_words * BYTES_PER_WORD,
-        result: RESULT_BYTES,
-    }
 }

@@ -3,7 +3,6 @@
 mod common;
 
 use common::*;
-use reference::answer::Answer;
 use reference::fast::Fast;
 use reference::generate::random::Random;
 use reference::generate::{self, answers, valid_case};
@@ -55,8 +54,8 @@ fn results_are_in_order() {
     for seed in 0..300 {
         let mut random = Random::new(seed);
         let left = judged_by::<Fast>(&valid_case(&mut random, 64));
-        let outcome = left.outcome();
-        let answer = Answer::read(&left.answer_words()).expect("a whole answer");
+        let outcome = outcome(&left);
+        let answer = left.whole_answer().expect("a whole answer");
         assert!(outcome.rounds <= answer.places as u64);
         let verdicts: Vec<_> = answer.lines.concat();
         let count = verdicts.iter().filter(|verdict| verdict.yes).count();
@@ -74,7 +73,7 @@ fn results_are_in_order() {
 fn lookups_find_their_word() {
     for seed in 0..200 {
         let left = judged_by::<Fast>(&valid_case(&mut Random::new(seed), 4));
-        let words = left.answer_words();
+        let words = answer_words(&left);
         let (places, lines) = (words[0] >> 20 & 0xFF, words[0] >> 12 & 0xFF);
         let mut index = 1;
         for line in 0..u64::from(lines) {

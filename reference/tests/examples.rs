@@ -5,6 +5,7 @@ mod common;
 use common::*;
 use reference::builder::SheetBuilder;
 use reference::fast::Fast;
+use reference::generate::Case;
 use reference::judge::Outcome;
 use reference::meaning::Meaning;
 use reference::print::print;
@@ -38,11 +39,11 @@ fn a_prints_its_rows() {
 
 #[test]
 fn a_leaves_answer_distances_and_result() {
-    let left = judged(&case(&EXAMPLE_A, 25));
+    let left = judged(&Case::of(&EXAMPLE_A, 25));
     assert_eq!(left.number, 0);
-    assert_eq!(left.answer_words()[..20], ANSWER_A);
-    assert_eq!(left.answer_words()[20..], [0; 5]);
-    let distances: Vec<u64> = (0..4).map(|index| left.distance(index)).collect();
+    assert_eq!(answer_words(&left)[..20], ANSWER_A);
+    assert_eq!(answer_words(&left)[20..], [0; 5]);
+    let distances = distances(&left, 4);
     assert_eq!(distances, [0, 3, 3, 0]);
     assert!(left.distances[32..].iter().all(|&byte| byte == 0));
     let mut result = [0; 40];
@@ -52,10 +53,10 @@ fn a_leaves_answer_distances_and_result() {
 
 #[test]
 fn a_with_19_answer_words_is_refused() {
-    let left = judged(&case(&EXAMPLE_A, 19));
+    let left = judged(&Case::of(&EXAMPLE_A, 19));
     assert_refused(&left);
-    assert_eq!((left.number, left.outcome().place), (15, 19));
-    assert_eq!(judged(&case(&EXAMPLE_A, 20)).number, 0);
+    assert_eq!((left.number, outcome(&left).place), (15, 19));
+    assert_eq!(judged(&Case::of(&EXAMPLE_A, 20)).number, 0);
 }
 
 #[test]
@@ -108,7 +109,7 @@ fn g_zero_is_yes_and_its_not_is_no() {
 fn h_takes_three_rounds() {
     let sheet = row_of_three([4, 4, 4], [9, -3, 9]).bounded(7, 0, 1, (1, 1));
     assert_eq!(last_line(&sheet.clone().end())[0], no(-3));
-    assert_eq!(judged_words(&sheet.end()).outcome().rounds, 3);
+    assert_eq!(outcome(&judged_words(&sheet.end())).rounds, 3);
 }
 
 #[test]
@@ -116,14 +117,14 @@ fn i_the_least_margin() {
     let sheet = SheetBuilder::new(1, 1, 1).samples(&[-67_108_864]);
     let words = sheet.at_least(0, 67_108_863).end();
     assert_eq!(last_line(&words), [no(-134_217_727)]);
-    assert_eq!(judged_words(&words).answer_words()[2], 0xA800_0001);
+    assert_eq!(answer_words(&judged_words(&words))[2], 0xA800_0001);
 }
 
 #[test]
 fn j_the_shortest_path() {
     let sheet = SheetBuilder::new(3, 1, 1).road(0, 1, 5).road(0, 2, 1);
     let left = judged_words(&sheet.road(1, 2, 1).samples(&[0; 3]).truth().end());
-    let distances: Vec<u64> = (0..10).map(|index| left.distance(index)).collect();
+    let distances = distances(&left, 10);
     assert_eq!(distances, [0, 2, 1, 2, 0, 1, 1, 1, 0, 0]);
 }
 
@@ -153,8 +154,8 @@ fn places_and_samples_at_their_limits() {
         sheet.truth().end()
     };
     let accepted = |words: u64, yes: u64| Outcome { words, yes, ..Outcome::default() };
-    assert_eq!(judged_words(&sheet(64, 1)).outcome(), accepted(67, 64));
+    assert_eq!(outcome(&judged_words(&sheet(64, 1))), accepted(67, 64));
     assert_eq!(refused(&sheet(65, 1)), (3, 0));
-    assert_eq!(judged_words(&sheet(1, 1024)).outcome(), accepted(1027, 1024));
+    assert_eq!(outcome(&judged_words(&sheet(1, 1024))), accepted(1027, 1024));
     assert_eq!(refused(&sheet(1, 1025)), (3, 0));
 }

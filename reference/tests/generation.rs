@@ -6,7 +6,7 @@ use common::*;
 use reference::answer::Answer;
 use reference::fast::Fast;
 use reference::generate::random::Random;
-use reference::generate::{aim, answers, case, limits, rounds, valid};
+use reference::generate::{aim, answers, case, limits, rounds, valid, Case};
 use reference::sheet::{check, DISTANCE_ENTRIES};
 
 #[test]
@@ -68,7 +68,7 @@ fn limits_are_reached() {
 fn the_largest_sheet_is_judged() {
     let words = valid::largest_sheet(&mut Random::new(1));
     assert!(words.len() > 16 * 64 * 1024);
-    let left = judged_by::<Fast>(&common::case(&words, 2 + 5 * (1 + 64 * 1024)));
+    let left = judged_by::<Fast>(&Case::of(&words, 2 + 5 * (1 + 64 * 1024)));
     assert_eq!(left.number, 0);
 }
 
@@ -77,8 +77,8 @@ fn rounds_are_as_many_as_places() {
     for seed in 0..40 {
         let words = rounds::wandering_margins(&mut Random::new(seed), 64);
         let sheet = check(&words, DISTANCE_ENTRIES).expect("a valid sheet");
-        let left = judged_by::<Fast>(&common::case(&words, 2 + 4 * (1 + 33 * 64)));
-        assert_eq!(left.outcome().rounds, sheet.head.places as u64, "seed {seed}");
+        let left = judged_by::<Fast>(&Case::of(&words, 2 + 4 * (1 + 33 * 64)));
+        assert_eq!(outcome(&left).rounds, sheet.head.places as u64, "seed {seed}");
     }
 }
 
@@ -88,10 +88,10 @@ fn verdicts_wander_where_margins_rest() {
     let mut few = 0;
     for seed in 0..40 {
         let words = rounds::wandering_verdicts(&mut Random::new(seed), 64);
-        let left = judged_by::<Fast>(&common::case(&words, 2 + 7 * (1 + 33 * 64)));
-        let answer = Answer::read(&left.answer_words()).expect("a whole answer");
+        let left = judged_by::<Fast>(&Case::of(&words, 2 + 7 * (1 + 33 * 64)));
+        let answer = left.whole_answer().expect("a whole answer");
         assert!(answer.lines[5].iter().all(|verdict| *verdict == no(0)), "seed {seed}");
-        few += u64::from(answer.places > 8 && left.outcome().rounds < 5);
+        few += u64::from(answer.places > 8 && outcome(&left).rounds < 5);
     }
     assert!(few > 5, "{few}");
 }
@@ -100,9 +100,9 @@ fn verdicts_wander_where_margins_rest() {
 fn answers_have_the_words_asked_for() {
     for answer_words in [16_000, 16_383, 16_384, 16_385, 16_400] {
         let words = limits::sheet_of_answer(&mut Random::new(1), answer_words);
-        let exact = judged_by::<Fast>(&common::case(&words, answer_words));
-        assert_eq!(exact.outcome().words, answer_words as u64);
-        let short = judged_by::<Fast>(&common::case(&words, answer_words - 1));
+        let exact = judged_by::<Fast>(&Case::of(&words, answer_words));
+        assert_eq!(outcome(&exact).words, answer_words as u64);
+        let short = judged_by::<Fast>(&Case::of(&words, answer_words - 1));
         assert_eq!(short.number, 15);
     }
 }
@@ -113,7 +113,7 @@ fn sheets_have_the_words_asked_for() {
         for words in [300, 301, 302, 8_191, 8_192, 8_193, 8_200] {
             let sheet = limits::sheet_of_words(&mut Random::new(seed), words);
             assert_eq!(sheet.len(), words);
-            assert_eq!(judged_by::<Fast>(&common::case(&sheet, 16_384)).number, 0);
+            assert_eq!(judged_by::<Fast>(&Case::of(&sheet, 16_384)).number, 0);
         }
     }
 }

@@ -14,7 +14,7 @@ fn lent(distances: usize, answer: usize, result: usize) -> Case {
 fn number_and_place(case: &Case) -> (u64, u64) {
     let left = judged(case);
     assert_refused(&left);
-    (left.number, left.outcome().place)
+    (left.number, outcome(&left).place)
 }
 
 #[test]
@@ -34,7 +34,7 @@ fn number_1_under_4096_distances() {
 fn a_longer_distance_table_ends_in_zeros() {
     let left = judged(&lent(5000 * 8, 80, 40));
     assert_eq!(left.number, 0);
-    assert_eq!(left.distance(1), 3);
+    assert_eq!(left.distance(1), Some(3));
     assert!(left.distances[32..].iter().all(|&byte| byte == 0));
 }
 

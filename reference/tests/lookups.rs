@@ -3,12 +3,13 @@
 mod common;
 
 use common::*;
+use reference::generate::Case;
 use reference::lookup::lookup;
 use reference::words;
 
 /// The answer to example A with five zero words after its end.
 fn answer() -> Vec<u32> {
-    judged(&case(&EXAMPLE_A, 25)).answer_words()
+    answer_words(&judged(&Case::of(&EXAMPLE_A, 25)))
 }
 
 fn look(words: &[u32], line: u64, sample: u64, place: u64) -> u64 {

@@ -4,24 +4,9 @@ mod common;
 
 use common::*;
 use reference::fast::Fast;
+use reference::page;
 use reference::print::print;
 use reference::words;
-
-const PAGE: &str = include_str!("../../docs/SHEETS.md");
-
-/// The rows of the page's block that is fenced off with this label.
-fn block(label: &str) -> Vec<&'static str> {
-    let rows = PAGE.lines().skip_while(|row| *row != format!("```{label}")).skip(1);
-    let block: Vec<&str> = rows.take_while(|row| *row != "```").collect();
-    assert!(!block.is_empty(), "no block {label}");
-    block
-}
-
-/// The words that a block's rows begin with.
-fn block_words(label: &str) -> Vec<u32> {
-    let word = |row: &&str| u32::from_str_radix(&row[..8], 16).expect("eight hex digits");
-    block(label).iter().map(word).collect()
-}
 
 fn printed(words: &[u32]) -> String {
     print::<Fast>(&words::to_bytes(words))
@@ -29,24 +14,39 @@ fn printed(words: &[u32]) -> String {
 
 #[test]
 fn example_a() {
-    let sheet = block_words("words a-sheet");
+    let sheet = page::words("words a-sheet");
     assert_eq!(sheet, EXAMPLE_A);
-    let answer = block_words("words a-answer");
-    assert_eq!(judged_words(&sheet).answer_words()[..answer.len()], answer);
-    assert_eq!(judged_words(&sheet).outcome().words, answer.len() as u64);
-    assert_eq!(printed(&sheet), block("rows a-printed").join("\n") + "\n");
+    let answer = page::words("words a-answer");
+    assert_eq!(answer_words(&judged_words(&sheet))[..answer.len()], answer);
+    assert_eq!(outcome(&judged_words(&sheet)).words, answer.len() as u64);
+    assert_eq!(printed(&sheet), page::block("rows a-printed").join("\n") + "\n");
+}
+
+/// The file that is handed to the printing program in a first try.
+#[test]
+fn example_a_as_a_file() {
+    let file = include_bytes!("../examples/a.sheet");
+    assert_eq!(file[..], words::to_bytes(&EXAMPLE_A));
 }
 
 #[test]
 fn the_worked_network() {
-    let sheet = block_words("words network-sheet");
-    assert_eq!(printed(&sheet), block("rows network-printed").join("\n") + "\n");
+    let sheet = page::words("words network-sheet");
+    assert_eq!(printed(&sheet), page::block("rows network-printed").join("\n") + "\n");
+}
+
+/// Every block of words that is a sheet is among those that others try too.
+#[test]
+fn all_sheets_are_listed() {
+    let labels = page::rows().filter_map(|row| row.strip_prefix("```"));
+    let sheets = labels.filter(|label| label.ends_with("-sheet"));
+    assert_eq!(sheets.collect::<Vec<_>>(), page::SHEETS);
 }
 
 /// Every row of the page's table of refusals, and no other.
 #[test]
 fn every_refusal_has_its_row() {
-    let rows = PAGE.lines().skip_while(|row| !row.starts_with("| No. |")).skip(2);
+    let rows = page::rows().skip_while(|row| !row.starts_with("| No. |")).skip(2);
     let numbers = rows.map_while(|row| row.split('|').nth(1)?.trim().parse::<u64>().ok());
     assert_eq!(numbers.collect::<Vec<_>>(), (1..=16).collect::<Vec<_>>());
 }

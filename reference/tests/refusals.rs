@@ -17,7 +17,7 @@
 
 mod common;
 
-use common::{judged_words, refused};
+use common::{judged_words, outcome, refused};
 use reference::builder::SheetBuilder;
 use reference::words::{kinds, word};
 
@@ -186,7 +186,7 @@ fn number_10_a_65th_line() {
         let sheet = SheetBuilder::new(1, 1, 1).samples(&[0]);
         (0..count).fold(sheet, |sheet, _| sheet.truth())
     };
-    assert_eq!(judged_words(&lines(64).end()).outcome().yes, 64);
+    assert_eq!(outcome(&judged_words(&lines(64).end())).yes, 64);
     assert_eq!(refused(&lines(65).end()), (10, 66));
     assert_eq!(refused(&lines(65).words()), (10, 66));
     // Whatever else is wrong with the 65th.

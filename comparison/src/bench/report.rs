@@ -19,22 +19,22 @@ pub fn print(engine: &dyn Engine) {
 
 fn by_samples(engine: &dyn Engine) {
     section("By samples: 8×8 grid, every code");
-    for samples in [8, 16, 64, 256, 1024] {
-        row(engine, &format!("{samples} samples"), &sheets::grid(8, samples));
+    for samples in [1, 8, 16, 64, 256, 1024] {
+        row(engine, &format!("samples: {samples}"), &sheets::grid(8, samples));
     }
 }
 
 fn by_places(engine: &dyn Engine) {
     section("By places: square grids, every code, 256 samples");
     for side in [2, 3, 4, 5, 6, 7, 8] {
-        row(engine, &format!("{} places", side * side), &sheets::grid(side, 256));
+        row(engine, &format!("places: {}", side * side), &sheets::grid(side, 256));
     }
 }
 
 fn by_lines(engine: &dyn Engine) {
     section("By lines: 6×6 grid, 256 samples");
     for lines in [8, 16, 32, 64] {
-        row(engine, &format!("{lines} lines"), &sheets::grid_of_lines(lines));
+        row(engine, &format!("lines: {lines}"), &sheets::grid_of_lines(lines));
     }
 }
 
@@ -54,7 +54,7 @@ fn by_ranges(engine: &dyn Engine) {
 
 fn section(title: &str) {
     println!("\n{title}");
-    println!("{:28}{:>8}{:>12}{:>16}{:>8}", "", "rounds", "engine", "implementation", "ratio");
+    println!("{:28}{:>8}{:>12}{:>16}{:>8}", "", "rounds", "engine", "implementation", "share");
 }
 
 fn row(engine: &dyn Engine, name: &str, words: &[u32]) {
@@ -65,6 +65,6 @@ fn row(engine: &dyn Engine, name: &str, words: &[u32]) {
         "{name:28}{rounds:>8}{:>12}{:>16}{:>8.2}",
         milliseconds(engine),
         milliseconds(implementation),
-        times.ratio()
+        times.share()
     );
 }

@@ -56,13 +56,15 @@ fn drifting(side: u32, samples: u32, random: &mut Random) -> Vec<i32> {
 /// Every code once, and two surrounds more with other bounds.
 fn every_code(sheet: SheetBuilder, samples: u32) -> SheetBuilder {
     let ahead = 20.min(samples / 4);
+    // Of few samples no line can look at another than its own.
+    let next = ahead.min(1);
     sheet
         .truth()
         .at_least(0, -20)
         .at_most(1, 10)
         .line(3, 1, 0)
         .line(4, 1, 2)
-        .bounded(5, 1, 2, (1, ahead))
+        .bounded(5, 1, 2, (next, ahead))
         .bounded(6, 4, 0, (1, 5))
         .bounded(7, 1, 2, (0, 6))
         .line(8, 3, 2)

@@ -20,9 +20,15 @@ fn the_grid_has_every_code() {
 }
 
 #[test]
+fn a_grid_may_have_one_sample() {
+    let sheet = checked(&sheets::grid(8, 1));
+    assert!(sheet.lines.iter().all(|line| line.length == 1));
+}
+
+#[test]
 fn the_path_takes_64_rounds() {
     let words = sheets::path();
-    let case = crate::judging::case_of(&words, 2 + 3 * (1 + 64 * 1024));
+    let case = reference::generate::Case::of(&words, 2 + 3 * (1 + 64 * 1024));
     let (mut distances, mut answer) = (vec![0; case.distances], vec![0; case.answer]);
     let mut result = vec![0; case.result];
     reference::judge::<Fast>(&case.sheet, &mut distances, &mut answer, &mut result);

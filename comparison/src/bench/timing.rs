@@ -1,7 +1,7 @@
 //! How long an engine takes.
 
-use crate::judging::case_of;
 use crate::{Engine, Filled, Implementation};
+use reference::generate::Case;
 use reference::sheet::{check, DISTANCE_ENTRIES};
 use std::time::{Duration, Instant};
 
@@ -21,9 +21,9 @@ pub struct Times {
 }
 
 impl Times {
-    /// How many times as fast as the implementation the engine is.
-    pub fn ratio(&self) -> f64 {
-        self.implementation.as_secs_f64() / self.engine.as_secs_f64()
+    /// The engine's time as a share of the implementation's.
+    pub fn share(&self) -> f64 {
+        self.engine.as_secs_f64() / self.implementation.as_secs_f64()
     }
 }
 
@@ -42,7 +42,7 @@ struct Buffers {
 /// If the sheet is not valid, or if the engines do not agree on it.
 pub fn timed(engine: &dyn Engine, words: &[u32]) -> Times {
     let sheet = check(words, DISTANCE_ENTRIES).expect("a valid sheet");
-    let case = case_of(words, reference::answer::needed(&sheet));
+    let case = Case::of(words, reference::answer::needed(&sheet));
     let mut buffers = Buffers {
         distances: vec![0; case.distances],
         answer: vec![0; case.answer],

@@ -1,5 +1,6 @@
 //! The benchmarks: the engine's library against the reference implementation's
-//! fast path. A ratio above 1 says that the library is faster.
+//! fast path. The last column is the engine's share, its time divided by the
+//! implementation's: below 1 the engine is faster.
 
 #[path = "../library.rs"]
 mod library;

@@ -34,9 +34,15 @@ fn main() -> ExitCode {
         println!("no printing program given: not compared");
     }
     let mut comparison = Comparison::new(&Library, program);
+    if let Err(difference) = comparison.page() {
+        println!("comparison: a sheet of docs/SHEETS.md");
+        tell(&difference);
+        return ExitCode::FAILURE;
+    }
     for seed in first..first + count {
         if let Err(difference) = comparison.seed(seed) {
-            tell(seed, seed - first, &difference);
+            println!("comparison: seed {seed}, after {} without a difference", seed - first);
+            tell(&difference);
             return ExitCode::FAILURE;
         }
     }
@@ -48,18 +54,17 @@ fn end(comparison: &Comparison, count: u64) -> ExitCode {
     print!("{}", comparison.reached.rows());
     let missed = comparison.reached.missed();
     if !missed.is_empty() {
-        println!("comparison: {count} seeds, but never reached: {}", missed.join("; "));
-        if count >= FEWEST_TO_REACH_ALL {
-            return ExitCode::FAILURE;
-        }
+        println!("comparison: {count} seeds never reached: {}", missed.join("; "));
+    }
+    if !missed.is_empty() && count >= FEWEST_TO_REACH_ALL {
+        return ExitCode::FAILURE;
     }
     println!("comparison: {count} seeds, no difference");
     ExitCode::SUCCESS
 }
 
 /// Prints a difference and the bytes on which it was found.
-fn tell(seed: u64, before: u64, difference: &Difference) {
-    println!("comparison: seed {seed}, after {before} without a difference");
+fn tell(difference: &Difference) {
     println!("{}", difference.what);
     for (name, bytes) in &difference.found_on {
         println!("{name}: {} bytes", bytes.len());

@@ -1,9 +1,9 @@
 //! What an accepted sheet and its answer show.
 
-use crate::judging::Left;
 use reference::distance::NO_DISTANCE;
 use reference::generate::Case;
 use reference::judge::BYTES_PER_DISTANCE;
+use reference::left::Left;
 use reference::print::MOST_BYTES;
 use reference::sheet::{self, Line, Operator, Sheet, DISTANCE_ENTRIES, GREATEST_WEIGHT, LAST_CODE};
 use reference::sheet::{MOST_LINES, MOST_PLACES, MOST_SAMPLES, MOST_SIGNALS};

@@ -6,10 +6,10 @@ mod accepted;
 mod refused;
 mod setting;
 
-use crate::judging::Left;
 use crate::laws::LAWS;
 use crate::lookups;
 use reference::generate::Case;
+use reference::left::Left;
 use reference::words;
 use std::collections::HashMap;
 

@@ -33,6 +33,16 @@ pub struct Case {
 }
 
 impl Case {
+    /// A sheet with so many answer words and everything else as it should be lent.
+    pub fn of(words: &[u32], answer_words: usize) -> Self {
+        Case {
+            sheet: words::to_bytes(words),
+            distances: DISTANCE_ENTRIES * BYTES_PER_DISTANCE,
+            answer: answer_words * BYTES_PER_WORD,
+            result: RESULT_BYTES,
+        }
+    }
+
     /// A sheet with enough lent beside it: the whole distance table, an answer
     /// of at least what is needed, and the 40 bytes of the result.
     pub fn lend(random: &mut Random, words: &[u32]) -> Self {
@@ -42,12 +52,7 @@ impl Case {
         };
         let spare = random.pick(&[0, 0, 1, 2, 17]);
         let entries = DISTANCE_ENTRIES + random.pick(&[0, 0, 0, 1, 100]);
-        Case {
-            sheet: words::to_bytes(words),
-            distances: entries * BYTES_PER_DISTANCE,
-            answer: (needed + spare) * BYTES_PER_WORD,
-            result: RESULT_BYTES,
-        }
+        Case { distances: entries * BYTES_PER_DISTANCE, ..Case::of(words, needed + spare) }
     }
 }
 

@@ -7,32 +7,23 @@ use reference::evaluation::Evaluation;
 use reference::fast::Fast;
 use reference::generate::Case;
 use reference::judge::{judge, Outcome};
+use reference::left::Left;
 use reference::margin::{Margin, Verdict};
 use reference::meaning::Meaning;
-use reference::words;
 
-/// Everything a judge leaves behind.
-#[derive(Clone, Debug, PartialEq, Eq)]
-pub struct Left {
-    pub number: u64,
-    pub distances: Vec<u8>,
-    pub answer: Vec<u8>,
-    pub result: Vec<u8>,
+/// The result of a call for which 40 bytes were lent.
+pub fn outcome(left: &Left) -> Outcome {
+    left.outcome().expect("40 bytes were lent")
 }
 
-impl Left {
-    pub fn outcome(&self) -> Outcome {
-        Outcome::from_bytes(&self.result).expect("40 bytes were lent")
-    }
+/// The answer's words of a call for which whole ones were lent.
+pub fn answer_words(left: &Left) -> Vec<u32> {
+    left.answer_words().expect("whole words were lent")
+}
 
-    pub fn answer_words(&self) -> Vec<u32> {
-        words::from_bytes(&self.answer).expect("whole words were lent")
-    }
-
-    pub fn distance(&self, index: usize) -> u64 {
-        let entry = &self.distances[8 * index..8 * index + 8];
-        u64::from_le_bytes(entry.try_into().expect("eight bytes"))
-    }
+/// The first entries of the distance table.
+pub fn distances(left: &Left, count: usize) -> Vec<u64> {
+    (0..count).map(|index| left.distance(index).expect("a distance")).collect()
 }
 
 /// Judges a case in buffers that are not clean.
@@ -51,26 +42,16 @@ pub fn judged(case: &Case) -> Left {
     left
 }
 
-/// A case of words with the whole distance table and so many answer words.
-pub fn case(words: &[u32], answer_words: usize) -> Case {
-    Case {
-        sheet: words::to_bytes(words),
-        distances: 4096 * 8,
-        answer: answer_words * 4,
-        result: 40,
-    }
-}
-
 /// What judging words leaves, with plenty lent.
 pub fn judged_words(words: &[u32]) -> Left {
-    judged(&case(words, 16_384))
+    judged(&Case::of(words, 16_384))
 }
 
 /// The number and place that words are refused with; all else must be zero.
 pub fn refused(words: &[u32]) -> (u64, u64) {
     let left = judged_words(words);
     assert_refused(&left);
-    let outcome = left.outcome();
+    let outcome = outcome(&left);
     assert_eq!(left.number, outcome.number);
     (outcome.number, outcome.place)
 }
@@ -83,8 +64,8 @@ pub fn assert_refused(left: &Left) {
     assert!(left.answer.iter().all(|&byte| byte == 0));
     if left.result.len() == 40 {
         let expected =
-            Outcome { number: left.number, place: left.outcome().place, ..Outcome::default() };
-        assert_eq!(left.outcome(), expected);
+            Outcome { number: left.number, place: outcome(left).place, ..Outcome::default() };
+        assert_eq!(outcome(left), expected);
     } else {
         assert!(left.result.iter().all(|&byte| byte == 0));
     }
@@ -94,8 +75,7 @@ pub fn assert_refused(left: &Left) {
 pub fn last_line(words: &[u32]) -> Vec<Verdict> {
     let left = judged_words(words);
     assert_eq!(left.number, 0);
-    let answer = reference::answer::Answer::read(&left.answer_words());
-    answer.expect("a whole answer").lines.pop().expect("a line")
+    left.whole_answer().expect("a whole answer").lines.pop().expect("a line")
 }
 
 pub fn yes(number: i64) -> Verdict {
