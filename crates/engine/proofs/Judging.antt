@@ -4,10 +4,8 @@ use mathlib.Core.Bool.{Bool, cond}
 use mathlib.Core.List.{List}
 use Prim.Native.Nat.{ℕ, _<_, _≤_}
 use lib.Dec.{leb}
-use lib.ListN.{length, replicate}
+use lib.ListN.{length}
 use borrow.Author.Tests.{le-leb, lt-leb}
-use Rattle.words.specs.Bytes.{wordsOf}
-use Rattle.words.proofs.Words.{length-words, words-zeros}
 use Rattle.sheet.specs.declared.check.Layout as Code
 use Rattle.sheet.specs.Checked.{accepted, refused}
 use Rattle.sheet.specs.Layout.{Layout, checked}
@@ -17,10 +15,6 @@ use Rattle.sheet.proofs.Checks.{mapped-accepted, mapped-refused}
 use Rattle.verdicts.specs.Answer.{wordsNeeded}
 use Rattle.verdicts.specs.Judged.{refusal, answered, judgedBy, judged}
 use Rattle.engine.specs.Lines.{foundBy, found, Accepting}
-
--- bytes that are all zero hold zero words
-pub zero-words : (b : List ℕ) → wordsOf (replicate (length b) 0) ≡ replicate (length (wordsOf b)) 0
-zero-words b = words-zeros (length b) ∙ ap (λ k. replicate k 0) (sym (length-words b))
 
 accepting-here : (s distances : List ℕ) (layout : Code.Layout) → mapped layoutOf (checked s (length distances)) ≡ accepted layout
     → distances ≡ surveyed s (length distances) → Accepting s layout distances

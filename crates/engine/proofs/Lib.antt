@@ -7,6 +7,5 @@ pub mod LineMeant
 pub mod LinesDone
 pub mod Sizes
 pub mod WholeWriting
-pub mod PastWords
 pub mod Judging
 pub mod Calls

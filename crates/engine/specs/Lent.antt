@@ -1,16 +1,12 @@
 -- What is found, needed, answered and judged, of the bytes that a call is lent: of the distances and the answer only how many there are counts.
 use mathlib.Core.List.{List}
-use Prim.Native.Nat.{ℕ, _*_}
-use lib.ListN.{length, drop}
+use Prim.Native.Nat.{ℕ}
+use lib.ListN.{length}
 use Rattle.words.specs.Bytes.{wordsOf, numbersOf}
 use Rattle.sheet.specs.Layout.{Layout}
 use Rattle.verdicts.specs.Answer.{wordsNeeded}
 use Rattle.verdicts.specs.Judged.{Judged, answered, judged}
 use Rattle.engine.specs.Lines.{found}
-
--- the bytes past the last whole word: none, where their count is a multiple of 4
-abbrev pub pastWords : List ℕ → List ℕ
-pastWords bytes = drop (length (wordsOf bytes) * 4) bytes
 
 module _ (sheet distances : List ℕ) where
   abbrev pub foundIn : Layout

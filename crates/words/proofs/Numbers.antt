@@ -79,7 +79,7 @@ bytes-append a b k h =
     ap numbersOf (words-append a b (k * 2) (omega arith))
     ∙ numbers-append (wordsOf a) (wordsOf b) k (omega (arith, words-count a))
 
-bytes-zeros : (k : ℕ) → numbersOf (wordsOf (replicate k 0)) ≡ replicate (k / 8) 0
+pub bytes-zeros : (k : ℕ) → numbersOf (wordsOf (replicate k 0)) ≡ replicate (k / 8) 0
 bytes-zeros k =
     let e : k / 4 / 2 ≡ k / 8 = omega arith in
     ap numbersOf (words-zeros k) ∙ numbers-zeros (k / 4) ∙ ap (λ (j : ℕ). replicate j 0) e

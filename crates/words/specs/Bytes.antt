@@ -20,7 +20,10 @@ numbersOf [] = []
 numbersOf (a ∷ []) = []
 numbersOf (a ∷ b ∷ rest) = (a + b * 2 ^ 32) ∷ numbersOf rest
 
--- the bytes past the last whole number
+-- the bytes past the last whole word, and past the last whole number
+abbrev pub afterWords : List ℕ → List ℕ
+afterWords b = drop (length (wordsOf b) * 4) b
+
 abbrev pub afterNumbers : List ℕ → List ℕ
 afterNumbers b = drop (length (numbersOf (wordsOf b)) * 8) b
 

@@ -1,20 +1,20 @@
 -- The survey's outcome decides: a refusal leaves zeros, and so does an answer that has no room; all else is written.
-use mathlib.Core.Path.{_≡_, sym, ap, _∙_}
+use mathlib.Core.Path.{_≡_, refl, sym, ap, _∙_}
 use Prim.Native.Nat.{ℕ, _<_, _≤_}
 use native.Mathlib.Omega.{arith}
 use lib.ListN.{length}
 use borrow.Author.Needs.{needs}
 use Rattle.words.specs.Bytes.{wordsOf, numbersOf}
 use Rattle.words.proofs.Numbers.{same-count}
+use Rattle.words.proofs.Zeros.{zero-words, zero-numbers, zero-words-tail, zero-numbers-tail}
 use Rattle.sheet.specs.Faults.{faultNumber}
 use Rattle.sheet.specs.Checking.{checkSaid}
-use Rattle.sheet.proofs.Surveys.{refusing, zero-numbers}
+use Rattle.sheet.proofs.Surveys.{refusing}
 use Rattle.verdicts.specs.Judged.{Result, Judged, answered, judged}
 use Rattle.engine.specs.Lines.{Accepting}
 use Rattle.engine.specs.Lent.{neededIn}
 use Rattle.engine.specs.Result.{resultSaid}
-use Rattle.engine.proofs.Judging.{zero-words, accepting, judged-refused, judged-answered, judged-short}
-use Rattle.engine.proofs.PastWords.{all-zeros}
+use Rattle.engine.proofs.Judging.{accepting, judged-refused, judged-answered, judged-short}
 use Rattle.engine.proofs.judge.Statement.{statement}
 use Rattle.engine.proofs.judge.Tie as tie
 
@@ -91,7 +91,7 @@ returns c =
       ap resultSaid (c .refusal2 .ensures) ∙ ap (told 15) (c .before .word-count2 .ensures) ∙ ap (λ (j : Judged). j .result) left,
       (
         ap wordsOf (c .before .before .before .before .fill-zero3 .ensures) ∙ zero-words (g .answer .now) ∙ ap (λ (j : Judged). j .answer) left,
-        (ap (λ b. numbersOf (wordsOf b)) (c .before .before .before .before .before .before .before .before .fill-zero2 .ensures) ∙ zero-numbers (c .before .before .before .before .before .before .before .before .before .before .before .before .before .before .before .before .before .before .before .before .survey .last .1 .0) ∙ ap (λ (j : Judged). j .distances) left, all-zeros _ (length (g .answer .now)) (c .before .before .before .before .fill-zero3 .ensures)),
+        (ap (λ b. numbersOf (wordsOf b)) (c .before .before .before .before .before .before .before .before .fill-zero2 .ensures) ∙ zero-numbers (c .before .before .before .before .before .before .before .before .before .before .before .before .before .before .before .before .before .before .before .before .survey .last .1 .0) ∙ ap (λ (j : Judged). j .distances) left, (zero-words-tail (g .answer .now) _ (length (g .answer .now)) refl (c .before .before .before .before .fill-zero3 .ensures), zero-numbers-tail (g .distances .now) _ _ (c .before .before .before .before .before .before .before .before .before .before .before .before .before .before .before .before .before .before .before .before .survey .kept .1 .0) (c .before .before .before .before .before .before .before .before .fill-zero2 .ensures))),
       ),
     )
 
@@ -118,7 +118,7 @@ returns-2 c =
       ap resultSaid (c .refusal .ensures) ∙ ap (λ n. told n (fault .0 .1 .0)) (c .before .number .ensures) ∙ ap (λ (j : Judged). j .result) left,
       (
         ap wordsOf (c .before .before .before .before .fill-zero .ensures) ∙ zero-words (g .answer .now) ∙ ap (λ (j : Judged). j .answer) left,
-        (c .before .before .before .before .before .before .before .before .before .before .before .survey .ensures .1 .0 ∙ refusing s room (faultNumber (fault .0 .0)) (fault .0 .1 .0) (sym (c .before .before .before .before .before .before .before .before .before .before .before .survey .ensures .0) ∙ ap checkSaid (fault .1)) ∙ ap (λ (j : Judged). j .distances) left, all-zeros _ (length (g .answer .now)) (c .before .before .before .before .fill-zero .ensures)),
+        (c .before .before .before .before .before .before .before .before .before .before .before .survey .ensures .1 .0 ∙ refusing s room (faultNumber (fault .0 .0)) (fault .0 .1 .0) (sym (c .before .before .before .before .before .before .before .before .before .before .before .survey .ensures .0) ∙ ap checkSaid (fault .1)) ∙ ap (λ (j : Judged). j .distances) left, (zero-words-tail (g .answer .now) _ (length (g .answer .now)) refl (c .before .before .before .before .fill-zero .ensures), c .before .before .before .before .before .before .before .before .before .before .before .survey .ensures .1 .1)),
       ),
     )
 
@@ -139,7 +139,7 @@ returns-3 c =
       c .before .before .answer-sheet .ensures .0 ∙ ap (λ (j : Judged). j .result) left,
       (
         c .before .before .answer-sheet .ensures .1 .0 ∙ ap (λ (j : Judged). j .answer) left,
-        (here .measured ∙ ap (λ (j : Judged). j .distances) left, c .before .before .answer-sheet .ensures .1 .1),
+        (here .measured ∙ ap (λ (j : Judged). j .distances) left, (c .before .before .answer-sheet .ensures .1 .1, c .before .before .before .before .before .before .before .before .before .before .before .before .before .before .before .survey .ensures .1 .1)),
       ),
     )
 

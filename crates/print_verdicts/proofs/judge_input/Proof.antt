@@ -6,9 +6,9 @@ use native.Mathlib.Omega.{arith}
 use lib.ListN.{length, replicate}
 use borrow.Author.Tests.{not-true, not-false}
 use Rattle.words.specs.Bytes.{wordsOf, numbersOf}
-use Rattle.words.proofs.Words.{length-words, words-zeros}
+use Rattle.words.proofs.Words.{length-words}
+use Rattle.words.proofs.Zeros.{zero-words, zero-numbers}
 use Rattle.words.proofs.Numbers.{length-numbers}
-use Rattle.sheet.proofs.Surveys.{zero-numbers}
 use Rattle.engine.specs.Result.{resultSaid}
 use Rattle.host.specs.Host.{programDistances, programWords, programJudged}
 use borrow.Author.Needs.{needs}
@@ -48,7 +48,7 @@ returns c =
     let count = counts start in
     let not-taken = sym (c .before .before .before .before .before .before .before .before .before .before .input-taken .ensures) ∙ not-true _ (c .before .before .before .before .before .before .before .before .before .if1 .taken) in
     let distances = ap (λ (b : List ℕ). numbersOf (wordsOf b)) (c .before .before .before .before .before .before .before .fill-zero .ensures) ∙ zero-numbers D in
-    let answer = ap wordsOf (c .before .before .before .fill-zero2 .ensures) ∙ words-zeros (length A) ∙ ap zeros (sym (length-words A)) in
+    let answer = ap wordsOf (c .before .before .before .fill-zero2 .ensures) ∙ zero-words A in
     rw not-taken (ap resultSaid (c .refusal .ensures), (answer ∙ ap zeros (count .1), distances ∙ ap zeros (count .0)))
 
 judge-requires : tie.Need-judge-requires

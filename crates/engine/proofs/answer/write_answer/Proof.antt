@@ -10,13 +10,13 @@ use Rattle.words.specs.Word.{wordOf}
 use Rattle.words.specs.Rows.{concat, put}
 use Rattle.words.proofs.Parts.{tail-list, tail-back}
 use Rattle.words.proofs.Words.{words-count}
+use Rattle.words.proofs.Zeros.{cleared-words-tail}
 use Rattle.sheet.specs.Layout.{Layout}
 use Rattle.sheet.specs.Roads.{network, recording}
 use Rattle.verdicts.specs.Answer.{lineIndex, wordsNeeded, lineWords, headWord, answerWords}
 use Rattle.engine.specs.Lent.{foundIn}
 use Rattle.engine.proofs.Sizes.{lines-end, limits, end-bound}
 use Rattle.engine.proofs.WholeWriting.{three-parts, zeros-behind}
-use Rattle.engine.proofs.PastWords.{zeros-from}
 use Rattle.engine.proofs.answer.write_answer.Statement.{statement}
 use Rattle.engine.proofs.answer.write_answer.Tie as tie
 
@@ -134,7 +134,7 @@ returns c =
         greatest = lines .ensures .greatest;
         counted = lines .ensures .counted;
       },
-      zeros-from _ bytes k _ long fits cleared,
+      cleared-words-tail (start .args .answer .now) bytes _ (k * 4) long (omega (arith, room start, ends (c .before .before .before .before .before .before .before .before))) cleared,
     )
 
 pub write-answer-spec : {M : Type 1} → statement M

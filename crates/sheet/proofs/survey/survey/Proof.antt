@@ -1,14 +1,15 @@
 -- `survey` meets its contract: the check's outcome decides what is left in the table.
-use Prim.Native.Nat.{ℕ, _-_, _*_, zero-le}
-use mathlib.Core.Path.{_≡_, sym, ap, _∙_}
+use Prim.Native.Nat.{ℕ, _*_}
+use mathlib.Core.Path.{_≡_, refl, sym, ap, _∙_}
 use native.Mathlib.Omega.{arith}
-use lib.ListN.{length, replicate}
+use lib.ListN.{length}
 use borrow.Author.Needs.{needs}
 use Rattle.words.specs.Bytes.{wordsOf, numbersOf}
+use Rattle.words.proofs.Zeros.{zero-numbers, numbers-tail, zero-numbers-tail}
 use Rattle.sheet.specs.Faults.{faultNumber}
 use Rattle.sheet.specs.Layout.{checked}
 use Rattle.sheet.specs.Checking.{checkSaid, mapped, layoutOf}
-use Rattle.sheet.proofs.Surveys.{accepting, refusing, zero-numbers, tail-zero}
+use Rattle.sheet.proofs.Surveys.{accepting, refusing}
 use Rattle.sheet.proofs.survey.survey.Statement.{statement}
 use Rattle.sheet.proofs.survey.survey.Tie as tie
 
@@ -42,9 +43,6 @@ fill-distances-requires c κs =
 same-length : tie.Need-same-length
 same-length c = search needs
 
-all : (n : ℕ) → n ≡ n - 0
-all n = omega arith
-
 returns : tie.Need-returns
 returns c =
     let check = c .before .before .before .before .before .before .before in
@@ -55,7 +53,7 @@ returns c =
     let fill = c .before .before .fill-zero in
     let left = ap (λ b. numbersOf (wordsOf b)) (fill .ensures) ∙ zero-numbers table
     ∙ sym (refusing (wordsOf (g .s .now)) (length (numbersOf (wordsOf table))) (faultNumber (fault .0 .0)) (fault .0 .1 .0) (sym said)) in
-    let tail = tail-zero table (fill .last .0) 0 zero-le (fill .kept .0) (fill .ensures ∙ ap (λ (k : ℕ). replicate k 0) (all (length table))) in
+    let tail = zero-numbers-tail table (fill .last .0) (length table) refl (fill .ensures) in
     (said, (left, tail))
 
 same-length-2 : tie.Need-same-length-2
@@ -70,7 +68,7 @@ returns-2 c =
     let found = accepting (wordsOf (g .s .now)) (length (numbersOf (wordsOf (g .distances .now)))) (layout .0 .0) (sym said) in
     let fill = c .before .before .fill-distances in
     let end = layout .0 .0 .places * layout .0 .0 .places * 8 in
-    let tail = tail-zero (g .distances .now) (fill .last .1 .1 .1 .0) end (omega (arith, found .roads .1)) (fill .kept .1 .1 .1 .0) (fill .ensures .1) in
+    let tail = numbers-tail (g .distances .now) (fill .last .1 .1 .1 .0) end (fill .kept .1 .1 .1 .0) (fill .ensures .1) (omega (arith, found .roads .1)) in
     (said, (fill .ensures .0 ∙ sym (found .left), tail))
 
 pub survey-spec : {M : Type 1} → statement M
