@@ -7,6 +7,6 @@ pub mod LineMeant
 pub mod LinesDone
 pub mod Sizes
 pub mod WholeWriting
-pub mod PastWords
+pub mod AfterWords
 pub mod Judging
 pub mod Calls

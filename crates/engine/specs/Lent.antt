@@ -9,8 +9,8 @@ use Rattle.verdicts.specs.Judged.{Judged, answered, judged}
 use Rattle.engine.specs.Lines.{found}
 
 -- the bytes past the last whole word: none, where their count is a multiple of 4
-abbrev pub pastWords : List ℕ → List ℕ
-pastWords bytes = drop (length (wordsOf bytes) * 4) bytes
+abbrev pub afterWords : List ℕ → List ℕ
+afterWords bytes = drop (length (wordsOf bytes) * 4) bytes
 
 module _ (sheet distances : List ℕ) where
   abbrev pub foundIn : Layout

@@ -3,13 +3,13 @@ use crate::lines::Written;
 use crate::lines::write_lines;
 use sheet::check::Layout;
 ghost use mathlib.Core.Path.{_≡_};
-ghost use Prim.Native.Nat.{_+_, _*_, _%_, _^_, _≤_};
+ghost use Prim.Native.Nat.{_+_, _*_, _^_, _≤_};
 ghost use lib.ListN.{length, replicate};
 ghost use Rattle.words.specs.Bytes.{wordsOf, numbersOf};
 ghost use Rattle.words.specs.Word.{wordOf};
 ghost use Rattle.sheet.specs.Limits.{mostPlaces, mostLines, mostSamples};
 ghost use Rattle.engine.specs.Lines.{Accepting, AnswerWritten};
-ghost use Rattle.engine.specs.Lent.{pastWords, foundIn, neededIn};
+ghost use Rattle.engine.specs.Lent.{afterWords, foundIn, neededIn};
 
 // The kinds 13 and 15, in bits 31..28.
 const HEAD: u32 = 3489660928;
@@ -32,7 +32,7 @@ pub(crate) fn write_answer(
 ) -> Written
     requires { ⌜ Accepting (wordsOf (now sheet)) layout (numbersOf (wordsOf (now distances))) × (neededIn (now sheet) (now distances) ≤ length (wordsOf (now answer))) ⌝ }
     ensures written { λ r. ⌜ AnswerWritten (wordsOf (now (sheet .entry))) (foundIn (now (sheet .entry)) (now (distances .entry))) (wordsOf (now (answer .entry))) (wordsOf (now (answer .exit))) (r .end) (r .tally) ⌝ }
-    ensures tail { λ _. ⌜ pastWords (now (answer .exit)) ≡ replicate (length (now (answer .entry)) % 4) 0 ⌝ }
+    ensures tail { λ _. ⌜ afterWords (now (answer .exit)) ≡ replicate (length (afterWords (now (answer .entry)))) 0 ⌝ }
 {
     words::put_word(answer, 0, head_word(layout));
     let written = write_lines(sheet, layout, distances, answer);

@@ -5,11 +5,11 @@ use sheet::check::Check;
 use sheet::check::Layout;
 use sheet::survey::survey;
 ghost use mathlib.Core.Path.{_≡_};
-ghost use Prim.Native.Nat.{_%_, _≤_};
+ghost use Prim.Native.Nat.{_≤_};
 ghost use lib.ListN.{length, replicate};
 ghost use Rattle.words.specs.Bytes.{wordsOf, numbersOf};
 ghost use Rattle.engine.specs.Lines.{Accepting};
-ghost use Rattle.engine.specs.Lent.{pastWords, neededIn, answeredIn, judgedIn};
+ghost use Rattle.engine.specs.Lent.{afterWords, neededIn, answeredIn, judgedIn};
 ghost use Rattle.engine.specs.Result.{resultSaid};
 
 mod answer;
@@ -44,7 +44,7 @@ fn answer_sheet(sheet: &[u8], layout: Layout, distances: &[u8], answer: &mut [u8
     requires { ⌜ Accepting (wordsOf (now sheet)) layout (numbersOf (wordsOf (now distances))) × (neededIn (now sheet) (now distances) ≤ length (wordsOf (now answer))) ⌝ }
     ensures told { λ r. ⌜ resultSaid r ≡ answeredIn (now (sheet .entry)) (now (distances .entry)) (now (answer .entry)) .result ⌝ }
     ensures said { λ _. ⌜ wordsOf (now (answer .exit)) ≡ answeredIn (now (sheet .entry)) (now (distances .entry)) (now (answer .entry)) .answer ⌝ }
-    ensures tail { λ _. ⌜ pastWords (now (answer .exit)) ≡ replicate (length (now (answer .entry)) % 4) 0 ⌝ }
+    ensures tail { λ _. ⌜ afterWords (now (answer .exit)) ≡ replicate (length (afterWords (now (answer .entry)))) 0 ⌝ }
 {
     let written = write_answer(sheet, layout, distances, answer);
     Result {
@@ -61,7 +61,7 @@ pub fn judge(sheet: &[u8], distances: &mut [u8], answer: &mut [u8]) -> Result
     ensures told { λ r. ⌜ resultSaid r ≡ judgedIn (now (sheet .entry)) (now (distances .entry)) (now (answer .entry)) .result ⌝ }
     ensures said { λ _. ⌜ wordsOf (now (answer .exit)) ≡ judgedIn (now (sheet .entry)) (now (distances .entry)) (now (answer .entry)) .answer ⌝ }
     ensures measured { λ _. ⌜ numbersOf (wordsOf (now (distances .exit))) ≡ judgedIn (now (sheet .entry)) (now (distances .entry)) (now (answer .entry)) .distances ⌝ }
-    ensures tail { λ _. ⌜ pastWords (now (answer .exit)) ≡ replicate (length (now (answer .entry)) % 4) 0 ⌝ }
+    ensures tail { λ _. ⌜ afterWords (now (answer .exit)) ≡ replicate (length (afterWords (now (answer .entry)))) 0 ⌝ }
 {
     match survey(sheet, distances) {
         Check::Refused(fault, place) => {

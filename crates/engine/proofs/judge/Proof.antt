@@ -14,7 +14,7 @@ use Rattle.engine.specs.Lines.{Accepting}
 use Rattle.engine.specs.Lent.{neededIn}
 use Rattle.engine.specs.Result.{resultSaid}
 use Rattle.engine.proofs.Judging.{zero-words, accepting, judged-refused, judged-answered, judged-short}
-use Rattle.engine.proofs.PastWords.{all-zeros}
+use Rattle.engine.proofs.AfterWords.{all-zeros}
 use Rattle.engine.proofs.judge.Statement.{statement}
 use Rattle.engine.proofs.judge.Tie as tie
 
@@ -91,7 +91,7 @@ returns c =
       ap resultSaid (c .refusal2 .ensures) ∙ ap (told 15) (c .before .word-count2 .ensures) ∙ ap (λ (j : Judged). j .result) left,
       (
         ap wordsOf (c .before .before .before .before .fill-zero3 .ensures) ∙ zero-words (g .answer .now) ∙ ap (λ (j : Judged). j .answer) left,
-        (ap (λ b. numbersOf (wordsOf b)) (c .before .before .before .before .before .before .before .before .fill-zero2 .ensures) ∙ zero-numbers (c .before .before .before .before .before .before .before .before .before .before .before .before .before .before .before .before .before .before .before .before .survey .last .1 .0) ∙ ap (λ (j : Judged). j .distances) left, all-zeros _ (length (g .answer .now)) (c .before .before .before .before .fill-zero3 .ensures)),
+        (ap (λ b. numbersOf (wordsOf b)) (c .before .before .before .before .before .before .before .before .fill-zero2 .ensures) ∙ zero-numbers (c .before .before .before .before .before .before .before .before .before .before .before .before .before .before .before .before .before .before .before .before .survey .last .1 .0) ∙ ap (λ (j : Judged). j .distances) left, all-zeros _ (g .answer .now) (c .before .before .before .before .fill-zero3 .ensures)),
       ),
     )
 
@@ -118,7 +118,7 @@ returns-2 c =
       ap resultSaid (c .refusal .ensures) ∙ ap (λ n. told n (fault .0 .1 .0)) (c .before .number .ensures) ∙ ap (λ (j : Judged). j .result) left,
       (
         ap wordsOf (c .before .before .before .before .fill-zero .ensures) ∙ zero-words (g .answer .now) ∙ ap (λ (j : Judged). j .answer) left,
-        (c .before .before .before .before .before .before .before .before .before .before .before .survey .ensures .1 ∙ refusing s room (faultNumber (fault .0 .0)) (fault .0 .1 .0) (sym (c .before .before .before .before .before .before .before .before .before .before .before .survey .ensures .0) ∙ ap checkSaid (fault .1)) ∙ ap (λ (j : Judged). j .distances) left, all-zeros _ (length (g .answer .now)) (c .before .before .before .before .fill-zero .ensures)),
+        (c .before .before .before .before .before .before .before .before .before .before .before .survey .ensures .1 ∙ refusing s room (faultNumber (fault .0 .0)) (fault .0 .1 .0) (sym (c .before .before .before .before .before .before .before .before .before .before .before .survey .ensures .0) ∙ ap checkSaid (fault .1)) ∙ ap (λ (j : Judged). j .distances) left, all-zeros _ (g .answer .now) (c .before .before .before .before .fill-zero .ensures)),
       ),
     )
 

@@ -16,7 +16,7 @@ use Rattle.verdicts.specs.Answer.{lineIndex, wordsNeeded, lineWords, headWord, 
 use Rattle.engine.specs.Lent.{foundIn}
 use Rattle.engine.proofs.Sizes.{lines-end, limits, end-bound}
 use Rattle.engine.proofs.WholeWriting.{three-parts, zeros-behind}
-use Rattle.engine.proofs.PastWords.{zeros-from}
+use Rattle.engine.proofs.AfterWords.{zeros-from}
 use Rattle.engine.proofs.answer.write_answer.Statement.{statement}
 use Rattle.engine.proofs.answer.write_answer.Tie as tie
 
@@ -134,7 +134,7 @@ returns c =
         greatest = lines .ensures .greatest;
         counted = lines .ensures .counted;
       },
-      zeros-from _ bytes k _ long fits cleared,
+      zeros-from _ bytes (start .args .answer .now) k long fits cleared,
     )
 
 pub write-answer-spec : {M : Type 1} → statement M
