@@ -47,7 +47,7 @@ pub fn labels() -> Vec<String> {
         .chain((0..=LAST_CODE + 1).map(|code| label(11, &code_text(code))))
         .chain(parameter_labels())
         .chain(TIMED.iter().map(|&code| label(13, &code_text(code))))
-        .chain(setting::labels().into_iter().map(|(number, text)| label(number, text)))
+        .chain(setting::labels().map(|(number, text)| label(number, text)))
         .collect()
 }
 
@@ -84,8 +84,8 @@ fn code_text(code: u32) -> String {
 /// The labels of a refused case: what was wrong, and where.
 pub fn shown(words: &[u32], case: &Case, number: u64, place: usize) -> Vec<String> {
     let mut shown = fault(words, case, number, place);
-    let setting = setting::shown(words, case, number, place);
-    shown.extend(setting.into_iter().map(|text| label(number, text)));
+    let struck = setting::Struck { words, case, place };
+    shown.extend(setting::shown(&struck, number).into_iter().map(|text| label(number, text)));
     shown
 }
 

@@ -64,14 +64,16 @@ fn a_no_at_zero_made_a_yes() {
     });
 }
 
-/// Steadiness alone finds margins that are twice as large as they should be.
+/// Steadiness alone finds margins that are twice as large as they should be, and
+/// tells the two sheets.
 #[test]
 fn margins_doubled_are_not_steady() {
     let engine = Spoilt(|_, answer, _| {
         change_words(answer, kinds::YES, |word| words::word(kinds::YES, word << 1 & 0x7FF_FFFF))
     });
     let mut random = Random::new(1);
-    assert!((0..1_000).any(|_| steadiness::check(&engine, &mut random).is_err()));
+    let found = (0..1_000).find_map(|_| steadiness::check(&engine, &mut random).err());
+    assert_eq!(found.map(|difference| difference.found_on.len()), Some(2));
 }
 
 #[test]

@@ -249,10 +249,11 @@ fn windows_clipped() {
     assert!(caught(&Trapped::<WINDOW_CLIPPED>).is_some());
 }
 
-/// The laws alone find it too, with nothing to compare with.
+/// The laws alone find it too, with nothing to compare with, and tell the sheet.
 #[test]
 fn windows_clipped_break_a_law() {
     let (mut random, mut reached) = (Random::new(1), Reached::default());
-    let mut breaks = || laws::check(&Trapped::<WINDOW_CLIPPED>, &mut random, &mut reached).is_err();
-    assert!((0..1_000).any(|_| breaks()));
+    let mut broken = |_| laws::check(&Trapped::<WINDOW_CLIPPED>, &mut random, &mut reached).err();
+    let found = (0..1_000).find_map(&mut broken);
+    assert_eq!(found.map(|difference| difference.found_on.len()), Some(1));
 }

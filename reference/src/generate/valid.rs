@@ -64,8 +64,8 @@ pub fn small_sheet(random: &mut Random, most_places: usize) -> Vec<u32> {
 }
 
 /// The words of a valid sheet that is to be damaged: half of these are small,
-/// the others large in one way or another. They are never judged to the end, so
-/// that size costs little.
+/// the others large in one way or another. Hardly any is judged to the end, so
+/// size costs little.
 pub fn sheet_to_damage(random: &mut Random, most_places: usize) -> Vec<u32> {
     let sizes = sizes_to_damage(random, most_places);
     sheet_of(random, sizes)
