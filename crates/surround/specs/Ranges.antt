@@ -16,12 +16,12 @@ use Rattle.surround.specs.Lanes.{lanes, laneOf}
 abbrev pub somewhereIn : Bool → List ℕ → ℕ → Signal chains → ℕ → ℕ → Signal chains
 somewhereIn dual distances n left lower upper = turned dual (λ t l. greatestOver chainLattice (inTable distances n l lower upper) (turned dual left t) n)
 
--- the least of no number, or the greatest
+-- the least of no number at all, or the greatest
 abbrev pub ofNone : Bool → ℕ
 ofNone true = highest
 ofNone false = 0
 
--- the least of the numbers below n that pass a test, or the greatest
+-- the least of f over the numbers below n that pass a test, or the greatest
 abbrev pub gathered : Bool → (ℕ → Bool) → (ℕ → ℕ) → ℕ → ℕ
 gathered true test f n = leastOver chainLattice test f n
 gathered false test f n = greatestOver chainLattice test f n

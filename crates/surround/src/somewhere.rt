@@ -65,7 +65,8 @@ fn gather_all(
 }
 
 // Of a signal that stands in the words of an answer, at samples first to first + count - 1: entry centre * LANES + lane of `out` is the chain
-// number of sample first + lane about the centre. Everywhere is the dual, the opposite of somewhere of the opposite, and comes to the least.
+// number of sample first + lane about the centre, and from lane `count` on that of the lowest signal. Everywhere is the dual, the opposite of
+// somewhere of the opposite, and comes to the least.
 pub fn somewhere_block(
     words: &[u8],
     left: usize,

@@ -40,7 +40,7 @@ loop-again c =
     let h = c .before .before .before .loop in
     ⊎-elim
     (λ w. rw (w .9, w .10) (search needs, w .2 .kept .0 ∙ h .inv .1, w .6 .kept .0 ∙ h .inv .2, low-more (w .2 .ensures) (λ _ _. refl) (h .inv .3), low-more (w .6 .ensures) (λ _ _. refl) (h .inv .4)))
-    (λ w. let inside = not-false _ (w .0 .left) in rw (w .1, w .2) (search needs, h .inv .1, h .inv .2, low-inside inside (h .inv .3), low-inside inside (h .inv .4)))
+    (λ w. rw (w .1, w .2) (search needs, h .inv .1, h .inv .2, low-inside (not-false _ (w .0 .left)) (h .inv .3), low-inside (not-false _ (w .0 .left)) (h .inv .4)))
     (c .if1 .came)
 
 same-length : tie.Need-same-length Inv-loop μ-loop
