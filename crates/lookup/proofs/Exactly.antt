@@ -21,9 +21,13 @@ chosen : (b : Bool) (number : ℕ) → T b → cond b number 0 ≡ number
 chosen true number h = refl
 chosen false number h = absurd h
 
-zero-chosen : (b : Bool) (number : ℕ) → T (not b) ⊎ (number ≡ 0) → cond b number 0 ≡ 0
+pub zero-chosen : (b : Bool) (number : ℕ) → T (not b) ⊎ (number ≡ 0) → cond b number 0 ≡ 0
 zero-chosen true number h = ⊎-elim (λ k. absurd k) (λ e. e) h
 zero-chosen false number h = refl
+
+pub chosen-zero : (b : Bool) (number : ℕ) → cond b number 0 ≡ 0 → T (not b) ⊎ (number ≡ 0)
+chosen-zero true number e = inr e
+chosen-zero false number e = inl tt
 
 and-false : (b : Bool) → (b && false) ≡ false
 and-false true = refl
