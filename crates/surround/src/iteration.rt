@@ -10,6 +10,9 @@ use crate::strips::copy_strip;
 use crate::strips::greater_strip;
 use crate::strips::pull_strip;
 use crate::strips::strip_changed;
+use sheet::road::first_place;
+use sheet::road::road_word;
+use sheet::road::second_place;
 
 // So many chain numbers share a margin: one says no, one says yes.
 const MARGIN: u32 = 2;
@@ -44,14 +47,10 @@ fn step(x: &mut [u32], both: &[u32], inside: &[bool], sheet: &[u8], roads: usize
     ensures { λ _. ⌜ Stepped (wordsOf (now (sheet .entry))) roads (now (both .entry)) (now (x .entry)) (now (x .exit)) ⌝ }
 {
     for r in 0..roads {
-        let word = words::word_at(sheet, 1 + 2 * r);
-        pull_road(
-            x,
-            both,
-            inside,
-            (word / 256 % 256) as usize,
-            (word % 256) as usize,
-        );
+        let road = road_word(sheet, r);
+        let first = first_place(road);
+        let second = second_place(road);
+        pull_road(x, both, inside, first, second);
     }
 }
 

@@ -1,7 +1,6 @@
 -- Each turn takes one road more into the least of what the neighbours hand over.
-use Rattle.words.proofs.Words.{words-count}
-use Prim.Native.Nat.{ℕ, _-_, _/_, _%_, _≤_, _<_}
-use mathlib.Core.Path.{_≡_, subst, _∙_}
+use Prim.Native.Nat.{ℕ, _-_, _≤_}
+use mathlib.Core.Path.{_≡_, ap, subst, _∙_}
 use native.Mathlib.Omega.{arith}
 use lib.ListN.{length}
 use Rattle.words.specs.Bytes.{wordsOf}
@@ -23,35 +22,41 @@ abbrev μ-loop : tie.MeasureT-loop
 loop-holds : tie.Need-loop-holds Inv-loop μ-loop
 loop-holds c = let g = c .before .before .before .before .args in (search needs, search needs, stepped-none (wordsOf (g .sheet .now)) (g .both .now) (g .x .now))
 
-mul-word-at : tie.Need-mul-word-at Inv-loop μ-loop
-mul-word-at c = omega (arith, c .before .before .before .before .before .before .pre .0 .there (c .before .loop .r) (c .loop-test .taken), words-count (c .before .before .before .before .before .before .args .sheet .now))
+-- the two places that are read are those of the road
+module _ (c : tie.After-second-place Inv-loop μ-loop) where
+  abbrev start : tie.Start Inv-loop μ-loop
+  start = c .before .before .before .before .before .before .before .before .before
 
-add-word-at : tie.Need-add-word-at Inv-loop μ-loop
-add-word-at c = omega (arith, c .before .before .before .before .before .before .pre .0 .there (c .before .loop .r) (c .loop-test .taken), words-count (c .before .before .before .before .before .before .args .sheet .now))
+  abbrev road : ℕ
+  road = wordAt (wordsOf (start .args .sheet .now)) (roadAt (c .before .before .before .before .loop .r))
 
-word-at-requires : tie.Need-word-at-requires Inv-loop μ-loop
-word-at-requires c κs = c .before .before .before .before .before .before .pre .0 .there (c .before .loop .r) (c .loop-test .taken)
+  first : c .before .first-place .result ≡ firstPlace road
+  first = c .before .first-place .ensures ∙ ap firstPlace (c .before .before .road-word .ensures)
 
-cast-pull-road : tie.Need-cast-pull-road Inv-loop μ-loop
-cast-pull-road c = search needs
+  second : c .second-place .result ≡ secondPlace road
+  second = c .second-place .ensures ∙ ap secondPlace (c .before .before .road-word .ensures)
 
-cast-pull-road-2 : tie.Need-cast-pull-road-2 Inv-loop μ-loop
-cast-pull-road-2 c = search needs
+road-word-requires : tie.Need-road-word-requires Inv-loop μ-loop
+road-word-requires c κs = c .before .before .before .before .before .before .pre .0 .there (c .before .loop .r) (c .loop-test .taken)
+
+first-place-requires : tie.Need-first-place-requires Inv-loop μ-loop
+first-place-requires c κs = search needs
+
+second-place-requires : tie.Need-second-place-requires Inv-loop μ-loop
+second-place-requires c κs = search needs
 
 pull-road-requires : tie.Need-pull-road-requires Inv-loop μ-loop
 pull-road-requires c κs =
-    let g = c .before .before .before .before .before .before .before .before .args in
-    let i = c .before .before .before .before .before .before .before .before .pre .0 in
-    let r = c .before .before .before .loop .r in
-    let w = c .before .word-at .result in
-    let v = wordAt (wordsOf (g .sheet .now)) (roadAt r) in
-    let e : w ≡ v = c .before .word-at .ensures in
-    let a : w / 256 % 256 ≡ firstPlace v = omega arith in
-    let b : w % 256 ≡ secondPlace v = omega arith in
-    let o : w / 256 % 256 < w % 256 = omega (arith, i .order r (c .before .before .loop-test .taken)) in
-    let n : w % 256 < length (g .inside .now) = omega (arith, i .inside r (c .before .before .loop-test .taken)) in
-    let h = c .before .before .before .loop in
-    (o, n, stepped-low (h .inv .2) (c .before .before .before .before .before .before .before .before .pre .1), search needs, search needs)
+    let read = c .before in
+    let roads = start read .pre .0 in
+    let r = read .before .before .before .before .loop .r in
+    let here = read .before .before .before .loop-test .taken in (
+      omega (arith, first read, second read, roads .order r here),
+      omega (arith, second read, roads .inside r here),
+      stepped-low (read .before .before .before .before .loop .inv .2) (start read .pre .1),
+      search needs,
+      search needs,
+    )
 
 add-r : tie.Need-add-r Inv-loop μ-loop
 add-r c = search needs
@@ -61,16 +66,13 @@ loop-less c = search needs
 
 loop-again : tie.Need-loop-again Inv-loop μ-loop
 loop-again c =
-    let g = c .before .before .before .before .before .before .before .before .before .before .before .args in
-    let h = c .before .before .before .before .before .before .loop in
-    let i = c .before .before .before .before .before .before .before .before .before .before .before .pre .0 in
-    let s = wordsOf (g .sheet .now) in
-    let e : c .before .before .before .before .word-at .result ≡ wordAt s (roadAt (h .r)) = c .before .before .before .before .word-at .ensures in
-    let a : c .before .before .before .before .word-at .result / 256 % 256 ≡ firstPlace (wordAt s (roadAt (h .r))) = omega arith in
-    let b : c .before .before .before .before .word-at .result % 256 ≡ secondPlace (wordAt s (roadAt (h .r))) = omega arith in
-    let p : RoadPulled (firstPlace (wordAt s (roadAt (h .r)))) (secondPlace (wordAt s (roadAt (h .r)))) (g .both .now) (h .x) (c .before .before .pull-road .last .0) =
-    rw (← a, ← b) (c .before .before .pull-road .ensures) in
-    (search needs, c .before .before .pull-road .kept .0 ∙ h .inv .1, road-more s (h .r) (g .both .now) (h .x) (c .before .before .pull-road .last .0) (i .order (h .r) (c .before .before .before .before .before .loop-test .taken)) (g .x .now) p (h .inv .2))
+    let read = c .before .before .before .before in
+    let g = start read .args in
+    let h = read .before .before .before .before .loop in
+    let here = read .before .before .before .loop-test .taken in
+    let pulled : RoadPulled (firstPlace (road read)) (secondPlace (road read)) (g .both .now) (h .x) (c .before .before .pull-road .last .0) =
+    rw (← first read, ← second read) (c .before .before .pull-road .ensures) in
+    (search needs, c .before .before .pull-road .kept .0 ∙ h .inv .1, road-more (wordsOf (g .sheet .now)) (h .r) (g .both .now) (h .x) (c .before .before .pull-road .last .0) (start read .pre .0 .order (h .r) here) (g .x .now) pulled (h .inv .2))
 
 same-length : tie.Need-same-length Inv-loop μ-loop
 same-length c = search needs
@@ -89,11 +91,9 @@ step-spec =
     Inv-loop
     μ-loop
     loop-holds
-    mul-word-at
-    add-word-at
-    word-at-requires
-    cast-pull-road
-    cast-pull-road-2
+    road-word-requires
+    first-place-requires
+    second-place-requires
     pull-road-requires
     add-r
     loop-less
