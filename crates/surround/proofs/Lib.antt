@@ -1,5 +1,6 @@
 pub mod StripLaws
 pub mod Least
+pub mod Lowest
 pub mod Outside
 pub mod Greatest
 pub mod Settling
