@@ -18,6 +18,7 @@ use Rattle.surround.specs.Lanes.{lanes, laneOf, joinedBy, surroundValue,
 use Rattle.surround.specs.Steps.{ValidRow}
 use Rattle.surround.specs.Blocks.{RowOf, laneSignal, laneSurround, laneRounds, CentresDone, BlockReady, BlockDone}
 use Rattle.logic.proofs.Totals.{most-same, most-front}
+use Rattle.surround.proofs.Lowest.{surround-low}
 
 -- ---- one row
 module _ (words : List ℕ) (start n first count : ℕ) (row : List ℕ) (w : RowOf (laneSignal words start n first count) row n) where
@@ -93,9 +94,7 @@ module _ (words : List ℕ) (left right n : ℕ) (sheet : List ℕ) (roads : ℕ
         (within centre) (about centre) centre;
     idle = λ centre lane b c h.
         done .values .written .at centre lane b h
-        ∙ surround-kept chainLattice chainLattice (λ u v. u ≡ v) (same-kept chainLattice) (joinedBy sheet roads) n _ _ _ _
-        (λ k d. lane-zero words left n first count l wl lane k h c d) (λ k d. lane-zero words right n first count r wr lane k h c d)
-        (within centre) (about centre) centre;
+        ∙ surround-low (joinedBy sheet roads) n (within centre) (about centre) (laneOf l lane) (laneOf r lane) centre b (lane-zero words left n first count l wl lane centre h c b);
     kept = done .values .kept;
     long = done .values .long;
     rounds = done .rounds ∙ most-same _ _ n (λ centre b.

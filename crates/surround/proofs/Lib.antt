@@ -1,5 +1,6 @@
 pub mod StripLaws
 pub mod Least
+pub mod Lowest
 pub mod Outside
 pub mod Settling
 pub mod RowLaws

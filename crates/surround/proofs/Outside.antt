@@ -17,8 +17,8 @@ use Rattle.surround.specs.Strips.{Written, StripsApart}
 use Rattle.surround.specs.Steps.{Marked, LowOutside, LowRows, Joined, RoadPulled, Stepped}
 use Rattle.surround.specs.Blocks.{RowOf}
 use Rattle.surround.proofs.StripLaws.{written-already, false-true}
+use Rattle.surround.proofs.Lowest.{meet-low}
 use Rattle.surround.proofs.RowLaws.{row-more}
-use Rattle.values.proofs.Naturals.{meet-min}
 
 -- ---- the flags
 pub marked-none : (test : ℕ → Bool) (flags : List Bool) → Marked test flags 0
@@ -51,9 +51,6 @@ masked-low distances n centre lower upper inside from to m w = record {
 }
 
 -- ---- one strip
-meet-low : {a : ℕ} (b : ℕ) → a ≡ 0 → a ≡ chainLattice .meet a b
-meet-low b e = rw meet-min (omega arith)
-
 pub strips-alike : (h : ℕ → ℕ) (a b : List ℕ) (place : ℕ) → ((lane : ℕ) → lane < lanes → laneOf a lane place ≡ laneOf b lane place) → StripsApart false h a b place lanes
 strips-alike h a b place e = record { alike = λ _ lane l. ap h (e lane l); apart = λ z. absurd (false-true z) }
 
@@ -88,8 +85,8 @@ module _ {inside : List Bool} where
   road-outside a b both o i j e =
       let (out, away) = neither (getD inside a false) (getD inside b false) e in
       record {
-        first = λ lane l. meet-low (laneOf both lane b) (o .low a lane i l out);
-        second = λ lane l. meet-low (laneOf both lane a) (o .low b lane j l away);
+        first = λ lane l. let low = o .low a lane i l out in low ∙ sym (meet-low _ _ low);
+        second = λ lane l. let low = o .low b lane j l away in low ∙ sym (meet-low _ _ low);
         other = λ _ _ _ _ _. refl;
       }
     where

@@ -77,13 +77,12 @@ module _ (words : List ℕ) (left right n : ℕ) (sheet : List ℕ) (roads : ℕ
     pub left-valid : (t l : ℕ) → first ≤ t → t < first + count → l < n → Valid (signalIn words left n t l)
     pub right-valid : (t l : ℕ) → first ≤ t → t < first + count → l < n → Valid (signalIn words right n t l)
 
-  -- entry centre · lanes + lane is the surround of sample first + lane at the centre, and r the greatest rounds; a lane without a sample has the
-  -- surround of the lowest signals, and what stands past the n places is kept
+  -- entry centre · lanes + lane is the surround of sample first + lane at the centre, and r the greatest rounds; a lane without a sample is lowest, and
+  -- what stands past the n places is kept
   pub record BlockDone (lower upper : ℕ) (before after : List ℕ) (r : ℕ) : Type 0 where
     pub values : (centre lane : ℕ) → centre < n → lane < count
         → laneOf after lane centre ≡ surroundValue words left right n sheet roads distances lower upper (first + lane) centre
-    pub idle : (centre lane : ℕ) → centre < n → count ≤ lane → lane < lanes → laneOf after lane centre
-        ≡ surround chainLattice (joinedBy sheet roads) n (inTable distances n centre 0 upper) (inTable distances n centre lower upper) (λ _. 0) (λ _. 0) centre
+    pub idle : (centre lane : ℕ) → centre < n → count ≤ lane → lane < lanes → laneOf after lane centre ≡ 0
     pub kept : (place lane : ℕ) → n ≤ place → lane < lanes → laneOf after lane place ≡ laneOf before lane place
     pub long : length after ≡ length before
     pub rounds : r ≡ blockRounds words left right n sheet roads distances lower upper first count

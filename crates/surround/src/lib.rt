@@ -105,8 +105,8 @@ fn surround_centres(
 }
 
 // The surround of two signals, which stand in the words of an answer, at samples first to first + count - 1: entry
-// centre * LANES + lane of `out` is the chain number of sample first + lane about the centre, and from lane `count` on that of the lowest signals.
-// The result is the greatest rounds.
+// centre * LANES + lane of `out` is the chain number of sample first + lane about the centre, and from lane `count` on the lowest. The result is
+// the greatest rounds.
 pub fn surround_block(
     words: &[u8],
     left: usize,

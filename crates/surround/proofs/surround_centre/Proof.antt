@@ -59,7 +59,7 @@ settle-requires c κs =
       },
       record {
         low = masked-low d (g .places) (g .centre) 0 (g .upper) inside (g .left .now) (x .last .1 .0) marked (x .ensures .written);
-        right-low = masked-low d (g .places) (g .centre) (g .lower) (g .upper) inside (g .right .now) (ring .last .1 .0) marked (ring .ensures .written);
+        right-low = masked-low d (g .places) (g .centre) _ (g .upper) inside (g .right .now) (ring .last .1 .0) marked (ring .ensures .written);
         old-low = subst (LowOutside inside (clear .last .1 .0)) n (clear .ensures .0);
         both-low = subst (LowOutside inside (clear .last .1 .1 .0)) n (clear .ensures .1);
       },
