@@ -27,8 +27,8 @@ use Rattle.sheet.proofs.AcceptedRoads.{accepted-roads}
 use Rattle.sheet.proofs.Checks.{never, same-accepted}
 use Rattle.sheet.proofs.Walk.{Walk, Step, walk-start, walk-step}
 use Rattle.sheet.proofs.Whole.{accepted-sheet}
-use Rattle.surround.specs.Steps.{RoadsIn}
-use Rattle.surround.proofs.SheetRoads.{good-roads}
+use Rattle.spatial.specs.Steps.{RoadsIn}
+use Rattle.spatial.proofs.SheetRoads.{good-roads}
 use Rattle.verdicts.specs.Answer.{lineIndex}
 use Rattle.verdicts.specs.Writing.{Surveyed}
 use Rattle.verdicts.proofs.WholeAnswer.{InAnswer, index-bound}

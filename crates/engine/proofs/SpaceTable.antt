@@ -22,8 +22,8 @@ use Rattle.sheet.specs.declared.operator.Operator.the-variants.{Somewhere, Ever
 use Rattle.sheet.specs.Decoding.{operatorSaid}
 use Rattle.values.specs.Chain.{chainLattice, chainMargin}
 use Rattle.values.specs.Signals.{inTable}
-use Rattle.surround.specs.Lanes.{joinedBy, surroundValue, surroundRounds}
-use Rattle.surround.specs.Ranges.{somewhereIn}
+use Rattle.spatial.specs.Lanes.{joinedBy, surroundValue, surroundRounds}
+use Rattle.spatial.specs.Ranges.{somewhereIn}
 use Rattle.verdicts.specs.Writing.{sheetNetwork, earlier, lineValue, lineRounds, Surveyed}
 use Rattle.verdicts.proofs.Points.{range-at, somewhere-same}
 

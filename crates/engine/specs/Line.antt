@@ -10,7 +10,7 @@ use Rattle.sheet.specs.declared.check.Layout.{Layout}
 use Rattle.sheet.specs.GoodLines.{GoodLine}
 use Rattle.values.specs.Chain.{chainWord, chainVerdict, Valid}
 use Rattle.values.specs.Signals.{signalIn}
-use Rattle.surround.specs.Steps.{RoadsIn}
+use Rattle.spatial.specs.Steps.{RoadsIn}
 use Rattle.verdicts.specs.declared.tally.Tally.{Tally}
 use Rattle.verdicts.specs.Answer.{firstWord}
 use Rattle.verdicts.specs.Writing.{lineValue, lineRounds, Surveyed}

@@ -17,9 +17,9 @@ use Rattle.sheet.specs.Limits.{mostPlaces}
 use Rattle.values.specs.Chain.{highest, chainWord, chainVerdict}
 use Rattle.values.proofs.ChainWords.{signal-bound}
 use Rattle.operators.proofs.Bounds.{greatest-bound}
-use Rattle.surround.specs.Lanes.{lanes, laneOf, surroundRounds, blockRounds}
-use Rattle.surround.specs.Blocks.{BlockReady, BlockDone}
-use Rattle.surround.specs.Ranges.{RangeReady, RangeDone}
+use Rattle.spatial.specs.Lanes.{lanes, laneOf, surroundRounds, blockRounds}
+use Rattle.spatial.specs.Blocks.{BlockReady, BlockDone}
+use Rattle.spatial.specs.Ranges.{RangeReady, RangeDone}
 use Rattle.verdicts.specs.declared.tally.Tally.{Tally}
 use Rattle.verdicts.specs.Tally.{together}
 use Rattle.verdicts.specs.declared.around.Around.{Around}

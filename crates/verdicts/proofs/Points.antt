@@ -34,8 +34,8 @@ use Rattle.values.proofs.Machine.{small-fits}
 use Rattle.values.proofs.Valid.{valid-difference}
 use Rattle.values.proofs.ChainWords.{signal-bound}
 use Rattle.operators.proofs.Bounds.{bounded-kept}
-use Rattle.surround.specs.Lanes.{joinedBy, surroundValue}
-use Rattle.surround.specs.Ranges.{somewhereIn}
+use Rattle.spatial.specs.Lanes.{joinedBy, surroundValue}
+use Rattle.spatial.specs.Ranges.{somewhereIn}
 use Rattle.verdicts.specs.Writing.{sheetNetwork, sheetRecording, earlier, lineValue, Surveyed, Readable}
 
 -- ---- no value is beyond `highest`

@@ -9,9 +9,9 @@ use Rattle.sheet.specs.declared.check.Layout as Code
 use Rattle.sheet.specs.Limits.{mostPlaces, mostSamples}
 use Rattle.values.specs.Chain.{highest, chainWord, chainVerdict, Valid}
 use Rattle.values.specs.Signals.{signalIn}
-use Rattle.surround.specs.Lanes.{lanes, laneOf, surroundValue, surroundRounds}
-use Rattle.surround.specs.Steps.{RoadsIn}
-use Rattle.surround.specs.Ranges.{somewhereIn}
+use Rattle.spatial.specs.Lanes.{lanes, laneOf, surroundValue, surroundRounds}
+use Rattle.spatial.specs.Steps.{RoadsIn}
+use Rattle.spatial.specs.Ranges.{somewhereIn}
 use Rattle.verdicts.specs.declared.around.Around.{Around}
 use Rattle.verdicts.specs.declared.around.Around.the-variants.{Surround, Range}
 use Rattle.verdicts.specs.declared.tally.Tally.{Tally}

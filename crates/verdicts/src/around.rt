@@ -4,10 +4,10 @@ use crate::sample::write_sample;
 use crate::tally::Tally;
 use sheet::check::Layout;
 use sheet::operator::Bounds;
-use surround::LANES;
-use surround::ROW;
-use surround::somewhere::somewhere_block;
-use surround::surround_block;
+use spatial::LANES;
+use spatial::ROW;
+use spatial::somewhere::somewhere_block;
+use spatial::surround::surround_block;
 ghost use mathlib.Core.Path.{_≡_};
 ghost use Prim.Native.Nat.{_+_, _*_, _≤_};
 ghost use lib.ListN.{length, take};
@@ -15,7 +15,7 @@ ghost use Rattle.words.specs.Bytes.{wordsOf, numbersOf};
 ghost use Rattle.words.specs.Rows.{rows, put};
 ghost use Rattle.logic.specs.Counts.{count, sumBelow};
 ghost use Rattle.values.specs.Chain.{chainWord, chainVerdict};
-ghost use Rattle.surround.specs.Lanes.{lanes, laneOf};
+ghost use Rattle.spatial.specs.Lanes.{lanes, laneOf};
 ghost use Rattle.verdicts.specs.Around.{LanesBounded, AroundReady, BlockFilled, BlockWritten, AroundWritten};
 
 // What is asked about every centre. Operands are the indices at which their signals begin.

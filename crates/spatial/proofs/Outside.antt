@@ -1,0 +1,134 @@
+-- Places outside a ball: all rows are lowest there and stay so, so that a round is the same whether or not it touches them.
+use mathlib.Core.Path.{_≡_, refl, sym, ap, _∙_}
+use mathlib.Core.Bool.{Bool, true, false, _&&_, _||_}
+use mathlib.Core.List.{List}
+use Prim.Native.Nat.{ℕ, _+_, _*_, _<_}
+use native.Mathlib.Omega.{arith}
+use borrow.Author.Count.{below-more}
+use borrow.Author.Tests.{le-leb}
+use lib.Dec.{leb}
+use lib.ListN.{length, getD, set}
+use lib.Seq.{getD-set-same, getD-set-other}
+use Rattle.logic.specs.Iteration.{masked}
+use Rattle.values.specs.Chain.{chainLattice}
+use Rattle.values.specs.Signals.{inTable}
+use Rattle.spatial.specs.Lanes.{lanes, laneOf}
+use Rattle.spatial.specs.Strips.{Written, StripsApart}
+use Rattle.spatial.specs.Steps.{Marked, LowOutside, LowRows, Joined, RoadPulled, Stepped}
+use Rattle.spatial.specs.Blocks.{RowOf}
+use Rattle.spatial.proofs.StripLaws.{written-already, false-true}
+use Rattle.spatial.proofs.Lowest.{meet-low}
+use Rattle.spatial.proofs.RowLaws.{row-more}
+
+-- ---- the flags
+pub marked-none : (test : ℕ → Bool) (flags : List Bool) → Marked test flags 0
+marked-none test flags = record { flag = λ p l. absurd (omega arith) }
+
+pub marked-more : (test : ℕ → Bool) (flags : List Bool) (k : ℕ) (t : Bool) → Marked test flags k → k < length flags → t ≡ test k → Marked test (set flags k t) (k + 1)
+marked-more test flags k t m b e = record {
+  flag = below-more (λ p. getD (set flags k t) p false ≡ test p) k
+      (λ p l. getD-set-other flags k p t false (λ q. absurd (omega arith)) ∙ m .flag p l)
+      (getD-set-same flags k t false b ∙ e);
+}
+
+-- outside a ball nothing is in a range that ends with it
+outside-range : (distances : List ℕ) (n centre lower upper place : ℕ) → inTable distances n centre 0 upper place ≡ false → inTable distances n centre lower upper place ≡ false
+unfolding inTable
+outside-range distances n centre lower upper place e = ap (λ t. leb lower d && t) (sym (ap (λ t. t && leb d upper) (le-leb 0 d (omega arith))) ∙ e) ∙ never (leb lower d)
+  where
+    d : ℕ
+    d = getD distances (centre * n + place) 0
+
+    never : (t : Bool) → (t && false) ≡ false
+    never true = refl
+    never false = refl
+
+pub masked-low : (distances : List ℕ) (n centre lower upper : ℕ) (inside : List Bool) (from to : List ℕ) → Marked (inTable distances n centre 0 upper) inside n
+    → RowOf (λ lane. masked chainLattice (inTable distances n centre lower upper) (laneOf from lane)) to n → LowOutside inside to n
+unfolding masked
+masked-low distances n centre lower upper inside from to m w = record {
+  low = λ place lane b l e. w .at place lane b l ∙ simp (outside-range distances n centre lower upper place (sym (m .flag place b) ∙ e));
+}
+
+-- ---- one strip
+pub strips-alike : (h : ℕ → ℕ) (a b : List ℕ) (place : ℕ) → ((lane : ℕ) → lane < lanes → laneOf a lane place ≡ laneOf b lane place) → StripsApart false h a b place lanes
+strips-alike h a b place e = record { alike = λ _ lane l. ap h (e lane l); apart = λ z. absurd (false-true z) }
+
+module _ {inside : List Bool} where
+  -- a strip inside is written
+  low-kept : {place n : ℕ} {f : ℕ → ℕ} {s t : List ℕ} → getD inside place false ≡ true → Written place lanes f s t → LowOutside inside s n → LowOutside inside t n
+  low-kept i w s = record {
+    low = λ p lane b l e. w .kept p lane l (λ q. absurd (false-true (sym e ∙ ap (λ k. getD inside k false) q ∙ i))) ∙ s .low p lane b l e;
+  }
+
+  pub low-none : {s : List ℕ} → LowOutside inside s 0
+  low-none = record { low = λ p lane b. absurd (omega arith) }
+
+  -- one strip more, which is lowest if it lies outside
+  pub low-more : {k : ℕ} {f : ℕ → ℕ} {s t : List ℕ} → Written k lanes f s t → (getD inside k false ≡ false → (lane : ℕ) → f lane ≡ 0) → LowOutside inside s k → LowOutside inside t (k + 1)
+  low-more {k} {f} {s} {t} w h o = record {
+    low = λ p lane b l. below-more (λ q. getD inside q false ≡ false → laneOf t lane q ≡ 0) k
+        (λ q c e. w .kept q lane l (λ r. absurd (omega arith)) ∙ o .low q lane c l e)
+        (λ e. w .written lane l ∙ h e lane)
+        p b;
+  }
+
+  pub low-inside : {k : ℕ} {s : List ℕ} → getD inside k false ≡ true → LowOutside inside s k → LowOutside inside s (k + 1)
+  low-inside i = low-more (written-already (λ _ _. refl)) (λ e. absurd (false-true (sym e ∙ i)))
+
+  -- numbers that fall stay lowest
+  pub stepped-low : {n roads : ℕ} {sheet both x y : List ℕ} → Stepped sheet roads both x y → LowOutside inside x n → LowOutside inside y n
+  stepped-low s o = record { low = λ p lane b l e. omega (arith, s .least p lane l .below, o .low p lane b l e) }
+
+  -- a road with both ends outside brings nothing
+  pub road-outside : (a b : ℕ) (both : List ℕ) {n : ℕ} {x : List ℕ} → LowOutside inside x n → a < n → b < n → (getD inside a false || getD inside b false) ≡ false → RoadPulled a b both x x
+  road-outside a b both o i j e =
+      let (out, away) = neither (getD inside a false) (getD inside b false) e in
+      record {
+        first = λ lane l. let low = o .low a lane i l out in low ∙ sym (meet-low _ _ low);
+        second = λ lane l. let low = o .low b lane j l away in low ∙ sym (meet-low _ _ low);
+        other = λ _ _ _ _ _. refl;
+      }
+    where
+      neither : (t u : Bool) → (t || u) ≡ false → (t ≡ false) × (u ≡ false)
+      neither true u h = absurd (false-true (sym h))
+      neither false u h = (refl, h)
+
+-- ---- joining, place after place
+pub record Joining (inside : List Bool) (x right old both : List ℕ) (k : ℕ) : Type 0 where
+  pub joined : Joined x right old both k
+  pub rows : LowRows inside (length inside) x right old both
+
+pub joining-none : {inside : List Bool} {x right old both : List ℕ} → LowRows inside (length inside) x right old both → Joining inside x right old both 0
+joining-none o = record {
+  joined = record { former = λ p lane b l. absurd (omega arith); handed = λ p lane b l. absurd (omega arith) };
+  rows = o;
+}
+
+module _ {inside : List Bool} {x right old both : List ℕ} {k : ℕ} (j : Joining inside x right old both k) where
+  joined-more : {old′ both′ : List ℕ} → Written k lanes (λ lane. laneOf x lane k) old old′
+      → Written k lanes (λ lane. chainLattice .join (laneOf x lane k) (laneOf right lane k)) both both′ → Joined x right old′ both′ (k + 1)
+  joined-more {old′} {both′} v w = record {
+    former = row-more (λ lane. laneOf x lane) _ old old′ k (record { at = j .joined .former }) v (λ _ _. refl) .at;
+    handed = row-more (λ lane place. chainLattice .join (laneOf x lane place) (laneOf right lane place)) _ both both′ k (record { at = j .joined .handed }) w (λ _ _. refl) .at;
+  }
+
+  pub joining-inside : {old′ both′ : List ℕ} → getD inside k false ≡ true → Written k lanes (λ lane. laneOf x lane k) old old′
+      → Written k lanes (λ lane. chainLattice .join (laneOf x lane k) (laneOf right lane k)) both both′ → Joining inside x right old′ both′ (k + 1)
+  joining-inside i v w = record {
+    joined = joined-more v w;
+    rows = record {
+      low = j .rows .low;
+      right-low = j .rows .right-low;
+      old-low = low-kept i v (j .rows .old-low);
+      both-low = low-kept i w (j .rows .both-low);
+    };
+  }
+
+  pub joining-outside : k < length inside → getD inside k false ≡ false → Joining inside x right old both (k + 1)
+  joining-outside b e = record {
+    joined = joined-more
+        (written-already (λ lane l. j .rows .old-low .low k lane b l e ∙ sym (j .rows .low .low k lane b l e)))
+        (written-already (λ lane l. j .rows .both-low .low k lane b l e ∙ sym (rw (j .rows .low .low k lane b l e, j .rows .right-low .low k lane b l e) refl)));
+    rows = j .rows;
+  }

@@ -1,0 +1,76 @@
+-- Place after place: a place outside is alike in both rows, and the first that is not alike ends the loop.
+use Prim.Native.Nat.{_-_, _/_, _≤_}
+use mathlib.Core.Path.{_≡_, refl, sym, subst, _∙_}
+use mathlib.Core.Bool.{false}
+use mathlib.Core.Logic.{⊎-elim}
+use native.Mathlib.Omega.{arith}
+use lib.ListN.{length}
+use Rattle.spatial.specs.Strips.{RowsApart}
+use Rattle.spatial.proofs.StripLaws.{rows-none, rows-more, rows-found}
+use Rattle.spatial.proofs.Outside.{strips-alike}
+use borrow.Author.Needs.{needs}
+use Rattle.spatial.proofs.iteration.changed.Statement.{statement}
+use Rattle.spatial.proofs.iteration.changed.Tie as tie
+
+abbrev Inv-loop : tie.InvT-loop
+Inv-loop old x inside unit place₀ place-end place = (place ≤ place-end) × RowsApart false (λ c. c / unit) old x place
+
+abbrev μ-loop : tie.MeasureT-loop
+μ-loop old x inside unit place₀ place-end place = place-end - place
+
+loop-holds : tie.Need-loop-holds Inv-loop μ-loop
+loop-holds c = let g = c .before .before .before .args in (search needs, rows-none (λ v. v / g .unit) (g .old .now) (g .x .now))
+
+shared-slice-read-if1 : tie.Need-shared-slice-read-if1 Inv-loop μ-loop
+shared-slice-read-if1 c = search needs
+
+strip-changed-requires : tie.Need-strip-changed-requires Inv-loop μ-loop
+strip-changed-requires c κs = search needs
+
+returns : tie.Need-returns Inv-loop μ-loop
+returns c =
+    let g = c .before .before .before .before .before .before .before .before .before .args in
+    let s = c .before .strip-changed in
+    rows-found (λ v. v / g .unit) (g .old .now) (g .x .now) (s .result) (c .before .before .before .before .before .loop .place) (length (g .inside .now)) (c .before .before .before .before .loop-test .taken) (c .if2 .taken) (s .ensures)
+
+add-place : tie.Need-add-place Inv-loop μ-loop
+add-place c = search needs
+
+loop-less : tie.Need-loop-less Inv-loop μ-loop
+loop-less c = search needs
+
+loop-again : tie.Need-loop-again Inv-loop μ-loop
+loop-again c =
+    let g = c .before .before .before .before .before .before .before .args in
+    let p = c .before .before .before .before .before .before .before .pre in
+    let h = c .before .before .before .loop in
+    let b = c .before .before .loop-test .taken in (
+      search needs,
+      ⊎-elim
+          (λ w. rows-more (λ v. v / g .unit) (g .old .now) (g .x .now) (w .1 .result) (h .place) (h .inv .1) (w .2 .left) (w .1 .ensures))
+          (λ w. rows-more (λ v. v / g .unit) (g .old .now) (g .x .now) false (h .place) (h .inv .1) refl
+          (strips-alike _ (g .old .now) (g .x .now) (h .place) (λ lane l. p .3 .low (h .place) lane b l (w .left) ∙ sym (p .4 .low (h .place) lane b l (w .left)))))
+          (c .if1 .came),
+    )
+
+returns-2 : tie.Need-returns-2 Inv-loop μ-loop
+returns-2 c =
+    let g = c .before .before .before .before .before .args in
+    let h = c .before .loop in
+    let e : h .place ≡ length (g .inside .now) = omega arith in
+    subst (RowsApart false (λ v. v / g .unit) (g .old .now) (g .x .now)) e (h .inv .1)
+
+pub changed-spec : {M : Type 1} → statement M
+changed-spec =
+    tie.close
+    (tie.spec
+    Inv-loop
+    μ-loop
+    loop-holds
+    shared-slice-read-if1
+    strip-changed-requires
+    returns
+    add-place
+    loop-less
+    loop-again
+    returns-2)

@@ -1,0 +1,46 @@
+-- Two pulls along a road, or none where both its ends lie outside.
+use native.Mathlib.Omega.{arith}
+use Rattle.spatial.proofs.StripLaws.{road-pulled}
+use Rattle.spatial.proofs.Outside.{road-outside}
+use borrow.Author.Needs.{needs}
+use Rattle.spatial.proofs.iteration.pull_road.Statement.{statement}
+use Rattle.spatial.proofs.iteration.pull_road.Tie as tie
+
+shared-slice-read-if1 : tie.Need-shared-slice-read-if1
+shared-slice-read-if1 c = search needs
+
+shared-slice-read-if1-2 : tie.Need-shared-slice-read-if1-2
+shared-slice-read-if1-2 c = search needs
+
+pull-strip-requires : tie.Need-pull-strip-requires
+pull-strip-requires c κs = search needs
+
+pull-strip-requires-2 : tie.Need-pull-strip-requires-2
+pull-strip-requires-2 c κs = search needs
+
+same-length : tie.Need-same-length
+same-length c = search needs
+
+returns : tie.Need-returns
+returns c =
+    let g = c .before .before .before .before .before .before .before .before .before .before .before .before .before .before .args in
+    let s = c .before .before .pull-strip2 in
+    let r = c .before .before .before .before .before .before .pull-strip in
+    road-pulled (g .first) (g .second) (g .both .now) (g .x .now) (r .last .0) (s .last .0) (λ e. omega arith) (r .ensures) (s .ensures)
+
+returns-2 : tie.Need-returns-2
+returns-2 c =
+    let g = c .before .before .before .before .before .before .args in
+    road-outside (g .first) (g .second) (g .both .now) (c .before .before .before .before .before .before .pre .2) (omega arith) (omega arith) (c .if1 .left)
+
+pub pull-road-spec : {M : Type 1} → statement M
+pull-road-spec =
+    tie.close
+    (tie.spec
+    shared-slice-read-if1
+    shared-slice-read-if1-2
+    pull-strip-requires
+    pull-strip-requires-2
+    same-length
+    returns
+    returns-2)

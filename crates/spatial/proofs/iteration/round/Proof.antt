@@ -1,0 +1,39 @@
+-- Joining and stepping make a round, and leave every row lowest outside.
+use Rattle.words.specs.Bytes.{wordsOf}
+use lib.ListN.{length}
+use Rattle.spatial.proofs.Least.{round-made}
+use Rattle.spatial.proofs.Outside.{stepped-low}
+use borrow.Author.Needs.{needs}
+use Rattle.spatial.proofs.iteration.round.Statement.{statement}
+use Rattle.spatial.proofs.iteration.round.Tie as tie
+
+join-requires : tie.Need-join-requires
+join-requires c κs = let p = c .before .before .before .before .before .before .before .before .before .pre in (p .2, p .3)
+
+step-requires : tie.Need-step-requires
+step-requires c κs = let p = c .before .before .before .before .before .before .before .before .before .before .before .before .before .before .before .before .pre in (p .0, p .3 .low, search needs, search needs)
+
+same-length : tie.Need-same-length
+same-length c = search needs
+
+same-length-2 : tie.Need-same-length-2
+same-length-2 c = search needs
+
+same-length-3 : tie.Need-same-length-3
+same-length-3 c = search needs
+
+returns : tie.Need-returns
+returns c =
+    let g = c .before .before .before .before .before .before .before .before .before .before .before .before .before .before .before .before .before .before .before .args in
+    let p = c .before .before .before .before .before .before .before .before .before .before .before .before .before .before .before .before .before .before .before .pre in
+    let j = c .before .before .before .before .before .before .before .before .before .join in
+    let s = c .before .before .step in
+    let low = j .ensures .1 in (
+      round-made (wordsOf (g .sheet .now)) (g .roads) (length (g .inside .now)) (g .right .now) (g .x .now) (j .last .1 .1 .1 .0) (j .last .1 .1 .1 .1 .0) (s .last .0) (p .0) (p .1) (j .ensures .0) (s .ensures),
+      record { low = stepped-low (s .ensures) (low .low); right-low = low .right-low; old-low = low .old-low; both-low = low .both-low },
+    )
+
+pub round-spec : {M : Type 1} → statement M
+round-spec =
+    tie.close
+    (tie.spec join-requires step-requires same-length same-length-2 same-length-3 returns)

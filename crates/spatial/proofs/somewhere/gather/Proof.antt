@@ -1,0 +1,96 @@
+-- Each turn takes in one place more, if it is in range.
+use mathlib.Core.Path.{_≡_, sym, subst, _∙_}
+use mathlib.Core.Logic.{⊎-elim}
+use Prim.Native.Nat.{ℕ, _-_, _≤_}
+use native.Mathlib.Omega.{arith}
+use lib.ListN.{length}
+use borrow.Author.Needs.{needs}
+use Rattle.words.specs.Bytes.{wordsOf, numbersOf}
+use Rattle.values.specs.Signals.{inTable}
+use Rattle.spatial.specs.Lanes.{lanes, laneOf}
+use Rattle.spatial.specs.Strips.{Written}
+use Rattle.spatial.specs.Ranges.{gathered}
+use Rattle.spatial.proofs.RowLaws.{DistanceThere, distance-there}
+use Rattle.spatial.proofs.StripLaws.{written-already, written-over}
+use Rattle.spatial.proofs.Ranges.{gathered-none, gathering-more, gathering-past}
+use Rattle.spatial.proofs.somewhere.gather.Statement.{statement}
+use Rattle.spatial.proofs.somewhere.gather.Tie as tie
+
+abbrev Inv-loop : tie.InvT-loop
+Inv-loop row out₀ distances centre places lower upper least place₀ out place = (place ≤ places) × (length out ≡ length out₀)
+    × Written centre lanes (λ lane. gathered least (inTable (numbersOf (wordsOf distances)) places centre lower upper) (laneOf row lane) place) out₀ out
+
+abbrev μ-loop : tie.MeasureT-loop
+μ-loop row out₀ distances centre places lower upper least place₀ out place = places - place
+
+of-none-requires : tie.Need-of-none-requires Inv-loop μ-loop
+of-none-requires c κs = search needs
+
+fill-strip-requires : tie.Need-fill-strip-requires Inv-loop μ-loop
+fill-strip-requires c κs = search needs
+
+loop-holds : tie.Need-loop-holds Inv-loop μ-loop
+loop-holds c =
+    let a = c .before .before .before .before .before .before .before .before .args in
+    (search needs, search needs, written-already (λ lane l. c .before .before .fill-strip .ensures .written lane l ∙ c .before .before .before .of-none .ensures ∙ gathered-none (a .least) _ _))
+
+there : (c : tie.In-loop Inv-loop μ-loop) → let g = c .before .before .before .before .before .before .before .before .before .before .args in DistanceThere (g .distances .now) (g .places) (g .centre) (c .before .loop .place)
+there c = let start = c .before .before .before .before .before .before .before .before .before .before in distance-there (start .args .distances .now) (start .pre .0) (c .loop-test .taken) (start .pre .1)
+
+mul-in-range : tie.Need-mul-in-range Inv-loop μ-loop
+mul-in-range c = omega (arith, there c)
+
+add-in-range : tie.Need-add-in-range Inv-loop μ-loop
+add-in-range c = omega (arith, there c)
+
+in-range-requires : tie.Need-in-range-requires Inv-loop μ-loop
+in-range-requires c κs = there c .0
+
+pull-strip-requires : tie.Need-pull-strip-requires Inv-loop μ-loop
+pull-strip-requires c κs = search needs
+
+add-place : tie.Need-add-place Inv-loop μ-loop
+add-place c = search needs
+
+loop-less : tie.Need-loop-less Inv-loop μ-loop
+loop-less c = search needs
+
+loop-again : tie.Need-loop-again Inv-loop μ-loop
+unfolding inTable
+loop-again c =
+    let a = c .before .before .before .before .before .before .before .before .before .before .before .before .args in
+    let loop = c .before .before .before .loop in
+    let told = sym (c .before .in-range .ensures) in
+    ⊎-elim
+    (λ w. rw (w .5) (search needs, w .2 .kept .0 ∙ loop .inv .1, gathering-more (a .least) _ (a .row .now) (a .centre) (loop .place) (told ∙ w .0 .taken) (loop .inv .2) (w .2 .ensures)))
+    (λ w. rw (w .1) (search needs, loop .inv .1, gathering-past (a .least) _ (a .row .now) (a .centre) (loop .place) (told ∙ w .0 .left) (loop .inv .2)))
+    (c .if1 .came)
+
+same-length : tie.Need-same-length Inv-loop μ-loop
+same-length c = search needs
+
+returns : tie.Need-returns Inv-loop μ-loop
+returns c =
+    let a = c .before .before .before .before .before .before .before .before .before .before .args in
+    let ended : c .before .loop .place ≡ a .places = omega arith in
+    let all = subst (λ (k : ℕ). Written (a .centre) lanes (λ lane. gathered (a .least) (inTable (numbersOf (wordsOf (a .distances .now))) (a .places) (a .centre) (a .lower) (a .upper)) (laneOf (a .row .now) lane) k) (c .before .before .before .before .fill-strip .last .0) (c .before .loop .out)) ended (c .before .loop .inv .2) in
+    written-over (c .before .before .before .before .fill-strip .ensures) all
+
+pub gather-spec : {M : Type 1} → statement M
+gather-spec =
+    tie.close
+    (tie.spec
+    Inv-loop
+    μ-loop
+    of-none-requires
+    fill-strip-requires
+    loop-holds
+    mul-in-range
+    add-in-range
+    in-range-requires
+    pull-strip-requires
+    add-place
+    loop-less
+    loop-again
+    same-length
+    returns)

@@ -1,0 +1,60 @@
+-- Each turn gathers about one centre more.
+use mathlib.Core.Path.{_≡_, refl}
+use Prim.Native.Nat.{_-_, _≤_}
+use native.Mathlib.Omega.{arith}
+use borrow.Author.Needs.{needs}
+use Rattle.words.specs.Bytes.{wordsOf, numbersOf}
+use Rattle.values.specs.Signals.{inTable}
+use Rattle.spatial.specs.Lanes.{laneOf}
+use Rattle.spatial.specs.Blocks.{RowWritten}
+use Rattle.spatial.specs.Ranges.{gathered}
+use Rattle.spatial.proofs.RowLaws.{row-written-none, row-written-more, row-written-all}
+use Rattle.spatial.proofs.somewhere.gather_all.Statement.{statement}
+use Rattle.spatial.proofs.somewhere.gather_all.Tie as tie
+
+abbrev Inv-loop : tie.InvT-loop
+Inv-loop row out₀ distances places lower upper least centre₀ out centre = (centre ≤ places)
+    × RowWritten centre (λ lane l. gathered least (inTable (numbersOf (wordsOf distances)) places l lower upper) (laneOf row lane) places) out₀ out
+
+abbrev μ-loop : tie.MeasureT-loop
+μ-loop row out₀ distances places lower upper least centre₀ out centre = places - centre
+
+loop-holds : tie.Need-loop-holds Inv-loop μ-loop
+loop-holds c = (search needs, row-written-none _ _)
+
+gather-requires : tie.Need-gather-requires Inv-loop μ-loop
+gather-requires c κs = search needs
+
+add-centre : tie.Need-add-centre Inv-loop μ-loop
+add-centre c = search needs
+
+loop-less : tie.Need-loop-less Inv-loop μ-loop
+loop-less c = search needs
+
+loop-again : tie.Need-loop-again Inv-loop μ-loop
+loop-again c =
+    let loop = c .before .before .before .before .before .loop in
+    let here = c .before .before .gather in
+    (search needs, row-written-more (loop .inv .1) (here .ensures) (here .kept .1 .0) (λ _ _. refl))
+
+same-length : tie.Need-same-length Inv-loop μ-loop
+same-length c = search needs
+
+returns : tie.Need-returns Inv-loop μ-loop
+returns c =
+    let ended : c .before .loop .centre ≡ c .before .before .before .before .before .args .places = omega arith in
+    row-written-all (c .before .loop .inv .1) ended
+
+pub gather-all-spec : {M : Type 1} → statement M
+gather-all-spec =
+    tie.close
+    (tie.spec
+    Inv-loop
+    μ-loop
+    loop-holds
+    gather-requires
+    add-centre
+    loop-less
+    loop-again
+    same-length
+    returns)

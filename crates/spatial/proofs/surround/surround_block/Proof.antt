@@ -1,0 +1,70 @@
+-- Both operands are decoded into rows that are valid, and what the centres leave in lanes is the block of samples.
+use Rattle.words.specs.Bytes.{wordsOf, numbersOf}
+use Rattle.spatial.proofs.BlockLaws.{row-valid, block-done}
+use borrow.Author.Needs.{needs}
+use Rattle.spatial.proofs.surround.surround_block.Statement.{statement}
+use Rattle.spatial.proofs.surround.surround_block.Tie as tie
+
+slice-aggregate-load : tie.Need-slice-aggregate-load
+slice-aggregate-load c = search needs
+
+load-requires : tie.Need-load-requires
+load-requires c κs = search needs
+
+slice-aggregate-load-2 : tie.Need-slice-aggregate-load-2
+slice-aggregate-load-2 c = search needs
+
+load-requires-2 : tie.Need-load-requires-2
+load-requires-2 c κs = search needs
+
+slice-aggregate-surround-centres : tie.Need-slice-aggregate-surround-centres
+slice-aggregate-surround-centres c = search needs
+
+slice-aggregate-surround-centres-2 : tie.Need-slice-aggregate-surround-centres-2
+slice-aggregate-surround-centres-2 c = search needs
+
+surround-centres-requires : tie.Need-surround-centres-requires
+surround-centres-requires c κs =
+    let g = c .before .before .before .before .before .before .before .before .before .before .before .before .before .args in
+    let ready = c .before .before .before .before .before .before .before .before .before .before .before .before .before .pre .0 in
+    let w = wordsOf (g .words .now) in
+    let l = c .before .before .before .before .before .before .before .load in
+    let r = c .before .before .before .before .load2 in (
+      record {
+        few-places = ready .few-places;
+        left-valid = row-valid w (g .left) (g .places) (g .first) (g .count) (l .last .1 .1 .1 .1 .1 .0) (l .ensures .written) (ready .left-valid);
+        right-valid = row-valid w (g .right) (g .places) (g .first) (g .count) (r .last .1 .1 .1 .1 .1 .0) (r .ensures .written) (ready .right-valid);
+        left-room = search needs;
+        right-room = search needs;
+        roads-in = ready .roads-in;
+        distances-there = ready .distances-there;
+      },
+      c .before .before .before .before .before .before .before .before .before .before .before .before .before .pre .1,
+    )
+
+same-length : tie.Need-same-length
+same-length c = search needs
+
+returns : tie.Need-returns
+returns c =
+    let g = c .before .before .before .before .before .before .before .before .before .before .before .before .before .before .before .before .args in
+    let p = c .before .before .before .before .before .before .before .before .before .before .before .before .before .before .before .before .pre in
+    let l = c .before .before .before .before .before .before .before .before .before .before .load in
+    let r = c .before .before .before .before .before .before .before .load2 in
+    let s = c .before .before .surround-centres in
+    block-done (wordsOf (g .words .now)) (g .left) (g .right) (g .places) (wordsOf (g .sheet .now)) (g .roads) (numbersOf (wordsOf (g .distances .now))) (g .first) (g .count) (g .lower) (g .upper)
+    (l .last .1 .1 .1 .1 .1 .0) (r .last .1 .1 .1 .1 .1 .0) (p .0) (l .ensures .written) (r .ensures .written) (g .out .now) (s .last .1 .1 .1 .1 .1 .1 .1 .1 .0) (s .result) (s .ensures)
+
+pub surround-block-spec : {M : Type 1} → statement M
+surround-block-spec =
+    tie.close
+    (tie.spec
+    slice-aggregate-load
+    load-requires
+    slice-aggregate-load-2
+    load-requires-2
+    slice-aggregate-surround-centres
+    slice-aggregate-surround-centres-2
+    surround-centres-requires
+    same-length
+    returns)

@@ -1,0 +1,88 @@
+-- What is done for a block of samples: the strips of the operands are read once, and masked, settled and written centre by centre. These are for
+-- contracts inside the engine: no promise to a host speaks of them.
+use mathlib.Core.Path.{_≡_}
+use mathlib.Core.Bool.{cond}
+use mathlib.Core.List.{List}
+use Prim.Native.Nat.{ℕ, _+_, _*_, _<_, _≤_}
+use lib.Dec.{ltb}
+use lib.ListN.{length}
+use Rattle.logic.specs.Margin.{marginLattice}
+use Rattle.logic.specs.Surround.{surround}
+use Rattle.logic.specs.Iteration.{masked, rounds}
+use Rattle.logic.specs.Counts.{mostBelow}
+use Rattle.sheet.specs.Limits.{mostPlaces}
+use Rattle.values.specs.Chain.{chainLattice, chainMargin, Valid}
+use Rattle.values.specs.Signals.{signalIn, inTable}
+use Rattle.spatial.specs.Lanes.{lanes, laneOf, joinedBy, surroundValue, blockRounds}
+use Rattle.spatial.specs.Steps.{RoadsIn, ValidRow}
+
+-- a row by its numbers, as far as the first k places
+pub record RowOf (f : ℕ → ℕ → ℕ) (row : List ℕ) (k : ℕ) : Type 0 where
+  pub at : (place lane : ℕ) → place < k → lane < lanes → laneOf row lane place ≡ f lane place
+
+-- the strips of the first k places are written, and nothing else is
+pub record RowWritten (k : ℕ) (f : ℕ → ℕ → ℕ) (before after : List ℕ) : Type 0 where
+  pub written : RowOf f after k
+  pub kept : (place lane : ℕ) → k ≤ place → lane < lanes → laneOf after lane place ≡ laneOf before lane place
+  pub long : length after ≡ length before
+
+-- a lane holds the signal at one sample, and the lowest number past the last of the samples
+abbrev pub laneSignal : List ℕ → ℕ → ℕ → ℕ → ℕ → ℕ → ℕ → ℕ
+laneSignal words start n first count lane place = cond (ltb lane count) (signalIn words start n (first + lane) place) 0
+
+-- rows of the operands; a sheet with its roads; distances; bounds
+module _ (left right : List ℕ) (n : ℕ) (sheet : List ℕ) (roads : ℕ) (distances : List ℕ) (lower upper : ℕ) where
+  -- the surround of one lane at a centre
+  unfoldable pub laneSurround : ℕ → ℕ → ℕ
+  laneSurround lane centre = surround chainLattice (joinedBy sheet roads) n (inTable distances n centre 0 upper) (inTable distances n centre lower upper)
+      (laneOf left lane) (laneOf right lane) centre
+
+  -- the rounds of one lane at a centre
+  unfoldable pub laneRounds : ℕ → ℕ → ℕ
+  laneRounds centre lane = rounds (joinedBy sheet roads) n
+      (masked marginLattice (inTable distances n centre 0 upper) (λ l. chainMargin (laneOf left lane l)))
+      (masked marginLattice (inTable distances n centre lower upper) (λ l. chainMargin (laneOf right lane l)))
+
+  -- the surround of every lane at a centre, with the greatest rounds of a lane
+  pub record CentreDone (centre : ℕ) (after : List ℕ) (r : ℕ) : Type 0 where
+    pub values : (lane : ℕ) → lane < lanes → laneOf after lane centre ≡ laneSurround lane centre
+    pub rounds : r ≡ mostBelow (laneRounds centre) lanes
+
+  -- the same of the first k centres, in a row
+  pub record CentresDone (k : ℕ) (before after : List ℕ) (r : ℕ) : Type 0 where
+    pub values : RowWritten k laneSurround before after
+    pub rounds : r ≡ mostBelow (λ centre. mostBelow (laneRounds centre) lanes) k
+
+-- what the rows of the operands, the sheet and the distances must be for this
+pub record RowsReady (left right : List ℕ) (n : ℕ) (sheet : List ℕ) (roads : ℕ) (distances : List ℕ) : Type 0 where
+  pub few-places : n ≤ mostPlaces
+  pub left-valid : ValidRow left n
+  pub right-valid : ValidRow right n
+  pub left-room : n * lanes ≤ length left
+  pub right-room : n * lanes ≤ length right
+  pub roads-in : RoadsIn sheet roads n
+  pub distances-there : n * n ≤ length distances
+
+-- words with the signals of the operands, n to a sample, which begin at `left` and `right`; samples `first` to first + count - 1
+module _ (words : List ℕ) (left right n : ℕ) (sheet : List ℕ) (roads : ℕ) (distances : List ℕ) (first count : ℕ) where
+  -- what is lent holds all that is read, and the signals are numbers that can arise
+  pub record BlockReady : Type 0 where
+    pub few-places : n ≤ mostPlaces
+    pub some : 1 ≤ count
+    pub few : count ≤ lanes
+    pub left-there : left + (first + count) * n ≤ length words
+    pub right-there : right + (first + count) * n ≤ length words
+    pub roads-in : RoadsIn sheet roads n
+    pub distances-there : n * n ≤ length distances
+    pub left-valid : (t l : ℕ) → first ≤ t → t < first + count → l < n → Valid (signalIn words left n t l)
+    pub right-valid : (t l : ℕ) → first ≤ t → t < first + count → l < n → Valid (signalIn words right n t l)
+
+  -- entry centre · lanes + lane is the surround of sample first + lane at the centre, and r the greatest rounds; a lane without a sample is lowest, and
+  -- what stands past the n places is kept
+  pub record BlockDone (lower upper : ℕ) (before after : List ℕ) (r : ℕ) : Type 0 where
+    pub values : (centre lane : ℕ) → centre < n → lane < count
+        → laneOf after lane centre ≡ surroundValue words left right n sheet roads distances lower upper (first + lane) centre
+    pub idle : (centre lane : ℕ) → centre < n → count ≤ lane → lane < lanes → laneOf after lane centre ≡ 0
+    pub kept : (place lane : ℕ) → n ≤ place → lane < lanes → laneOf after lane place ≡ laneOf before lane place
+    pub long : length after ≡ length before
+    pub rounds : r ≡ blockRounds words left right n sheet roads distances lower upper first count

@@ -1,0 +1,94 @@
+-- What a round does, row by row: `both` holds what each place hands to its neighbours, and a pull takes it over where it is less. These are for
+-- contracts inside the engine: no promise to a host speaks of them.
+use mathlib.Core.Path.{_≡_}
+use mathlib.Core.Bool.{Bool, false}
+use mathlib.Core.List.{List}
+use Prim.Native.Nat.{ℕ, suc, _*_, _<_, _≤_}
+use lib.Dec.{T}
+use lib.ListN.{length, getD}
+use Rattle.logic.specs.Lattice.{leastOver}
+use Rattle.logic.specs.Iteration.{iterate, rounds}
+use Rattle.logic.specs.Counts.{mostBelow}
+use Rattle.sheet.specs.Checked.{wordAt}
+use Rattle.sheet.specs.Layout.{roadAt, firstPlace, secondPlace}
+use Rattle.values.specs.Chain.{chainLattice, chainMargin, highest, Valid}
+use Rattle.spatial.specs.Lanes.{lanes, laneOf, joinedBy}
+
+-- the words of the roads are there, and each road joins two of the n places
+pub record RoadsIn (sheet : List ℕ) (roads n : ℕ) : Type 0 where
+  pub there : (r : ℕ) → r < roads → roadAt r < length sheet
+  pub order : (r : ℕ) → r < roads → firstPlace (wordAt sheet (roadAt r)) < secondPlace (wordAt sheet (roadAt r))
+  pub inside : (r : ℕ) → r < roads → secondPlace (wordAt sheet (roadAt r)) < n
+
+-- the numbers of n places, none above the highest
+pub record Bounded (row : List ℕ) (n : ℕ) : Type 0 where
+  pub bound : (place lane : ℕ) → place < n → lane < lanes → laneOf row lane place ≤ highest
+
+-- the numbers of n places, all of them numbers that can arise
+pub record ValidRow (row : List ℕ) (n : ℕ) : Type 0 where
+  pub valid : (place lane : ℕ) → place < n → lane < lanes → Valid (laneOf row lane place)
+
+-- the flags of k places are a test's
+pub record Marked (test : ℕ → Bool) (flags : List Bool) (k : ℕ) : Type 0 where
+  pub flag : (place : ℕ) → place < k → getD flags place false ≡ test place
+
+-- the numbers of the places without a flag are the lowest
+pub record LowOutside (inside : List Bool) (row : List ℕ) (n : ℕ) : Type 0 where
+  pub low : (place lane : ℕ) → place < n → lane < lanes → getD inside place false ≡ false → laneOf row lane place ≡ 0
+
+-- rows with room for n places, all of one length
+pub record Rooms (n : ℕ) (x right old both : List ℕ) : Type 0 where
+  pub room : n * lanes ≤ length x
+  pub right-room : length right ≡ length x
+  pub old-room : length old ≡ length x
+  pub both-room : length both ≡ length x
+
+-- the rows of an iteration are lowest outside: nothing there changes
+pub record LowRows (inside : List Bool) (n : ℕ) (x right old both : List ℕ) : Type 0 where
+  pub low : LowOutside inside x n
+  pub right-low : LowOutside inside right n
+  pub old-low : LowOutside inside old n
+  pub both-low : LowOutside inside both n
+
+-- old is x, and both the greater of x and right
+pub record Joined (x right old both : List ℕ) (n : ℕ) : Type 0 where
+  pub former : (place lane : ℕ) → place < n → lane < lanes → laneOf old lane place ≡ laneOf x lane place
+  pub handed : (place lane : ℕ) → place < n → lane < lanes → laneOf both lane place ≡ chainLattice .join (laneOf x lane place) (laneOf right lane place)
+
+-- each of two places takes over from the other
+pub record RoadPulled (a b : ℕ) (both before after : List ℕ) : Type 0 where
+  pub first : (lane : ℕ) → lane < lanes → laneOf after lane a ≡ chainLattice .meet (laneOf before lane a) (laneOf both lane b)
+  pub second : (lane : ℕ) → lane < lanes → laneOf after lane b ≡ chainLattice .meet (laneOf before lane b) (laneOf both lane a)
+  pub other : (place lane : ℕ) → lane < lanes → (place ≡ a → ⊥) → (place ≡ b → ⊥) → laneOf after lane place ≡ laneOf before lane place
+
+-- y is the least of x and of f where the test passes
+pub record LeastOf (y x : ℕ) (test : ℕ → Bool) (f : ℕ → ℕ) : Type 0 where
+  pub below : y ≤ x
+  pub under : (p : ℕ) → T (test p) → y ≤ f p
+  pub greatest : (z : ℕ) → z ≤ x → ((p : ℕ) → T (test p) → z ≤ f p) → z ≤ y
+
+-- each place has taken over along the first roads
+pub record Stepped (sheet : List ℕ) (roads : ℕ) (both before after : List ℕ) : Type 0 where
+  pub least : (place lane : ℕ) → lane < lanes → LeastOf (laneOf after lane place) (laneOf before lane place) (joinedBy sheet roads place) (laneOf both lane)
+
+-- one step of Definition 4.4 in every lane, with the former numbers in `old`
+pub record Round (sheet : List ℕ) (roads n : ℕ) (right before old after : List ℕ) : Type 0 where
+  pub former : (place lane : ℕ) → place < n → lane < lanes → laneOf old lane place ≡ laneOf before lane place
+  pub stepped : (place lane : ℕ) → place < n → lane < lanes → laneOf after lane place
+      ≡ chainLattice .meet (laneOf before lane place) (leastOver chainLattice (joinedBy sheet roads place) (λ k. chainLattice .join (laneOf before lane k) (laneOf right lane k)) n)
+
+module _ (sheet : List ℕ) (roads n : ℕ) (right x : List ℕ) where
+  -- Definition 4.4's iteration in one lane: what it has at step i
+  abbrev pub stepIn : ℕ → ℕ → ℕ → ℕ
+  stepIn lane = iterate chainLattice (joinedBy sheet roads) n (laneOf x lane) (laneOf right lane)
+
+  -- the rounds of one lane
+  abbrev pub roundsIn : ℕ → ℕ
+  roundsIn lane = rounds (joinedBy sheet roads) n (λ l. chainMargin (laneOf x lane l)) (λ l. chainMargin (laneOf right lane l))
+
+  -- every lane has come to rest, and r is the greatest rounds of a lane
+  pub record Settled (r : ℕ) (after : List ℕ) : Type 0 where
+    pub steps : ℕ
+    pub reached : (place lane : ℕ) → place < n → lane < lanes → laneOf after lane place ≡ stepIn lane steps place
+    pub rests : (place lane : ℕ) → place < n → lane < lanes → stepIn lane (suc steps) place ≡ stepIn lane steps place
+    pub counted : r ≡ mostBelow roundsIn lanes
