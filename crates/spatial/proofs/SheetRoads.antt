@@ -1,4 +1,4 @@
--- The roads of an accepted sheet are what the kernel asks of its roads.
+-- The roads of an accepted sheet are what the iteration asks of its roads.
 use mathlib.Core.List.{List}
 use Prim.Native.Nat.{ℕ, _<_}
 use Rattle.sheet.specs.Layout.{roadAt}

@@ -6,14 +6,11 @@ use mathlib.Core.List.{List}
 use Prim.Native.Nat.{ℕ, _+_, _*_, _<_, _≤_}
 use lib.Dec.{ltb}
 use lib.ListN.{length}
-use Rattle.logic.specs.Margin.{marginLattice}
-use Rattle.logic.specs.Surround.{surround}
-use Rattle.logic.specs.Iteration.{masked, rounds}
 use Rattle.logic.specs.Counts.{mostBelow}
 use Rattle.sheet.specs.Limits.{mostPlaces}
-use Rattle.values.specs.Chain.{chainLattice, chainMargin, Valid}
-use Rattle.values.specs.Signals.{signalIn, inTable}
-use Rattle.spatial.specs.Lanes.{lanes, laneOf, joinedBy, surroundValue, blockRounds}
+use Rattle.values.specs.Chain.{Valid}
+use Rattle.values.specs.Signals.{signalIn}
+use Rattle.spatial.specs.Lanes.{lanes, laneOf, surroundBy, roundsBy, surroundValue, blockRounds}
 use Rattle.spatial.specs.Steps.{RoadsIn, ValidRow}
 
 -- a row by its numbers, as far as the first k places
@@ -34,14 +31,11 @@ laneSignal words start n first count lane place = cond (ltb lane count) (signalI
 module _ (left right : List ℕ) (n : ℕ) (sheet : List ℕ) (roads : ℕ) (distances : List ℕ) (lower upper : ℕ) where
   -- the surround of one lane at a centre
   unfoldable pub laneSurround : ℕ → ℕ → ℕ
-  laneSurround lane centre = surround chainLattice (joinedBy sheet roads) n (inTable distances n centre 0 upper) (inTable distances n centre lower upper)
-      (laneOf left lane) (laneOf right lane) centre
+  laneSurround lane centre = surroundBy n sheet roads distances lower upper (laneOf left lane) (laneOf right lane) centre
 
   -- the rounds of one lane at a centre
   unfoldable pub laneRounds : ℕ → ℕ → ℕ
-  laneRounds centre lane = rounds (joinedBy sheet roads) n
-      (masked marginLattice (inTable distances n centre 0 upper) (λ l. chainMargin (laneOf left lane l)))
-      (masked marginLattice (inTable distances n centre lower upper) (λ l. chainMargin (laneOf right lane l)))
+  laneRounds centre lane = roundsBy n sheet roads distances lower upper (laneOf left lane) (laneOf right lane) centre
 
   -- the surround of every lane at a centre, with the greatest rounds of a lane
   pub record CentreDone (centre : ℕ) (after : List ℕ) (r : ℕ) : Type 0 where

@@ -1,4 +1,4 @@
--- Each arm knows what is asked about the centres, and that its kernel finds what it reads.
+-- Each arm knows what is asked about the centres, and that what it reads is there.
 use mathlib.Core.Path.{_≡_, sym, subst}
 use mathlib.Core.List.{List}
 use Prim.Native.Nat.{ℕ, _+_}
