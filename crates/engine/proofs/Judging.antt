@@ -1,9 +1,7 @@
 -- How the outcome of the survey decides what is judged: a refusal as it is, an accepted sheet by the room for its answer.
 use mathlib.Core.Path.{_≡_, sym, ap, subst, _∙_}
-use mathlib.Core.Bool.{Bool, cond}
 use mathlib.Core.List.{List}
 use Prim.Native.Nat.{ℕ, _<_, _≤_}
-use lib.Dec.{leb}
 use lib.ListN.{length}
 use borrow.Author.Tests.{le-leb, lt-leb}
 use Rattle.sheet.specs.declared.check.Layout as Code
@@ -14,6 +12,7 @@ use Rattle.sheet.specs.Survey.{surveyedBy, surveyed}
 use Rattle.sheet.proofs.Checks.{mapped-accepted, mapped-refused}
 use Rattle.verdicts.specs.Answer.{wordsNeeded}
 use Rattle.verdicts.specs.Judged.{refusal, answered, judgedBy, judged}
+use Rattle.verdicts.proofs.Accepted.{judged-by-room}
 use Rattle.engine.specs.Lines.{foundBy, found, Accepting}
 
 accepting-here : (s distances : List ℕ) (layout : Code.Layout) → mapped layoutOf (checked s (length distances)) ≡ accepted layout
@@ -40,13 +39,8 @@ module _ (s : List ℕ) (room answer : ℕ) where
   judged-refused e = ap (judgedBy s room answer) (mapped-refused layoutOf (checked s room) e)
 
   module _ (accepts : checked s room ≡ accepted (found s room)) where
-    by-room : {enough : Bool} → leb (wordsNeeded (found s room .sizes .places) (found s room .lines)) answer ≡ enough
-        → judged s room answer ≡ cond enough (answered s room answer (found s room)) (refusal room answer 15 (length s))
-    unfolding judged
-    by-room e = ap (judgedBy s room answer) accepts ∙ ap (λ (b : Bool). cond b (answered s room answer (found s room)) (refusal room answer 15 (length s))) e
-
     pub judged-answered : wordsNeeded (found s room .sizes .places) (found s room .lines) ≤ answer → judged s room answer ≡ answered s room answer (found s room)
-    judged-answered h = by-room (le-leb _ _ h)
+    judged-answered h = judged-by-room s room answer accepts (le-leb _ _ h)
 
     pub judged-short : answer < wordsNeeded (found s room .sizes .places) (found s room .lines) → judged s room answer ≡ refusal room answer 15 (length s)
-    judged-short h = by-room (lt-leb _ _ h)
+    judged-short h = judged-by-room s room answer accepts (lt-leb _ _ h)

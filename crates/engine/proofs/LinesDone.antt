@@ -18,11 +18,10 @@ use Rattle.logic.proofs.TableKeeps.{ConstantsIn}
 use Rattle.logic.proofs.Totals.{sum-more, sum-bound, table-yes-bound, most-more}
 use Rattle.sheet.specs.declared.check.Layout as Code
 use Rattle.sheet.specs.Limits.{mostPlaces, mostSamples, mostLines}
-use Rattle.sheet.specs.Checked.{wordAt}
 use Rattle.sheet.specs.GoodLines.{lengthsOf}
 use Rattle.sheet.specs.Layout.{Layout}
 use Rattle.sheet.specs.Roads.{network, recording}
-use Rattle.sheet.proofs.AcceptedLines.{sample-bits, good-length, good-constants}
+use Rattle.sheet.proofs.AcceptedLines.{good-length, good-constants}
 use Rattle.values.specs.Chain.{chains, Valid}
 use Rattle.values.proofs.ChainTable.{chains-valid}
 use Rattle.verdicts.specs.declared.tally.Tally.{Tally}
@@ -30,6 +29,7 @@ use Rattle.verdicts.specs.Tally.{together}
 use Rattle.verdicts.specs.Answer.{lineIndex, firstWord, lineWords}
 use Rattle.verdicts.specs.Writing.{sheetNetwork, sheetRecording, earlier, lineValue, lineRounds}
 use Rattle.verdicts.proofs.AnswerWords.{lines-size, sizes-below}
+use Rattle.verdicts.proofs.Points.{sheet-bits}
 use Rattle.engine.specs.Line.{LineReady, LineWritten, wordsUpTo, valueHere, roundsHere}
 use Rattle.engine.specs.Lines.{found, Accepting, LinesWritten}
 use Rattle.engine.proofs.AcceptedTable.{Table, line-ends}
@@ -79,10 +79,6 @@ all-done s layout distances answer words starts k to tally accepting last done =
     record { written = all .written; ends = all .ends; greatest = all .greatest; counted = all .counted }
 
 module _ (s : List ℕ) (layout : Code.Layout) (distances : List ℕ) (lines : List Line) (table : Table s layout distances lines) where
-  samples : (signal t l : ℕ) → InBits 27 (sheetRecording s layout signal t l)
-  unfolding sheetRecording
-  samples signal t l = sample-bits (wordAt s (layout .recording + ((t * layout .places + l) * layout .signals + signal)))
-
   constants : ConstantsIn (InBits 27) lines
   constants = good-constants (layout .signals) (layout .samples) lines (table .good)
 
@@ -124,7 +120,7 @@ module _ (s : List ℕ) (layout : Code.Layout) (distances : List ℕ) (lines : L
     unfolding before
     signal-here i t l h u b =
         rw (done .begins i h, done .ends, done .written)
-        (signal-before (sheetNetwork s layout) (layout .samples) (sheetRecording s layout) samples lines constants answer (omega (arith, fits, length-done)) k (firstWord (lineIn lines k)) i t l h u b)
+        (signal-before (sheetNetwork s layout) (layout .samples) (sheetRecording s layout) (sheet-bits s layout) lines constants answer (omega (arith, fits, length-done)) k (firstWord (lineIn lines k)) i t l h u b)
 
     ready : LineReady s layout distances (wordsUpTo words to (lineIn lines k)) starts (lineIn lines k)
     unfolding before lineIndex
@@ -143,7 +139,7 @@ module _ (s : List ℕ) (layout : Code.Layout) (distances : List ℕ) (lines : L
         length-take-le to words (omega (arith, room-left)),
         sizes-below (sheetNetwork s layout) (layout .samples) (sheetRecording s layout) lines i k h,
       );
-      valid = λ i t l h u b. subst Valid (sym (signal-here i t l h u b)) (chains-valid (sheetNetwork s layout) (sheetRecording s layout) samples lines constants i t l b);
+      valid = λ i t l h u b. subst Valid (sym (signal-here i t l h u b)) (chains-valid (sheetNetwork s layout) (sheetRecording s layout) (sheet-bits s layout) lines constants i t l b);
     }
 
     -- the line's words go behind those before it
@@ -167,9 +163,9 @@ module _ (s : List ℕ) (layout : Code.Layout) (distances : List ℕ) (lines : L
         let N = sheetNetwork s layout in
         let x = sheetRecording s layout in
         let T : ℕ = layout .samples in
-        let meant = words-meant N T x samples lines constants (layout .signals) (table .good) k inside (earlier layout before starts) signal-here in
-        let many = yes-meant N T x samples lines constants (layout .signals) (table .good) k inside (earlier layout before starts) signal-here in
-        let most = rounds-meant N T x samples lines constants (layout .signals) (table .good) k inside (earlier layout before starts) signal-here in
+        let meant = words-meant N T x (sheet-bits s layout) lines constants (layout .signals) (table .good) k inside (earlier layout before starts) signal-here in
+        let many = yes-meant N T x (sheet-bits s layout) lines constants (layout .signals) (table .good) k inside (earlier layout before starts) signal-here in
+        let most = rounds-meant N T x (sheet-bits s layout) lines constants (layout .signals) (table .good) k inside (earlier layout before starts) signal-here in
         record {
           room = length-set starts k (to + 1) ∙ done .room;
           begins = begun;

@@ -26,6 +26,12 @@ unfolding sumBelow
 sum-parts f a zero = rw (add-zero a) (omega arith)
 sum-parts f a (suc b) = rw (add-suc a b) (omega (arith, sum-parts f a b))
 
+-- a sum is no less than that of the first numbers
+pub sum-below : (f : ℕ → ℕ) (i n : ℕ) → i < n → sumBelow f i + f i ≤ sumBelow f n
+unfolding sumBelow
+sum-below f i zero h = absurd (not-suc-le-zero h)
+sum-below f i (suc n) h = ⊎-elim (λ e. rw e (omega arith)) (λ l. omega (arith, sum-below f i n l)) (below h)
+
 pub sum-le : (f g : ℕ → ℕ) (n : ℕ) → ((i : ℕ) → i < n → f i ≤ g i) → sumBelow f n ≤ sumBelow g n
 unfolding sumBelow
 sum-le f g zero h = zero-le

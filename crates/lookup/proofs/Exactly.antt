@@ -2,7 +2,7 @@
 -- or the place is not in it. Everywhere else it gives 1 or 2.
 use mathlib.Core.Path.{_≡_, refl}
 use mathlib.Core.Logic.{_⊎_, inl, inr, ⊎-elim}
-use mathlib.Core.Bool.{Bool, true, false, not, cond, _&&_}
+use mathlib.Core.Bool.{Bool, true, false, not, cond, and-false}
 use mathlib.Core.List.{List}
 use Prim.Native.Nat.{ℕ, _+_, _*_, _<_, _≤_}
 use native.Mathlib.Omega.{arith}
@@ -28,10 +28,6 @@ zero-chosen false number h = refl
 pub chosen-zero : (b : Bool) (number : ℕ) → cond b number 0 ≡ 0 → T (not b) ⊎ (number ≡ 0)
 chosen-zero true number e = inr e
 chosen-zero false number e = inl tt
-
-and-false : (b : Bool) → (b && false) ≡ false
-and-false true = refl
-and-false false = refl
 
 one-or-two : (s : Said) → T (isSaid s) → (verdictNumber s ≡ 1) ⊎ (verdictNumber s ≡ 2)
 one-or-two (says true m) some = inl refl

@@ -3,7 +3,7 @@ use mathlib.Core.Path.{_≡_, refl, sym, ap, ap₂, subst, _∙_}
 use mathlib.Core.Logic.{⊎-elim}
 use mathlib.Core.Bool.{Bool, true, false, not, cond, _&&_}
 use mathlib.Core.List.{List, [], _∷_, _++_}
-use Prim.Native.Nat.{ℕ, zero, suc, _+_, _-_, _%_, _^_, _<_, _≤_, min, zero-le, suc-le-suc}
+use Prim.Native.Nat.{ℕ, zero, suc, _+_, _-_, _*_, _%_, _^_, _<_, _≤_, min, zero-le, suc-le-suc}
 use native.Mathlib.Nat.{not-suc-le-zero, zero-add, le-trans, le-of-lt}
 use native.Mathlib.Decide.{decLt}
 use native.Mathlib.Omega.{arith}
@@ -21,7 +21,8 @@ use Rattle.sheet.specs.Checked.{Checked, accepted, _>>=_, require, wordA
 use Rattle.sheet.specs.Codes.{Code, constant, atom, unary, binary, unaryBounded, binaryBounded, unknown, codes, codeOf}
 use Rattle.sheet.specs.Lines.{codeField, leftField, rightField, unused, plain, constantAt, boundsAt, withConstant, withBounds, operatorBy, operatorAt, lineAt, linesFrom}
 use Rattle.sheet.specs.GoodLines.{Bounds, Sound, lengthsOf, GoodLine, GoodTable, GoodLines}
-use Rattle.sheet.proofs.Checks.{never, require-e, bind-e, accepted-inj}
+use Rattle.sheet.specs.Roads.{recordingOf}
+use Rattle.sheet.proofs.Checks.{never, require-e, bind-accepted, same-accepted}
 
 -- ---- a constant is a number of 27 bits
 pub sample-bits : (w : ℕ) → InBits 27 (sampleOf w)
@@ -32,6 +33,9 @@ sample-bits w = go (ltb (w % 2 ^ 27) (2 ^ 26)) refl
     go false e =
         let high : 2 ^ 26 ≤ w % 2 ^ 27 = nltb→le (w % 2 ^ 27) (2 ^ 26) (rw e tt) in
         omega arith
+
+pub recording-bits : (s : List ℕ) (start places signals x t l : ℕ) → InBits 27 (recordingOf s start places signals x t l)
+recording-bits s start places signals x t l = sample-bits (wordAt s (start + ((t * places + l) * signals + x)))
 
 module _ (v k : ℕ) where
   -- what a code says is sound where its fields and parameters are
@@ -66,7 +70,7 @@ constant-fits s at c e =
     let clear : Bool = eqb (bits 27 1 (wordAt s at)) 0 in
     let rest = require-e (isKind 8 s at) 12 at (require clear 12 at (accepted (sampleOf (wordAt s at)))) c e .1 in
     let same = require-e clear 12 at (accepted (sampleOf (wordAt s at))) c rest .1 in
-    subst (InBits 27) (accepted-inj (sampleOf (wordAt s at)) c same) (sample-bits (wordAt s at))
+    subst (InBits 27) (same-accepted same) (sample-bits (wordAt s at))
 
 bounds-fit : (s : List ℕ) (at : ℕ) (b : ℕ × ℕ) → boundsAt s at ≡ accepted b → Bounds (b .0) (b .1)
 unfolding boundsAt
@@ -77,7 +81,7 @@ bounds-fit s at b e =
     let e₁ = require-e (isKind 6 s at) 12 at (require (isKind 7 s (at + 1)) 12 (at + 1) third) b e .1 in
     let e₂ = require-e (isKind 7 s (at + 1)) 12 (at + 1) third b e₁ .1 in
     let (order, same) = require-e (leb lower upper) 12 (at + 1) (accepted (lower, upper)) b e₂ in
-    subst (λ (c : ℕ × ℕ). Bounds (c .0) (c .1)) (accepted-inj (lower, upper) b same) (record { order = leb→le lower upper order; small = omega arith })
+    subst (λ (c : ℕ × ℕ). Bounds (c .0) (c .1)) (same-accepted same) (record { order = leb→le lower upper order; small = omega arith })
 
 -- what an accepted operator was made of
 module _ (s : List ℕ) (v k : ℕ) where
@@ -87,26 +91,26 @@ module _ (s : List ℕ) (v k : ℕ) where
   by-code : (code : Code) → Fits v k code → (at left right : ℕ) (read : Operator × ℕ) → operatorBy s code at left right v k ≡ accepted read → SoundRead read
   by-code (constant o) fit at left right read e =
       let same = require-e (ltb left unused && ltb right unused) 11 at (plain at o) read e .1 in
-      subst SoundRead (accepted-inj (o, at + 1) read same) fit
+      subst SoundRead (same-accepted same) fit
   by-code (atom o) fit at left right read e =
       let (fields, rest) = require-e (ltb left v && ltb right unused) 11 at (withConstant s at (o left)) read e in
-      let (c, hc, same) = bind-e (constantAt s (at + 1)) (λ c. accepted (o left c, at + 2)) read rest in
-      subst SoundRead (accepted-inj (o left c, at + 2) read same) (fit left c (ltb→lt left v (and-l (ltb left v) _ fields)) (constant-fits s (at + 1) c hc))
+      let (c, hc, same) = bind-accepted (constantAt s (at + 1)) (λ c. accepted (o left c, at + 2)) rest in
+      subst SoundRead (same-accepted same) (fit left c (ltb→lt left v (and-l (ltb left v) _ fields)) (constant-fits s (at + 1) c hc))
   by-code (unary o) fit at left right read e =
       let (fields, same) = require-e (ltb left k && ltb right unused) 11 at (plain at (o left)) read e in
-      subst SoundRead (accepted-inj (o left, at + 1) read same) (fit left (ltb→lt left k (and-l (ltb left k) _ fields)))
+      subst SoundRead (same-accepted same) (fit left (ltb→lt left k (and-l (ltb left k) _ fields)))
   by-code (binary o) fit at left right read e =
       let (fields, same) = require-e (ltb left k && ltb right k) 11 at (plain at (o left right)) read e in
-      subst SoundRead (accepted-inj (o left right, at + 1) read same) (fit left right (ltb→lt left k (and-l (ltb left k) _ fields)) (ltb→lt right k (and-r (ltb left k) _ fields)))
+      subst SoundRead (same-accepted same) (fit left right (ltb→lt left k (and-l (ltb left k) _ fields)) (ltb→lt right k (and-r (ltb left k) _ fields)))
   by-code (unaryBounded o) fit at left right read e =
       let (fields, rest) = require-e (ltb left k && ltb right unused) 11 at (withBounds s at (o left)) read e in
-      let (b, hb, same) = bind-e (boundsAt s (at + 1)) (λ b. accepted (o left (b .0) (b .1), at + 3)) read rest in
-      subst SoundRead (accepted-inj (o left (b .0) (b .1), at + 3) read same)
+      let (b, hb, same) = bind-accepted (boundsAt s (at + 1)) (λ b. accepted (o left (b .0) (b .1), at + 3)) rest in
+      subst SoundRead (same-accepted same)
       (fit left (b .0) (b .1) (ltb→lt left k (and-l (ltb left k) _ fields)) (bounds-fit s (at + 1) b hb))
   by-code (binaryBounded o) fit at left right read e =
       let (fields, rest) = require-e (ltb left k && ltb right k) 11 at (withBounds s at (o left right)) read e in
-      let (b, hb, same) = bind-e (boundsAt s (at + 1)) (λ b. accepted (o left right (b .0) (b .1), at + 3)) read rest in
-      subst SoundRead (accepted-inj (o left right (b .0) (b .1), at + 3) read same)
+      let (b, hb, same) = bind-accepted (boundsAt s (at + 1)) (λ b. accepted (o left right (b .0) (b .1), at + 3)) rest in
+      subst SoundRead (same-accepted same)
       (fit left right (b .0) (b .1) (ltb→lt left k (and-l (ltb left k) _ fields)) (ltb→lt right k (and-r (ltb left k) _ fields)) (bounds-fit s (at + 1) b hb))
   by-code unknown fit at left right read e = absurd (never e)
 
@@ -159,10 +163,10 @@ line-good : (s : List ℕ) (v T : ℕ) (lines : List Line) (at : ℕ) (read : Li
     → lineAt s v T (length lines) (λ i. lineIn lines i .length) at ≡ accepted read → GoodLine v T (lengthsOf lines) (length lines) (read .0)
 unfolding lineAt
 line-good s v T lines at read good e =
-    let (o, ho, rest) = bind-e (operatorAt s v (length lines) at) _ read e in
+    let (o, ho, rest) = bind-accepted (operatorAt s v (length lines) at) _ e in
     let samples : ℕ = lengthOf T (λ i. lineIn lines i .length) (o .0) in
     let (least, same) = require-e (leb 1 samples) 13 at (accepted (record { operator = o .0; length = samples }, o .1)) read rest in
-    subst (λ (r : Line × ℕ). GoodLine v T (lengthsOf lines) (length lines) (r .0)) (accepted-inj (record { operator = o .0; length = samples }, o .1) read same) (record {
+    subst (λ (r : Line × ℕ). GoodLine v T (lengthsOf lines) (length lines) (r .0)) (same-accepted same) (record {
       least = leb→le 1 samples least;
       most = length-bound T (λ i. lineIn lines i .length) (good-length v T lines good) (o .0);
       extent = refl;
@@ -198,7 +202,7 @@ lines-good : (s : List ℕ) (v T room : ℕ) (lines : List Line) (at : ℕ) (fou
 unfolding linesFrom
 lines-good s v T zero lines at found good some e =
     let same = require-e (not (isKind 5 s at)) 10 at (accepted (lines, at)) found e .1 in
-    subst (λ (f : List Line × ℕ). GoodLines v T (0 + length lines) (f .0)) (accepted-inj (lines, at) found same) (record { good = good; some = omega arith; bound = omega arith })
+    subst (λ (f : List Line × ℕ). GoodLines v T (0 + length lines) (f .0)) (same-accepted same) (record { good = good; some = omega arith; bound = omega arith })
 lines-good s v T (suc room) lines at found good some e =
     go (isKind 5 s at) (λ longer next goods more. lines-good s v T room longer next found goods more) e
   where
@@ -209,14 +213,14 @@ lines-good s v T (suc room) lines at found good some e =
           | false ↦ require (ltb 0 (length lines)) 10 at (accepted (lines, at))
         ] ≡ accepted found → GoodLines v T (suc room + length lines) (found .0)
     go true onward e =
-        let (read, hr, rest) = bind-e (lineAt s v T (length lines) (λ i. lineIn lines i .length) at) _ found e in
+        let (read, hr, rest) = bind-accepted (lineAt s v T (length lines) (λ i. lineIn lines i .length) at) _ e in
         let l : length (lines ++ (read .0 ∷ [])) ≡ length lines + 1 = length-append lines (read .0 ∷ []) in
         let count : room + length (lines ++ (read .0 ∷ [])) ≡ suc room + length lines = omega arith in
         subst (λ m. GoodLines v T m (found .0)) count
         (onward (lines ++ (read .0 ∷ [])) (read .1) (good-more v T lines (read .0) good (line-good s v T lines at read good hr)) (omega arith) rest)
     go false onward e =
         let (first, same) = require-e (ltb 0 (length lines)) 10 at (accepted (lines, at)) found e in
-        subst (λ (f : List Line × ℕ). GoodLines v T (suc room + length lines) (f .0)) (accepted-inj (lines, at) found same)
+        subst (λ (f : List Line × ℕ). GoodLines v T (suc room + length lines) (f .0)) (same-accepted same)
         (record { good = good; some = ltb→lt 0 (length lines) first; bound = omega arith })
 
 pub table-good : (s : List ℕ) (v T at : ℕ) (found : List Line × ℕ) → linesFrom s v T mostLines [] at ≡ accepted found → GoodLines v T mostLines (found .0)

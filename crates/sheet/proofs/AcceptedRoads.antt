@@ -13,7 +13,7 @@ use Rattle.logic.proofs.Tests.{and-l, and-r}
 use Rattle.sheet.specs.Checked.{Checked, accepted, _>>=_, wordAt, isKind}
 use Rattle.sheet.specs.Layout.{Layout, roadAt, weightAt, firstPlace, secondPlace, roadChecked, roadsFrom, checked}
 use Rattle.sheet.specs.Roads.{GoodRoad}
-use Rattle.sheet.proofs.Checks.{require-e, bind-e, accepted-inj}
+use Rattle.sheet.proofs.Checks.{require-e, bind-accepted, same-accepted}
 use Rattle.sheet.proofs.Whole.{accepted-sheet}
 
 module _ (s : List ℕ) (n : ℕ) where
@@ -33,12 +33,11 @@ module _ (s : List ℕ) (n : ℕ) where
         weight = and-l kind-3 _ weight;
         order = ltb→lt _ _ (and-l ordered _ ends);
         inside = ltb→lt _ _ (and-r ordered _ ends);
-        positive = ltb→lt _ _ (and-r kind-3 _ weight);
       }
 
   pub road-good : (words r last roads : ℕ) → roadsFrom s n words r last ≡ accepted roads → (q : ℕ) → r ≤ q → q < roads → GoodRoad s n q
   unfolding roadsFrom
-  road-good zero r last roads e q h k = absurd (let same = accepted-inj r roads e in omega arith)
+  road-good zero r last roads e q h k = absurd (let same = same-accepted e in omega arith)
   road-good (suc words) r last roads e q h k = go (isKind 2 s (roadAt r)) refl (λ payload. road-good words (suc r) payload roads) e
     where
       go : (t : Bool) → isKind 2 s (roadAt r) ≡ t
@@ -49,9 +48,9 @@ module _ (s : List ℕ) (n : ℕ) where
           ]) (accepted roads)
           → GoodRoad s n q
       go true is later e =
-          let (payload, passed, rest) = bind-e (roadChecked s n (roadAt r) last) _ roads e in
+          let (payload, passed, rest) = bind-accepted (roadChecked s n (roadAt r) last) _ e in
           ⊎-elim (λ same. subst (GoodRoad s n) same (road-told r last payload (rw is tt) passed)) (λ l. later payload rest q l k) (eq-or-lt-of-le h)
-      go false is later e = absurd (let same = accepted-inj r roads e in omega arith)
+      go false is later e = absurd (let same = same-accepted e in omega arith)
 
 -- what an accepted sheet gives the distances: good roads, and room for the distances of all places
 pub accepted-roads : (s : List ℕ) (distances : ℕ) (L : Layout) → checked s distances ≡ accepted L

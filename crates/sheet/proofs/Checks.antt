@@ -37,15 +37,9 @@ mapped-refused f (accepted a) e = let z : _≡_ {A = ℕ} 0 1 = cc in absurd (om
 mapped-refused f (refused number place) e = cc
 
 -- ---- with the test as a fact
-pub accepted-inj : {A : Type 0} (a b : A) → accepted a ≡ accepted b → a ≡ b
-accepted-inj a b e = same-accepted e
-
 pub require-e : {A : Type 0} (t : Bool) (number place : ℕ) (next : Checked A) (a : A) → require t number place next ≡ accepted a → T t × (next ≡ accepted a)
 require-e true number place next a e = (tt, e)
 require-e false number place next a e = absurd (never e)
-
-pub bind-e : {A B : Type 0} (c : Checked A) (next : A → Checked B) (b : B) → (c >>= next) ≡ accepted b → (a : A) × (c ≡ accepted a) × (next a ≡ accepted b)
-bind-e c next b e = bind-accepted c next e
 
 -- a word of some kind is there
 pub kind-inside : (s : List ℕ) (kind at : ℕ) → T (isKind kind s at) → at < length s

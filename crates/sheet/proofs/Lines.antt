@@ -8,6 +8,7 @@ use native.Mathlib.Omega.{arith}
 use lib.Dec.{ltb}
 use lib.ListN.{length, getD, set, replicate, length-append, length-set, length-replicate}
 use borrow.Author.Tests.{lt-ltb}
+use Rattle.words.proofs.Zeros.{zero-at}
 use Rattle.logic.specs.Formulas.{Line, lineIn}
 use Rattle.sheet.specs.Limits.{mostLines}
 use Rattle.sheet.specs.Checked.{accepted, refused, _>>=_, require, isKind}
@@ -19,9 +20,7 @@ abbrev pub Lengths : List Line → List ℕ → Type 0
 Lengths found lengths = (i : ℕ) → getD lengths i 0 ≡ lineIn found i .length
 
 pub lengths-none : (n : ℕ) → Lengths [] (replicate n 0)
-lengths-none zero i = refl
-lengths-none (suc n) zero = refl
-lengths-none (suc n) (suc i) = lengths-none n i
+lengths-none n i = zero-at n i
 
 pub lengths-more : (found : List Line) (line : Line) (lengths : List ℕ) → length found < length lengths → Lengths found lengths
     → Lengths (found ++ (line ∷ [])) (set lengths (length found) (line .length))

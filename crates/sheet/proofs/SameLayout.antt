@@ -4,7 +4,7 @@ use mathlib.Core.Path.{_≡_, refl, sym, ap, ap₂, subst, _∙_}
 use mathlib.Core.Logic.{⊎-elim}
 use mathlib.Core.Bool.{Bool, true, false, not, _&&_, and-false}
 use mathlib.Core.List.{List, [], _∷_, _++_}
-use Prim.Native.Nat.{ℕ, zero, suc, _+_, _-_}
+use Prim.Native.Nat.{ℕ, zero, suc, _+_}
 use lib.Dec.{T, eqb, ltb}
 use lib.ListN.{length}
 use Rattle.words.specs.Word.{kindOf, payloadOf}
@@ -15,7 +15,7 @@ use Rattle.sheet.specs.Codes.{Code, constant, atom, unary, binary, unary
 use Rattle.sheet.specs.Lines.{codeField, leftField, rightField, constantAt, boundsAt, operatorBy, operatorAt, lineAt, linesFrom}
 use Rattle.sheet.specs.Layout.{Sizes, Layout, headChecked, roadAt, roadChecked, roadsFrom, sampleCount}
 use Rattle.sheet.specs.Apart.{SamplesApart}
-use Rattle.sheet.proofs.Checks.{accepted-inj}
+use Rattle.sheet.proofs.Checks.{same-accepted}
 use Rattle.sheet.specs.Checking.{layoutOf}
 use Rattle.sheet.proofs.Whole.{AcceptedSheet}
 
@@ -127,10 +127,10 @@ module _ (d : ℕ) (X Y : List ℕ) (apart : SamplesApart d X Y) where
   -- ---- the whole
   pub same-layout : (dx dy : ℕ) (L M : Layout) → AcceptedSheet X dx L → AcceptedSheet Y dy M → L ≡ M
   same-layout dx dy L M x y =
-      let sizes = accepted-inj (L.sizes) (M.sizes) (sym (x .head) ∙ head-same ∙ y .head) in
-      let roads = accepted-inj (L.roads) (M.roads) (sym (x .roads) ∙ roads-same (L.sizes.places) (length X) 0 0
+      let sizes = same-accepted (sym (x .head) ∙ head-same ∙ y .head) in
+      let roads = same-accepted (sym (x .roads) ∙ roads-same (L.sizes.places) (length X) 0 0
       ∙ ap₂ (λ (z : Sizes) (n : ℕ). roadsFrom Y (z .places) n 0 0) sizes apart.same-length ∙ y .roads) in
       let begins : layoutOf L .table ≡ layoutOf M .table = ap₂ (λ (r : ℕ) (z : Sizes). roadAt r + sampleCount z) roads sizes in
-      let found = accepted-inj (L.lines, length X - 1) (M.lines, length Y - 1) (sym (x .table) ∙ lines-same (L.sizes.signals) (L.sizes.samples) mostLines [] (layoutOf L .table)
+      let found = same-accepted (sym (x .table) ∙ lines-same (L.sizes.signals) (L.sizes.samples) mostLines [] (layoutOf L .table)
       ∙ ap₂ (λ (z : Sizes) (at : ℕ). linesFrom Y (z .signals) (z .samples) mostLines [] at) sizes begins ∙ y .table) in
       λ i. record { sizes = sizes i; roads = roads i; lines = found i .0 }

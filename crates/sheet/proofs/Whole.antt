@@ -71,8 +71,7 @@ pub record AcceptedSheet (s : List ℕ) (d : ℕ) (L : Layout) : Type 0 where
   pub head : headChecked s ≡ accepted (L.sizes)
   pub sizes : SizesWithin (L.sizes)
   pub roads : roadsFrom s (L.sizes.places) (length s) 0 0 ≡ accepted (L.roads)
-  -- the samples stand from `recording` on, the lines from `table` on, the end word is the last
-  pub recording : samplesFrom s (sampleCount (L.sizes)) (layoutOf L .recording) ≡ accepted (layoutOf L .table)
+  -- the lines stand from `table` on, and the end word is the last
   pub table : linesFrom s (L.sizes.signals) (L.sizes.samples) mostLines [] (layoutOf L .table) ≡ accepted (L.lines, length s - 1)
   pub table-there : layoutOf L .table < length s
 
@@ -95,7 +94,6 @@ accepted-sheet s d L e =
       head = head .1;
       sizes = head-accepted s (head .1);
       roads = roads .1;
-      recording = samples .1 ∙ ap accepted begins;
       table = ap (linesFrom s (z .signals) (z .samples) mostLines []) (sym begins) ∙ lines .1 ∙ ap ended last;
       table-there = subst (λ (n : ℕ). n < length s) begins (first-inside s (z .signals) (z .samples) (samples .0) (lines .1));
     } in

@@ -18,7 +18,6 @@ module _ (s : List ℕ) where
     pub weight : T (isKind 3 s (weightAt r))
     pub order : firstPlace (wordAt s (roadAt r)) < secondPlace (wordAt s (roadAt r))
     pub inside : secondPlace (wordAt s (roadAt r)) < n
-    pub positive : 0 < payloadOf (wordAt s (weightAt r))
 
   -- road r joins a and b; roads run both ways
   unfoldable pub joins : ℕ → ℕ → ℕ → Bool

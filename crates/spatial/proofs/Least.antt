@@ -1,6 +1,6 @@
 -- The least of a number and of what lies at the other ends of roads: one road more, and all roads together as the definition has it.
-use mathlib.Core.Path.{_≡_, sym, ap, subst, _∙_}
-use mathlib.Core.Bool.{Bool, true, false, cond, _&&_}
+use mathlib.Core.Path.{_≡_, refl, sym, ap, subst, _∙_}
+use mathlib.Core.Bool.{Bool, true, false, cond, _&&_, _||_}
 use mathlib.Core.List.{List}
 use mathlib.Core.Logic.{_⊎_, inl, inr, ⊎-elim}
 use Prim.Native.Nat.{ℕ, zero, suc, _+_, _<_, _≤_, min}
@@ -73,29 +73,22 @@ least-more y x b t u f to new from w = rw meet-min (record {
 
 -- ---- one more road
 module _ (sheet : List ℕ) (r a b : ℕ) where
-  joined-now : T (joins sheet r a b) → T (joinedBy sheet (suc r) a b)
+  joined-more : joinedBy sheet (suc r) a b ≡ (joins sheet r a b || joinedBy sheet r a b)
   unfolding joinedBy weightAmong
-  joined-now h = go (joins sheet r a b) h
+  joined-more = go (joins sheet r a b)
     where
-      go : (t : Bool) → T t → T (isRoad (elim t as (λ _. Distance) [ true ↦ dist (payloadOf (wordAt sheet (weightAt r))) | false ↦ weightAmong sheet r a b ]))
-      go true h = tt
-      go false h = absurd h
+      go : (t : Bool) → isRoad (elim t as (λ _. Distance) [ true ↦ dist (payloadOf (wordAt sheet (weightAt r))) | false ↦ weightAmong sheet r a b ]) ≡ (t || isRoad (weightAmong sheet r a b))
+      go true = refl
+      go false = refl
+
+  joined-now : T (joins sheet r a b) → T (joinedBy sheet (suc r) a b)
+  joined-now h = rw joined-more (or-l (joins sheet r a b) _ h)
 
   joined-before : T (joinedBy sheet r a b) → T (joinedBy sheet (suc r) a b)
-  unfolding joinedBy weightAmong
-  joined-before h = go (joins sheet r a b) h
-    where
-      go : (t : Bool) → T (isRoad (weightAmong sheet r a b)) → T (isRoad (elim t as (λ _. Distance) [ true ↦ dist (payloadOf (wordAt sheet (weightAt r))) | false ↦ weightAmong sheet r a b ]))
-      go true h = tt
-      go false h = h
+  joined-before h = rw joined-more (or-r (joins sheet r a b) _ h)
 
   joined-either : T (joinedBy sheet (suc r) a b) → T (joins sheet r a b) ⊎ T (joinedBy sheet r a b)
-  unfolding joinedBy weightAmong
-  joined-either h = go (joins sheet r a b) h
-    where
-      go : (t : Bool) → T (isRoad (elim t as (λ _. Distance) [ true ↦ dist (payloadOf (wordAt sheet (weightAt r))) | false ↦ weightAmong sheet r a b ])) → T t ⊎ T (isRoad (weightAmong sheet r a b))
-      go true h = inl tt
-      go false h = inr h
+  joined-either h = or-e (joins sheet r a b) _ (rw joined-more at h)
 
   abbrev first : ℕ
   first = firstPlace (wordAt sheet (roadAt r))

@@ -1,6 +1,6 @@
 -- Places outside a ball: all rows are lowest there and stay so, so that a round is the same whether or not it touches them.
 use mathlib.Core.Path.{_≡_, refl, sym, ap, _∙_}
-use mathlib.Core.Bool.{Bool, true, false, _&&_, _||_}
+use mathlib.Core.Bool.{Bool, true, false, _&&_, _||_, and-false, false≢true}
 use mathlib.Core.List.{List}
 use Prim.Native.Nat.{ℕ, _+_, _*_, _<_}
 use native.Mathlib.Omega.{arith}
@@ -16,7 +16,7 @@ use Rattle.spatial.specs.Lanes.{lanes, laneOf}
 use Rattle.spatial.specs.Strips.{Written, StripsApart}
 use Rattle.spatial.specs.Steps.{Marked, LowOutside, LowRows, Joined, RoadPulled, Stepped}
 use Rattle.spatial.specs.Blocks.{RowOf}
-use Rattle.spatial.proofs.StripLaws.{written-already, false-true}
+use Rattle.spatial.proofs.StripLaws.{written-already}
 use Rattle.spatial.proofs.Lowest.{meet-low}
 use Rattle.spatial.proofs.RowLaws.{row-more}
 
@@ -34,14 +34,10 @@ marked-more test flags k t m b e = record {
 -- outside a ball nothing is in a range that ends with it
 outside-range : (distances : List ℕ) (n centre lower upper place : ℕ) → inTable distances n centre 0 upper place ≡ false → inTable distances n centre lower upper place ≡ false
 unfolding inTable
-outside-range distances n centre lower upper place e = ap (λ t. leb lower d && t) (sym (ap (λ t. t && leb d upper) (le-leb 0 d (omega arith))) ∙ e) ∙ never (leb lower d)
+outside-range distances n centre lower upper place e = ap (λ t. leb lower d && t) (sym (ap (λ t. t && leb d upper) (le-leb 0 d (omega arith))) ∙ e) ∙ and-false (leb lower d)
   where
     d : ℕ
     d = getD distances (centre * n + place) 0
-
-    never : (t : Bool) → (t && false) ≡ false
-    never true = refl
-    never false = refl
 
 pub masked-low : (distances : List ℕ) (n centre lower upper : ℕ) (inside : List Bool) (from to : List ℕ) → Marked (inTable distances n centre 0 upper) inside n
     → RowOf (λ lane. masked chainLattice (inTable distances n centre lower upper) (laneOf from lane)) to n → LowOutside inside to n
@@ -52,13 +48,13 @@ masked-low distances n centre lower upper inside from to m w = record {
 
 -- ---- one strip
 pub strips-alike : (h : ℕ → ℕ) (a b : List ℕ) (place : ℕ) → ((lane : ℕ) → lane < lanes → laneOf a lane place ≡ laneOf b lane place) → StripsApart false h a b place lanes
-strips-alike h a b place e = record { alike = λ _ lane l. ap h (e lane l); apart = λ z. absurd (false-true z) }
+strips-alike h a b place e = record { alike = λ _ lane l. ap h (e lane l); apart = λ z. absurd (false≢true z) }
 
 module _ {inside : List Bool} where
   -- a strip inside is written
   low-kept : {place n : ℕ} {f : ℕ → ℕ} {s t : List ℕ} → getD inside place false ≡ true → Written place lanes f s t → LowOutside inside s n → LowOutside inside t n
   low-kept i w s = record {
-    low = λ p lane b l e. w .kept p lane l (λ q. absurd (false-true (sym e ∙ ap (λ k. getD inside k false) q ∙ i))) ∙ s .low p lane b l e;
+    low = λ p lane b l e. w .kept p lane l (λ q. absurd (false≢true (sym e ∙ ap (λ k. getD inside k false) q ∙ i))) ∙ s .low p lane b l e;
   }
 
   pub low-none : {s : List ℕ} → LowOutside inside s 0
@@ -74,7 +70,7 @@ module _ {inside : List Bool} where
   }
 
   pub low-inside : {k : ℕ} {s : List ℕ} → getD inside k false ≡ true → LowOutside inside s k → LowOutside inside s (k + 1)
-  low-inside i = low-more (written-already (λ _ _. refl)) (λ e. absurd (false-true (sym e ∙ i)))
+  low-inside i = low-more (written-already (λ _ _. refl)) (λ e. absurd (false≢true (sym e ∙ i)))
 
   -- numbers that fall stay lowest
   pub stepped-low : {n roads : ℕ} {sheet both x y : List ℕ} → Stepped sheet roads both x y → LowOutside inside x n → LowOutside inside y n
@@ -91,7 +87,7 @@ module _ {inside : List Bool} where
       }
     where
       neither : (t u : Bool) → (t || u) ≡ false → (t ≡ false) × (u ≡ false)
-      neither true u h = absurd (false-true (sym h))
+      neither true u h = absurd (false≢true (sym h))
       neither false u h = (refl, h)
 
 -- ---- joining, place after place

@@ -1,6 +1,6 @@
 -- Laws of the loops over one place's lanes: one lane more is written, and one lane more is compared.
 use mathlib.Core.Path.{_≡_, refl, sym, subst, _∙_, ap}
-use mathlib.Core.Bool.{Bool, true, false}
+use mathlib.Core.Bool.{Bool, true, false, false≢true}
 use mathlib.Core.List.{List}
 use Prim.Native.Nat.{ℕ, _+_, _*_, _<_, _≤_}
 use native.Mathlib.Omega.{arith}
@@ -51,12 +51,9 @@ pub written-over : {place : ℕ} {f g : ℕ → ℕ} {s t u : List ℕ} → Writ
 written-over v w = record { written = w .written; kept = λ p lane l h. w .kept p lane l h ∙ v .kept p lane l h }
 
 -- ---- comparing
-pub false-true : false ≡ true → ⊥
-false-true e = let z : _≡_ {A = ℕ} 0 1 = cc in omega arith
-
 module _ (h : ℕ → ℕ) (a b : List ℕ) (place : ℕ) where
   pub strips-none : StripsApart false h a b place 0
-  strips-none = record { alike = λ e lane l. absurd (omega arith); apart = λ e. absurd (false-true e) }
+  strips-none = record { alike = λ e lane l. absurd (omega arith); apart = λ e. absurd (false≢true e) }
 
   pub strips-same : (r s : Bool) (k : ℕ) → StripsApart r h a b place k → s ≡ r → h (laneOf a k place) ≡ h (laneOf b k place) → StripsApart s h a b place (k + 1)
   strips-same r s k w e q = record {
@@ -65,22 +62,22 @@ module _ (h : ℕ → ℕ) (a b : List ℕ) (place : ℕ) where
   }
 
   pub strips-other : (s : Bool) (k : ℕ) → s ≡ true → (h (laneOf a k place) ≡ h (laneOf b k place) → ⊥) → StripsApart s h a b place (k + 1)
-  strips-other s k e q = record { alike = λ z. absurd (false-true (sym z ∙ e)); apart = λ z. (k, omega arith, q) }
+  strips-other s k e q = record { alike = λ z. absurd (false≢true (sym z ∙ e)); apart = λ z. (k, omega arith, q) }
 
 -- ---- strip after strip
 module _ (h : ℕ → ℕ) (a b : List ℕ) where
   pub rows-none : RowsApart false h a b 0
-  rows-none = record { alike = λ e p lane l. absurd (omega arith); apart = λ e. absurd (false-true e) }
+  rows-none = record { alike = λ e p lane l. absurd (omega arith); apart = λ e. absurd (false≢true e) }
 
   pub rows-more : (r : Bool) (k : ℕ) → RowsApart false h a b k → r ≡ false → StripsApart r h a b k lanes → RowsApart false h a b (k + 1)
   rows-more r k w e s = record {
     alike = λ z p lane l m. below-more (λ q. h (laneOf a lane q) ≡ h (laneOf b lane q)) k (λ q c. w .alike z q lane c m) (s .alike e lane m) p l;
-    apart = λ z. absurd (false-true z);
+    apart = λ z. absurd (false≢true z);
   }
 
   pub rows-found : (r : Bool) (k n : ℕ) → k < n → r ≡ true → StripsApart r h a b k lanes → RowsApart true h a b n
   rows-found r k n l e s = record {
-    alike = λ z. absurd (false-true (sym z));
+    alike = λ z. absurd (false≢true (sym z));
     apart = λ _. let u = s .apart e in (k, u .0, l, u .1, u .2);
   }
 

@@ -2,20 +2,20 @@
 use mathlib.Core.Path.{_≡_, refl, sym, ap, subst, _∙_}
 use mathlib.Core.Bool.{Bool, true, false, cond}
 use mathlib.Core.List.{List}
-use Prim.Native.Nat.{ℕ, _+_, _-_, _*_, _≤_}
+use Prim.Native.Nat.{ℕ, _-_, _≤_}
 use native.Mathlib.Omega.{arith}
 use lib.Dec.{T, leb}
 use lib.ListN.{length}
 use Rattle.logic.proofs.Counts.{rounds-at-most-places}
 use Rattle.sheet.specs.Limits.{mostLines}
-use Rattle.sheet.specs.Checked.{Checked, accepted, refused, between, wordAt}
+use Rattle.sheet.specs.Checked.{Checked, accepted, refused, between}
 use Rattle.sheet.specs.GoodLines.{GoodLines}
 use Rattle.sheet.specs.Layout.{Layout, roadAt, checked}
 use Rattle.sheet.specs.Roads.{network, recording}
 use Rattle.sheet.specs.Checking.{layoutOf}
 use Rattle.sheet.proofs.Accepted.{SizesWithin}
 use Rattle.sheet.proofs.Whole.{AcceptedSheet}
-use Rattle.sheet.proofs.AcceptedLines.{sample-bits, good-length, table-good, good-constants}
+use Rattle.sheet.proofs.AcceptedLines.{recording-bits, good-length, table-good, good-constants}
 use Rattle.sheet.proofs.RefusalNumbers.{Numbered, refuses, check-numbered}
 use Rattle.verdicts.specs.Meant.{meantAt}
 use Rattle.verdicts.specs.Answer.{wordsNeeded}
@@ -36,16 +36,17 @@ number-zero number h e = subst (λ k. T (between 1 14 k)) e h
 
 module _ (s : List ℕ) (distances answer : ℕ) where
   -- a sheet that the check accepts is answered where there is room, and refused with 15 otherwise
-  by-room : (L : Layout) → checked s distances ≡ accepted L → judged s distances answer .result .number ≡ 0 → Answered s distances answer
+  pub judged-by-room : {L : Layout} {enough : Bool} → checked s distances ≡ accepted L → leb (wordsNeeded (L.sizes.places) (L.lines)) answer ≡ enough
+      → judged s distances answer ≡ cond enough (answered s distances answer L) (refusal distances answer 15 (length s))
   unfolding judged
+  judged-by-room {L} c e = ap (judgedBy s distances answer) c ∙ ap (λ (b : Bool). cond b (answered s distances answer L) (refusal distances answer 15 (length s))) e
+
+  by-room : (L : Layout) → checked s distances ≡ accepted L → judged s distances answer .result .number ≡ 0 → Answered s distances answer
   by-room L c z = go (leb (wordsNeeded (L.sizes.places) (L.lines)) answer) refl
     where
-      judged-by : (t : Bool) → leb (wordsNeeded (L.sizes.places) (L.lines)) answer ≡ t → judged s distances answer ≡ cond t (answered s distances answer L) (refusal distances answer 15 (length s))
-      judged-by t e = ap (judgedBy s distances answer) c ∙ ap (λ (b : Bool). cond b (answered s distances answer L) (refusal distances answer 15 (length s))) e
-
       go : (t : Bool) → leb (wordsNeeded (L.sizes.places) (L.lines)) answer ≡ t → Answered s distances answer
-      go true e = record { layout = L; found = c; left = judged-by true e }
-      go false e = absurd (let fifteen : _≡_ {A = ℕ} 15 0 = sym (ap (λ j. j .result .number) (judged-by false e)) ∙ z in omega arith)
+      go true e = record { layout = L; found = c; left = judged-by-room c e }
+      go false e = absurd (let fifteen : _≡_ {A = ℕ} 15 0 = sym (ap (λ j. j .result .number) (judged-by-room c e)) ∙ z in omega arith)
 
   pub accepted-answered : judged s distances answer .result .number ≡ 0 → Answered s distances answer
   unfolding judged
@@ -74,7 +75,7 @@ module _ (s : List ℕ) (distances : ℕ) (L : Layout) (sheet : AcceptedSheet s 
   pub answered-says : (answer i t l : ℕ) → saidAt (answered s distances answer L .answer) i t l ≡ meantAt (network s L) (recording s L) (L.lines) i t l
   unfolding answered network recording
   answered-says answer = answer-says (network s L) (L.sizes.samples) (recording s L) (L.lines) answer fields
-      (λ signal t l. sample-bits (wordAt s (roadAt (L.roads) + ((t * L.sizes.places + l) * L.sizes.signals + signal))))
+      (recording-bits s (roadAt (L.roads)) (L.sizes.places) (L.sizes.signals))
       (good-constants (L.sizes.signals) (L.sizes.samples) (L.lines) (table .good))
 
   pub sizes : InAnswer (L.sizes.places) (L.sizes.samples) (L.lines)
@@ -88,7 +89,7 @@ module _ (s : List ℕ) (distances : ℕ) (L : Layout) (sheet : AcceptedSheet s 
   whole : (answer : ℕ) → T (wholeAnswer (answered s distances answer L .answer))
   unfolding answered network recording
   whole answer = answer-whole (network s L) (L.sizes.samples) (recording s L) (L.lines) answer fields
-      (λ signal t l. sample-bits (wordAt s (roadAt (L.roads) + ((t * L.sizes.places + l) * L.sizes.signals + signal))))
+      (recording-bits s (roadAt (L.roads)) (L.sizes.places) (L.sizes.signals))
       (good-constants (L.sizes.signals) (L.sizes.samples) (L.lines) (table .good)) sizes
 
   -- so the lookup gives the verdict that is meant, and 0 elsewhere

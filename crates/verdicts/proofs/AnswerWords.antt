@@ -10,6 +10,7 @@ use Rattle.words.specs.Word.{bits, wordOf}
 use Rattle.words.specs.Rows.{concat, padded}
 use Rattle.words.proofs.Rows.{length-rows, getD-rows, in-table}
 use Rattle.words.proofs.Concat.{concat-length, start-below, concat-at}
+use Rattle.words.proofs.Zeros.{zero-at}
 use Rattle.logic.specs.Network.{Network}
 use Rattle.logic.specs.Formulas.{Line, lineIn, Recording}
 use Rattle.logic.specs.Counts.{sumBelow}
@@ -28,11 +29,6 @@ at-end : (m z : List ℕ) (h e : ℕ) → getD (h ∷ ((m ++ (e ∷ [])) ++ z)) 
 at-end m z h e =
     let s : 1 + length m ≡ suc (length m) = omega arith in
     rw (s, append-assoc m (e ∷ []) z) (getD-append-seam m e z 0)
-
-zero-at : (k i : ℕ) → _≡_ {A = ℕ} (getD (replicate k 0) i 0) 0
-zero-at zero i = refl
-zero-at (suc k) zero = refl
-zero-at (suc k) (suc i) = zero-at k i
 
 after-end : (m : List ℕ) (h e k j : ℕ) → 1 + length m < j → getD (h ∷ ((m ++ (e ∷ [])) ++ replicate k 0)) j 0 ≡ 0
 after-end m h e k j b =

@@ -1,5 +1,4 @@
--- A line of an accepted table has its operator's value on the earlier lines, in every reading; and the engine's value of a line, made from the
--- words before it, is that of the chain reading.
+-- A line of an accepted table has its operator's value on the earlier lines, in every reading, and depends on these within their lengths alone.
 use mathlib.Core.Path.{_≡_, refl, sym, ap, subst, _∙_}
 use mathlib.Core.Bool.{Bool, true, false, cond}
 use mathlib.Core.List.{List, []}

@@ -25,9 +25,8 @@ use Rattle.logic.proofs.Keeps.{surround-kept}
 use Rattle.logic.proofs.Small.{difference-small}
 use Rattle.logic.proofs.TableKeeps.{ConstantIn, value-kept}
 use Rattle.sheet.specs.declared.check.Layout.{Layout}
-use Rattle.sheet.specs.Checked.{wordAt}
 use Rattle.sheet.specs.Roads.{distanceNumber}
-use Rattle.sheet.proofs.AcceptedLines.{sample-bits}
+use Rattle.sheet.proofs.AcceptedLines.{recording-bits}
 use Rattle.values.specs.Chain.{chains, chainLattice, chainOpposite, highest}
 use Rattle.values.specs.Signals.{signalIn, turned, inTable}
 use Rattle.values.proofs.Machine.{small-fits}
@@ -62,16 +61,16 @@ readable-constant L words starts (Always i lower upper) t r = tt
 readable-constant L words starts (Everywhere i lower upper) t r = tt
 
 module _ (s : List ℕ) (L : Layout) where
-  recording-bits : (x t l : ℕ) → InBits 27 (sheetRecording s L x t l)
+  pub sheet-bits : (x t l : ℕ) → InBits 27 (sheetRecording s L x t l)
   unfolding sheetRecording
-  recording-bits x t l = sample-bits (wordAt s (L .recording + ((t * L .places + l) * L .signals + x)))
+  sheet-bits = recording-bits s (L .recording) (L .places) (L .signals)
 
   pub line-bound : (words starts : List ℕ) (o : Operator) (t l : ℕ) → Readable L words starts o t → l < L .places → lineValue s L words starts o t l ≤ highest
   unfolding lineValue
   line-bound words starts o t l r b = value-kept chains chains (sheetNetwork s L) (λ c _. c ≤ highest) bounded-kept (λ c _ _. omega arith) (InBits 27)
       (sheetRecording s L) (sheetRecording s L)
-      (λ x u k c fit. valid-difference (sheetRecording s L x u k -ℤ c) (difference-small (sheetRecording s L x u k) c (recording-bits x u k) fit) .bounded)
-      (λ x u k c fit. valid-difference (c -ℤ sheetRecording s L x u k) (difference-small c (sheetRecording s L x u k) fit (recording-bits x u k)) .bounded)
+      (λ x u k c fit. valid-difference (sheetRecording s L x u k -ℤ c) (difference-small (sheetRecording s L x u k) c (sheet-bits x u k) fit) .bounded)
+      (λ x u k c fit. valid-difference (c -ℤ sheetRecording s L x u k) (difference-small c (sheetRecording s L x u k) fit (sheet-bits x u k)) .bounded)
       (earlier L words starts) (earlier L words starts) (λ i u k _. signal-bound words (getD starts i 0) (L .places) u k) o (readable-constant L words starts o t r) t l b
 
 -- ---- a sample of the recording

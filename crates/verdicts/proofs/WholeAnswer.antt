@@ -3,8 +3,7 @@ use mathlib.Core.Path.{_≡_, refl, sym, ap, _∙_}
 use mathlib.Core.Bool.{true}
 use mathlib.Core.List.{List}
 use Prim.Native.Nat.{ℕ, zero, suc, _+_, _*_, _/_, _%_, _^_, _<_, _≤_}
-use mathlib.Core.Logic.{⊎-elim}
-use native.Mathlib.Nat.{not-suc-le-zero, eq-or-lt-of-le, le-of-suc-le-suc, le-of-lt, mod-lt, div-add-mod', div-lt-iff-lt-mul, mul-le-mul}
+use native.Mathlib.Nat.{le-of-lt, mod-lt, div-add-mod', div-lt-iff-lt-mul, mul-le-mul}
 use native.Mathlib.Omega.{arith}
 use lib.Dec.{T, leb, ltb, eqb, le→leb, lt→ltb, eqb-refl, ltb→lt}
 use lib.ListN.{length}
@@ -15,6 +14,7 @@ use Rattle.logic.specs.Formulas.{Line, lineIn, Recording, InBits}
 use Rattle.logic.specs.Counts.{sumBelow}
 use Rattle.logic.proofs.Tests.{and-i, all-i}
 use Rattle.logic.proofs.TableKeeps.{ConstantsIn}
+use Rattle.logic.proofs.Totals.{sum-below}
 use Rattle.sheet.specs.Limits.{mostPlaces, mostSamples, mostLines}
 use Rattle.sheet.specs.Checked.{between, wordAt, isKind}
 use Rattle.values.specs.Said.{saidBy}
@@ -35,12 +35,6 @@ unfolding isKind
 kind-there a kind payload at h e p =
     let k : kindOf (wordAt a at) ≡ kind = ap kindOf e ∙ omega arith in
     and-i (ltb at (length a)) (eqb (kindOf (wordAt a at)) kind) (lt→ltb at (length a) h) (equal (kindOf (wordAt a at)) kind k)
-
--- a sum of numbers above 0 grows
-sum-below : (f : ℕ → ℕ) (i n : ℕ) → i < n → sumBelow f i + f i ≤ sumBelow f n
-unfolding sumBelow
-sum-below f i zero h = absurd (not-suc-le-zero h)
-sum-below f i (suc n) h = ⊎-elim (λ e. rw e (omega arith)) (λ l. omega (arith, sum-below f i n l)) (eq-or-lt-of-le (le-of-suc-le-suc h))
 
 -- sizes of an accepted sheet
 pub record InAnswer (n horizon : ℕ) (lines : List Line) : Type 0 where

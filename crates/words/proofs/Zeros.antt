@@ -3,7 +3,7 @@ use mathlib.Core.Path.{_≡_, refl, sym, ap, _∙_}
 use mathlib.Core.List.{List, _++_}
 use Prim.Native.Nat.{ℕ, zero, suc, _+_, _-_, _*_, _≤_}
 use native.Mathlib.Omega.{arith}
-use lib.ListN.{length, take, drop, replicate, length-append, length-take, length-drop, length-replicate}
+use lib.ListN.{length, getD, take, drop, replicate, length-append, length-take, length-drop, length-replicate}
 use lib.Seq.{drop-at, drop-drop}
 use Rattle.words.specs.Bytes.{wordsOf, numbersOf, afterWords, afterNumbers}
 use Rattle.words.proofs.Words.{length-words, words-zeros}
@@ -14,6 +14,11 @@ zero-words b = words-zeros (length b) ∙ ap (λ (k : ℕ). replicate k 0) (sym 
 
 pub zero-numbers : (b : List ℕ) → numbersOf (wordsOf (replicate (length b) 0)) ≡ replicate (length (numbersOf (wordsOf b))) 0
 zero-numbers b = bytes-zeros (length b) ∙ ap (λ (k : ℕ). replicate k 0) (sym (length-numbers b))
+
+pub zero-at : (k i : ℕ) → _≡_ {A = ℕ} (getD (replicate k 0) i 0) 0
+zero-at zero i = refl
+zero-at (suc k) zero = refl
+zero-at (suc k) (suc i) = zero-at k i
 
 -- ---- what is zero from an index on is zero from every later one
 drop-zeros : (m n : ℕ) → drop {A = ℕ} m (replicate n 0) ≡ replicate (n - m) 0
