@@ -14,14 +14,8 @@ use Rattle.engine.proofs.answer_sheet.Tie as tie
 abbrev told : ℕ → ℕ → ℕ → Result
 told words rounds count = record { number = 0; place = 0; words = words; rounds = rounds; yes = count }
 
-write-answer-requires : tie.Need-write-answer-requires
-write-answer-requires c κs = search needs
-
 add-t9 : tie.Need-add-t9
 add-t9 c = omega (arith, c .before .before .write-answer .ensures .0 .ends, end-bound (c .before .before .before .before .before .before .before .pre .0))
-
-same-length : tie.Need-same-length
-same-length c = search needs
 
 returns : tie.Need-returns
 unfolding answered wordsNeeded network
@@ -30,4 +24,4 @@ returns c =
     (ap₂ (λ (f : ℕ → Result) y. f y) (ap₂ told (ap (λ end. end + 1) (found .ends) ∙ add-comm _ 1) (found .greatest)) (found .counted), (found .written, c .before .before .write-answer .ensures .1))
 
 pub answer-sheet-spec : {M : Type 1} → statement M
-answer-sheet-spec = tie.close (tie.spec write-answer-requires add-t9 same-length returns)
+answer-sheet-spec = tie.close (tie.spec (λ c κs. search needs) add-t9 (λ c. search needs) returns)

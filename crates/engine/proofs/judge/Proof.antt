@@ -38,47 +38,8 @@ Needed c = neededIn (c .before .before .before .before .before .before .before .
 lent : (c : tie.After-words-needed-arg) → length (numbersOf (wordsOf (c .before .before .before .before .before .before .before .before .survey .last .1 .0))) ≡ length (numbersOf (wordsOf (c .before .before .before .before .before .before .before .before .before .before .before .before .before .args .distances .now)))
 lent c = same-count (c .before .before .before .before .before .before .before .before .survey .last .1 .0) (c .before .before .before .before .before .before .before .before .before .before .before .before .before .args .distances .now) (c .before .before .before .before .before .before .before .before .survey .kept .1 .0)
 
-survey-requires : tie.Need-survey-requires
-survey-requires c κs = search needs
-
-enum-known-fault : tie.Need-enum-known-fault
-enum-known-fault c = search needs
-
-fill-zero-requires : tie.Need-fill-zero-requires
-fill-zero-requires c κs = search needs
-
-number-requires : tie.Need-number-requires
-number-requires c κs = search needs
-
-refusal-requires : tie.Need-refusal-requires
-refusal-requires c κs = search needs
-
-enum-known-layout : tie.Need-enum-known-layout
-enum-known-layout c = search needs
-
-word-count-requires : tie.Need-word-count-requires
-word-count-requires c κs = search needs
-
 words-needed-requires : tie.Need-words-needed-requires
 words-needed-requires c κs = accepts c
-
-fill-zero-requires-2 : tie.Need-fill-zero-requires-2
-fill-zero-requires-2 c κs = search needs
-
-fill-zero-requires-3 : tie.Need-fill-zero-requires-3
-fill-zero-requires-3 c κs = search needs
-
-word-count-requires-2 : tie.Need-word-count-requires-2
-word-count-requires-2 c κs = search needs
-
-refusal-requires-2 : tie.Need-refusal-requires-2
-refusal-requires-2 c κs = search needs
-
-same-length : tie.Need-same-length
-same-length c = search needs
-
-same-length-2 : tie.Need-same-length-2
-same-length-2 c = search needs
 
 returns : tie.Need-returns
 returns c =
@@ -102,12 +63,6 @@ enough c = omega (arith, c .before .words-needed .ensures, c .if1 .left, c .befo
 answer-sheet-requires : tie.Need-answer-sheet-requires
 answer-sheet-requires c κs = (accepts (c .before .before .before .before), enough (c .before .before))
 
-same-length-3 : tie.Need-same-length-3
-same-length-3 c = search needs
-
-same-length-4 : tie.Need-same-length-4
-same-length-4 c = search needs
-
 returns-2 : tie.Need-returns-2
 returns-2 c =
     let g = c .before .before .before .before .before .before .before .before .before .before .before .before .before .before .before .before .args in
@@ -121,12 +76,6 @@ returns-2 c =
         (c .before .before .before .before .before .before .before .before .before .before .before .survey .ensures .1 .0 ∙ refusing s room (faultNumber (fault .0 .0)) (fault .0 .1 .0) (sym (c .before .before .before .before .before .before .before .before .before .before .before .survey .ensures .0) ∙ ap checkSaid (fault .1)) ∙ ap (λ (j : Judged). j .distances) left, (zero-words-tail (g .answer .now) _ (length (g .answer .now)) refl (c .before .before .before .before .fill-zero .ensures), c .before .before .before .before .before .before .before .before .before .before .before .survey .ensures .1 .1)),
       ),
     )
-
-same-length-5 : tie.Need-same-length-5
-same-length-5 c = search needs
-
-same-length-6 : tie.Need-same-length-6
-same-length-6 c = search needs
 
 returns-3 : tie.Need-returns-3
 unfolding answered
@@ -147,25 +96,25 @@ pub judge-spec : {M : Type 1} → statement M
 judge-spec =
     tie.close
     (tie.spec
-    survey-requires
-    enum-known-fault
-    fill-zero-requires
-    number-requires
-    refusal-requires
-    enum-known-layout
-    word-count-requires
+    (λ c κs. search needs)
+    (λ c. search needs)
+    (λ c κs. search needs)
+    (λ c κs. search needs)
+    (λ c κs. search needs)
+    (λ c. search needs)
+    (λ c κs. search needs)
     words-needed-requires
-    fill-zero-requires-2
-    fill-zero-requires-3
-    word-count-requires-2
-    refusal-requires-2
-    same-length
-    same-length-2
+    (λ c κs. search needs)
+    (λ c κs. search needs)
+    (λ c κs. search needs)
+    (λ c κs. search needs)
+    (λ c. search needs)
+    (λ c. search needs)
     returns
     answer-sheet-requires
-    same-length-3
-    same-length-4
+    (λ c. search needs)
+    (λ c. search needs)
     returns-2
-    same-length-5
-    same-length-6
+    (λ c. search needs)
+    (λ c. search needs)
     returns-3)

@@ -22,21 +22,6 @@ passed : (c : tie.Else1) →
     lentWhole (length (g .sheet .now)) (length (g .distances .now)) (length (g .answer .now)) (length (g .result .now)) ≡ true
 passed c = sym (c .before .lent-whole .ensures) ∙ not-false _ (c .if1 .left)
 
-lent-whole-requires : tie.Need-lent-whole-requires
-lent-whole-requires c κs = search needs
-
-refuse-requires : tie.Need-refuse-requires
-refuse-requires c κs = search needs
-
-same-length : tie.Need-same-length
-same-length c = search needs
-
-same-length-2 : tie.Need-same-length-2
-same-length-2 c = search needs
-
-same-length-3 : tie.Need-same-length-3
-same-length-3 c = search needs
-
 returns : tie.Need-returns
 returns c =
     let call = c .before .before .before .before .before .before in
@@ -45,20 +30,8 @@ returns c =
     let short = sym (tested .before .lent-whole .ensures) ∙ not-true _ (tested .if1 .taken) in
     rw (refused-lengths (g .sheet .now) (g .distances .now) (g .answer .now) (g .result .now) short) (call .refuse .ensures)
 
-judge-requires : tie.Need-judge-requires
-judge-requires c κs = search needs
-
 put-result-requires : tie.Need-put-result-requires
 put-result-requires c κs = whole-lengths _ _ _ _ (passed (c .before .before .before .before .before .before .before .before)) .2
-
-same-length-4 : tie.Need-same-length-4
-same-length-4 c = search needs
-
-same-length-5 : tie.Need-same-length-5
-same-length-5 c = search needs
-
-same-length-6 : tie.Need-same-length-6
-same-length-6 c = search needs
 
 returns-2 : tie.Need-returns-2
 returns-2 c =
@@ -84,15 +57,15 @@ pub judge-spec : {M : Type 1} → statement M
 judge-spec =
     tie.close
     (tie.spec
-    lent-whole-requires
-    refuse-requires
-    same-length
-    same-length-2
-    same-length-3
+    (λ c κs. search needs)
+    (λ c κs. search needs)
+    (λ c. search needs)
+    (λ c. search needs)
+    (λ c. search needs)
     returns
-    judge-requires
+    (λ c κs. search needs)
     put-result-requires
-    same-length-4
-    same-length-5
-    same-length-6
+    (λ c. search needs)
+    (λ c. search needs)
+    (λ c. search needs)
     returns-2)

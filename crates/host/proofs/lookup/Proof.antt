@@ -10,12 +10,9 @@ returns : tie.Need-returns
 unfolding hostLookedUp
 returns c = simp (ne-eqb _ _ (c .if1 .taken))
 
-lookup-requires : tie.Need-lookup-requires
-lookup-requires c κs = search needs
-
 returns-2 : tie.Need-returns-2
 unfolding hostLookedUp
 returns-2 c = c .lookup .ensures ∙ simp (eq-eqb _ _ (c .before .if1 .left))
 
 pub lookup-spec : {M : Type 1} → statement M
-lookup-spec = tie.close (tie.spec returns lookup-requires returns-2)
+lookup-spec = tie.close (tie.spec returns (λ c κs. search needs) returns-2)

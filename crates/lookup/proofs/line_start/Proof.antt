@@ -24,12 +24,6 @@ next-line-requires c κs =
     let loop = c .before .loop in
     start-small (wordsOf (c .before .before .before .args .answer .now)) (loop .k) (loop .inv .1) (omega arith)
 
-add-k : tie.Need-add-k Inv-loop μ-loop
-add-k c = search needs
-
-loop-less : tie.Need-loop-less Inv-loop μ-loop
-loop-less c = search needs
-
 loop-again : tie.Need-loop-again Inv-loop μ-loop
 loop-again c =
     let loop = c .before .before .loop in
@@ -43,4 +37,4 @@ returns c =
 pub line-start-spec : {M : Type 1} → statement M
 line-start-spec =
     tie.close
-    (tie.spec Inv-loop μ-loop loop-holds next-line-requires add-k loop-less loop-again returns)
+    (tie.spec Inv-loop μ-loop loop-holds next-line-requires (λ c. search needs) (λ c. search needs) loop-again returns)

@@ -6,19 +6,13 @@ use borrow.Author.Needs.{needs}
 use Rattle.lookup.proofs.lookup.Statement.{statement}
 use Rattle.lookup.proofs.lookup.Tie as tie
 
-whole-requires : tie.Need-whole-requires
-whole-requires c κs = search needs
-
 returns : tie.Need-returns
 unfolding lookedUp
 returns c = simp (sym (c .before .whole .ensures) ∙ not-true _ (c .if1 .taken))
-
-verdict-at-requires : tie.Need-verdict-at-requires
-verdict-at-requires c κs = search needs
 
 returns-2 : tie.Need-returns-2
 unfolding lookedUp
 returns-2 c = c .verdict-at .ensures ∙ simp (sym (c .before .before .whole .ensures) ∙ not-false _ (c .before .if1 .left))
 
 pub lookup-spec : {M : Type 1} → statement M
-lookup-spec = tie.close (tie.spec whole-requires returns verdict-at-requires returns-2)
+lookup-spec = tie.close (tie.spec (λ c κs. search needs) returns (λ c κs. search needs) returns-2)

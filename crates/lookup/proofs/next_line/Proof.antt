@@ -8,15 +8,6 @@ use borrow.Author.Needs.{needs}
 use Rattle.lookup.proofs.next_line.Statement.{statement}
 use Rattle.lookup.proofs.next_line.Tie as tie
 
-add-result : tie.Need-add-result
-add-result c = search needs
-
-length-at-requires : tie.Need-length-at-requires
-length-at-requires c κs = search needs
-
-places-requires : tie.Need-places-requires
-places-requires c κs = search needs
-
 few-words : (c : tie.After-places) → c .before .length-at .result * c .places .result ≤ 4095 * 255
 few-words c =
     let g = c .before .before .before .args in
@@ -34,4 +25,4 @@ returns c = ap₂ (λ (m n : ℕ). c .before .before .before .args .at + 1 + m *
 pub next-line-spec : {M : Type 1} → statement M
 next-line-spec =
     tie.close
-    (tie.spec add-result length-at-requires places-requires mul-result add-result-2 returns)
+    (tie.spec (λ c. search needs) (λ c κs. search needs) (λ c κs. search needs) mul-result add-result-2 returns)

@@ -5,12 +5,6 @@ use borrow.Author.Needs.{needs}
 use Rattle.lookup.proofs.verdict.Statement.{statement}
 use Rattle.lookup.proofs.verdict.Tie as tie
 
-payload-requires : tie.Need-payload-requires
-payload-requires c κs = search needs
-
-kind-requires : tie.Need-kind-requires
-kind-requires c κs = search needs
-
 returns : tie.Need-returns
 unfolding said
 returns c = simp (← c .before .before .kind .ensures, ← c .before .before .before .payload .ensures, c .before .match .keys1, lt-ltb _ _ (c .if1 .taken))
@@ -57,8 +51,8 @@ pub verdict-spec : {M : Type 1} → statement M
 verdict-spec =
     tie.close
     (tie.spec
-    payload-requires
-    kind-requires
+    (λ c κs. search needs)
+    (λ c κs. search needs)
     returns
     returns-2
     returns-3

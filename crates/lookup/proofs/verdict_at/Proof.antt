@@ -11,27 +11,15 @@ use borrow.Author.Needs.{needs}
 use Rattle.lookup.proofs.verdict_at.Statement.{statement}
 use Rattle.lookup.proofs.verdict_at.Tie as tie
 
-lines-requires : tie.Need-lines-requires
-lines-requires c κs = search needs
-
 returns : tie.Need-returns
 unfolding saidAt
 returns c = simp (← c .before .lines .ensures, le-ltb _ _ (c .if1 .taken))
-
-line-start-requires : tie.Need-line-start-requires
-line-start-requires c κs = search needs
-
-length-at-requires : tie.Need-length-at-requires
-length-at-requires c κs = search needs
 
 returns-2 : tie.Need-returns-2
 unfolding saidAt
 returns-2 c =
     let lined = c .before .before .before in
     simp (← lined .before .lines .ensures, lt-ltb _ _ (lined .if1 .left), ← c .before .before .line-start .ensures, ← c .before .length-at .ensures, le-ltb _ _ (c .if2 .taken))
-
-places-requires : tie.Need-places-requires
-places-requires c κs = search needs
 
 returns-3 : tie.Need-returns-3
 unfolding saidAt
@@ -71,12 +59,6 @@ add-at-2 c = omega (arith, few-words c)
 add-at-3 : tie.Need-add-at-3
 add-at-3 c = omega (arith, early c, few-words c)
 
-word-or-zero-requires : tie.Need-word-or-zero-requires
-word-or-zero-requires c κs = search needs
-
-verdict-requires : tie.Need-verdict-requires
-verdict-requires c κs = search needs
-
 returns-4 : tie.Need-returns-4
 unfolding saidAt
 returns-4 c =
@@ -99,17 +81,17 @@ pub verdict-at-spec : {M : Type 1} → statement M
 verdict-at-spec =
     tie.close
     (tie.spec
-    lines-requires
+    (λ c κs. search needs)
     returns
-    line-start-requires
-    length-at-requires
+    (λ c κs. search needs)
+    (λ c κs. search needs)
     returns-2
-    places-requires
+    (λ c κs. search needs)
     returns-3
     add-at
     mul-at
     add-at-2
     add-at-3
-    word-or-zero-requires
-    verdict-requires
+    (λ c κs. search needs)
+    (λ c κs. search needs)
     returns-4)

@@ -8,15 +8,9 @@ use borrow.Author.Needs.{needs}
 use Rattle.lookup.proofs.whole.Statement.{statement}
 use Rattle.lookup.proofs.whole.Tie as tie
 
-whole-head-requires : tie.Need-whole-head-requires
-whole-head-requires c κs = search needs
-
 returns : tie.Need-returns
 unfolding wholeAnswer
 returns c = simp (sym (c .before .whole-head .ensures) ∙ not-true _ (c .if1 .taken))
-
-whole-lines-requires : tie.Need-whole-lines-requires
-whole-lines-requires c κs = search needs
 
 returns-2 : tie.Need-returns-2
 unfolding wholeAnswer
@@ -24,14 +18,8 @@ returns-2 c =
     let headed = c .before .before in
     simp (sym (headed .before .whole-head .ensures) ∙ not-false _ (headed .if1 .left), sym (c .before .whole-lines .ensures) ∙ not-true _ (c .if2 .taken))
 
-lines-requires : tie.Need-lines-requires
-lines-requires c κs = search needs
-
 line-start-requires : tie.Need-line-start-requires
 line-start-requires c κs = omega arith
-
-whole-end-requires : tie.Need-whole-end-requires
-whole-end-requires c κs = search needs
 
 returns-3 : tie.Need-returns-3
 unfolding wholeAnswer
@@ -47,11 +35,11 @@ pub whole-spec : {M : Type 1} → statement M
 whole-spec =
     tie.close
     (tie.spec
-    whole-head-requires
+    (λ c κs. search needs)
     returns
-    whole-lines-requires
+    (λ c κs. search needs)
     returns-2
-    lines-requires
+    (λ c κs. search needs)
     line-start-requires
-    whole-end-requires
+    (λ c κs. search needs)
     returns-3)

@@ -12,9 +12,6 @@ use borrow.Author.Needs.{needs}
 use Rattle.lookup.proofs.whole_end.Statement.{statement}
 use Rattle.lookup.proofs.whole_end.Tie as tie
 
-is-end-requires : tie.Need-is-end-requires
-is-end-requires c κs = search needs
-
 -- the code tests kind and count in one
 first-both : (a b c : Bool) → (a && (b && c)) ≡ ((a && b) && c)
 first-both true b c = refl
@@ -39,4 +36,4 @@ unfolding wholeEnd
 returns-2 c = c .zeros-after .ensures ∙ simp (first-both, end-there (c .before))
 
 pub whole-end-spec : {M : Type 1} → statement M
-whole-end-spec = tie.close (tie.spec is-end-requires returns zeros-after-requires returns-2)
+whole-end-spec = tie.close (tie.spec (λ c κs. search needs) returns zeros-after-requires returns-2)

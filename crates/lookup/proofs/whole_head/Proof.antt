@@ -10,9 +10,6 @@ use borrow.Author.Needs.{needs}
 use Rattle.lookup.proofs.whole_head.Statement.{statement}
 use Rattle.lookup.proofs.whole_head.Tie as tie
 
-is-kind-requires : tie.Need-is-kind-requires
-is-kind-requires c κs = search needs
-
 returns : tie.Need-returns
 unfolding wholeHead
 returns c = simp (sym (c .before .is-kind .ensures) ∙ not-true _ (c .if1 .taken))
@@ -20,24 +17,12 @@ returns c = simp (sym (c .before .is-kind .ensures) ∙ not-true _ (c .if1 .take
 kind-13 : (c : tie.Else1) → isKind 13 (wordsOf (c .before .before .before .args .answer .now)) 0 ≡ true
 kind-13 c = sym (c .before .is-kind .ensures) ∙ not-false _ (c .if1 .left)
 
-places-requires : tie.Need-places-requires
-places-requires c κs = search needs
-
-within-requires : tie.Need-within-requires
-within-requires c κs = search needs
-
 places-within : (c : tie.Else2) → between 1 mostPlaces (headPlaces (wordsOf (c .before .before .before .before .before .before .args .answer .now))) ≡ true
 places-within c = sym (ap (between 1 mostPlaces) (c .before .before .places .ensures)) ∙ sym (c .before .within .ensures) ∙ not-false _ (c .if2 .left)
 
 returns-2 : tie.Need-returns-2
 unfolding wholeHead
 returns-2 c = simp (kind-13 (c .before .before .before), ← c .before .before .places .ensures, sym (c .before .within .ensures) ∙ not-true _ (c .if2 .taken))
-
-lines-requires : tie.Need-lines-requires
-lines-requires c κs = search needs
-
-within-requires-2 : tie.Need-within-requires-2
-within-requires-2 c κs = search needs
 
 returns-3 : tie.Need-returns-3
 unfolding wholeHead
@@ -49,12 +34,6 @@ returns-3 c =
       ← c .before .before .lines .ensures,
       sym (c .before .within2 .ensures) ∙ not-true _ (c .if3 .taken),
     )
-
-samples-requires : tie.Need-samples-requires
-samples-requires c κs = search needs
-
-within-requires-3 : tie.Need-within-requires-3
-within-requires-3 c κs = search needs
 
 last-decides : {a b c d : Bool} → a ≡ true → b ≡ true → c ≡ true → (a && (b && (c && d))) ≡ d
 last-decides p q r = rw (p, q, r) refl
@@ -73,14 +52,14 @@ pub whole-head-spec : {M : Type 1} → statement M
 whole-head-spec =
     tie.close
     (tie.spec
-    is-kind-requires
+    (λ c κs. search needs)
     returns
-    places-requires
-    within-requires
+    (λ c κs. search needs)
+    (λ c κs. search needs)
     returns-2
-    lines-requires
-    within-requires-2
+    (λ c κs. search needs)
+    (λ c κs. search needs)
     returns-3
-    samples-requires
-    within-requires-3
+    (λ c κs. search needs)
+    (λ c κs. search needs)
     returns-4)

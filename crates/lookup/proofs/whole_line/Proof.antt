@@ -15,18 +15,12 @@ use borrow.Author.Needs.{needs}
 use Rattle.lookup.proofs.whole_line.Statement.{statement}
 use Rattle.lookup.proofs.whole_line.Tie as tie
 
-is-kind-requires : tie.Need-is-kind-requires
-is-kind-requires c κs = search needs
-
 returns : tie.Need-returns
 unfolding wholeLineAt
 returns c = simp (sym (c .before .is-kind .ensures) ∙ not-true _ (c .if1 .taken))
 
 kind-14 : (c : tie.Else1) → isKind 14 (wordsOf (c .before .before .before .args .answer .now)) (c .before .before .before .args .at) ≡ true
 kind-14 c = sym (c .before .is-kind .ensures) ∙ not-false _ (c .if1 .left)
-
-word-or-zero-requires : tie.Need-word-or-zero-requires
-word-or-zero-requires c κs = search needs
 
 returns-2 : tie.Need-returns-2
 unfolding wholeLineAt
@@ -39,15 +33,6 @@ length-told : (c : tie.After-within)
     → c .within .result ≡ between 1 (headSamples (wordsOf (c .before .before .before .before .before .before .before .before .args .answer .now))) (lengthAt (wordsOf (c .before .before .before .before .before .before .before .before .args .answer .now)) (c .before .before .before .before .before .before .before .before .args .at))
 length-told c = c .within .ensures ∙ ap₂ (between 1) (c .before .samples .ensures) (c .before .before .length-at .ensures)
 
-length-at-requires : tie.Need-length-at-requires
-length-at-requires c κs = search needs
-
-samples-requires : tie.Need-samples-requires
-samples-requires c κs = search needs
-
-within-requires : tie.Need-within-requires
-within-requires c κs = search needs
-
 returns-3 : tie.Need-returns-3
 unfolding wholeLineAt
 returns-3 c =
@@ -58,12 +43,6 @@ few-words : (c : tie.After-places) → c .before .before .before .before .length
 few-words c =
     let g = c .before .before .before .before .before .before .before .before .before .before .args in
     line-size (wordsOf (g .answer .now)) (g .at) (omega arith) (omega arith)
-
-add-whole-verdicts : tie.Need-add-whole-verdicts
-add-whole-verdicts c = search needs
-
-places-requires : tie.Need-places-requires
-places-requires c κs = search needs
 
 mul-whole-verdicts : tie.Need-mul-whole-verdicts
 mul-whole-verdicts c = omega (arith, few-words c)
@@ -85,16 +64,16 @@ pub whole-line-spec : {M : Type 1} → statement M
 whole-line-spec =
     tie.close
     (tie.spec
-    is-kind-requires
+    (λ c κs. search needs)
     returns
-    word-or-zero-requires
+    (λ c κs. search needs)
     returns-2
-    length-at-requires
-    samples-requires
-    within-requires
+    (λ c κs. search needs)
+    (λ c κs. search needs)
+    (λ c κs. search needs)
     returns-3
-    add-whole-verdicts
-    places-requires
+    (λ c. search needs)
+    (λ c κs. search needs)
     mul-whole-verdicts
     whole-verdicts-requires
     returns-4)

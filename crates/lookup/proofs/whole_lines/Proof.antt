@@ -18,9 +18,6 @@ Inv-loop answer at₀ i₀ i-end at i = (i ≤ headLines (wordsOf answer)) × (a
 abbrev μ-loop : tie.MeasureT-loop
 μ-loop answer at₀ i₀ i-end at i = headLines (wordsOf answer) - i
 
-lines-requires : tie.Need-lines-requires Inv-loop μ-loop
-lines-requires c κs = search needs
-
 loop-holds : tie.Need-loop-holds Inv-loop μ-loop
 unfolding lineStart
 loop-holds c = (search needs, refl, λ k none. absurd (omega arith))
@@ -44,12 +41,6 @@ next-line-requires c κs =
     let loop = c .before .before .before .loop in
     start-small (wordsOf (c .before .before .before .before .before .before .args .answer .now)) (loop .i) (loop .inv .1) (omega arith)
 
-add-i : tie.Need-add-i Inv-loop μ-loop
-add-i c = search needs
-
-loop-less : tie.Need-loop-less Inv-loop μ-loop
-loop-less c = search needs
-
 loop-again : tie.Need-loop-again Inv-loop μ-loop
 loop-again c =
     let a = wordsOf (c .before .before .before .before .before .before .before .args .answer .now) in
@@ -68,12 +59,12 @@ whole-lines-spec =
     (tie.spec
     Inv-loop
     μ-loop
-    lines-requires
+    (λ c κs. search needs)
     loop-holds
     whole-line-requires
     returns
     next-line-requires
-    add-i
-    loop-less
+    (λ c. search needs)
+    (λ c. search needs)
     loop-again
     returns-2)

@@ -22,15 +22,6 @@ abbrev μ-loop : tie.MeasureT-loop
 loop-holds : tie.Need-loop-holds Inv-loop μ-loop
 loop-holds c = (search needs, λ k none. absurd (omega arith))
 
-add-word-or-zero : tie.Need-add-word-or-zero Inv-loop μ-loop
-add-word-or-zero c = search needs
-
-word-or-zero-requires : tie.Need-word-or-zero-requires Inv-loop μ-loop
-word-or-zero-requires c κs = search needs
-
-verdict-requires : tie.Need-verdict-requires Inv-loop μ-loop
-verdict-requires c κs = search needs
-
 number-read : (c : tie.After-verdict Inv-loop μ-loop)
     → c .verdict .result ≡ verdictNumber (saidBy (wordAt (wordsOf (c .before .before .before .before .before .args .answer .now)) (c .before .before .before .before .before .args .start + c .before .before .before .loop .j)))
 number-read c = c .verdict .ensures ∙ ap (λ (w : ℕ). verdictNumber (saidBy w)) (c .before .word-or-zero .ensures)
@@ -41,12 +32,6 @@ returns c =
     let j = c .before .before .before .before .loop .j in
     let said : ℕ → Said = λ k. saidBy (wordAt (wordsOf (g .answer .now)) (g .start + k)) in
     sym (one-fails (λ _. true) (λ k. isSaid (said k)) (g .count) j (c .before .before .before .loop-test .taken) tt (says-nothing (said j) (sym (number-read (c .before)) ∙ c .if1 .taken)))
-
-add-j : tie.Need-add-j Inv-loop μ-loop
-add-j c = search needs
-
-loop-less : tie.Need-loop-less Inv-loop μ-loop
-loop-less c = search needs
 
 loop-again : tie.Need-loop-again Inv-loop μ-loop
 loop-again c =
@@ -67,11 +52,11 @@ whole-verdicts-spec =
     Inv-loop
     μ-loop
     loop-holds
-    add-word-or-zero
-    word-or-zero-requires
-    verdict-requires
+    (λ c. search needs)
+    (λ c κs. search needs)
+    (λ c κs. search needs)
     returns
-    add-j
-    loop-less
+    (λ c. search needs)
+    (λ c. search needs)
     loop-again
     returns-2)

@@ -24,14 +24,8 @@ abbrev μ-loop : tie.MeasureT-loop
 add-j : tie.Need-add-j Inv-loop μ-loop
 add-j c = omega (arith, words-count (c .before .args .answer .now))
 
-word-count-requires : tie.Need-word-count-requires Inv-loop μ-loop
-word-count-requires c κs = search needs
-
 loop-holds : tie.Need-loop-holds Inv-loop μ-loop
 loop-holds c = (omega arith, omega arith, λ k below above. absurd (omega (arith, ltb→lt (c .before .before .args .at) k above)))
-
-word-at-requires : tie.Need-word-at-requires Inv-loop μ-loop
-word-at-requires c κs = search needs
 
 returns : tie.Need-returns Inv-loop μ-loop
 returns c =
@@ -39,12 +33,6 @@ returns c =
     let loop = c .before .before .before .loop in
     let inside : loop .j < length (wordsOf (g .answer .now)) = omega arith in
     sym (one-fails (ltb (g .at)) (λ k. eqb (wordAt (wordsOf (g .answer .now)) k) 0) _ (loop .j) inside (lt→ltb _ _ (loop .inv .0)) (ne-eqb _ _ (λ zero. c .if1 .taken (c .before .word-at .ensures ∙ zero))))
-
-add-j-2 : tie.Need-add-j-2 Inv-loop μ-loop
-add-j-2 c = search needs
-
-loop-less : tie.Need-loop-less Inv-loop μ-loop
-loop-less c = search needs
 
 loop-again : tie.Need-loop-again Inv-loop μ-loop
 loop-again c =
@@ -62,11 +50,11 @@ zeros-after-spec =
     Inv-loop
     μ-loop
     add-j
-    word-count-requires
+    (λ c κs. search needs)
     loop-holds
-    word-at-requires
+    (λ c κs. search needs)
     returns
-    add-j-2
-    loop-less
+    (λ c. search needs)
+    (λ c. search needs)
     loop-again
     returns-2)

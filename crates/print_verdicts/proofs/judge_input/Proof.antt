@@ -21,24 +21,6 @@ counts c = omega (arith, length-numbers (c .args .distances .now), length-words 
 abbrev zeros : ℕ → List ℕ
 zeros n = replicate n 0
 
-input-taken-requires : tie.Need-input-taken-requires
-input-taken-requires c κs = search needs
-
-fill-zero-requires : tie.Need-fill-zero-requires
-fill-zero-requires c κs = search needs
-
-fill-zero-requires-2 : tie.Need-fill-zero-requires-2
-fill-zero-requires-2 c κs = search needs
-
-same-length : tie.Need-same-length
-same-length c = search needs
-
-same-length-2 : tie.Need-same-length-2
-same-length-2 c = search needs
-
-refusal-requires : tie.Need-refusal-requires
-refusal-requires c κs = search needs
-
 returns : tie.Need-returns
 unfolding programJudged
 returns c =
@@ -50,15 +32,6 @@ returns c =
     let distances = ap (λ (b : List ℕ). numbersOf (wordsOf b)) (c .before .before .before .before .before .before .before .fill-zero .ensures) ∙ zero-numbers D in
     let answer = ap wordsOf (c .before .before .before .fill-zero2 .ensures) ∙ zero-words A in
     rw not-taken (ap resultSaid (c .refusal .ensures), (answer ∙ ap zeros (count .1), distances ∙ ap zeros (count .0)))
-
-judge-requires : tie.Need-judge-requires
-judge-requires c κs = search needs
-
-same-length-3 : tie.Need-same-length-3
-same-length-3 c = search needs
-
-same-length-4 : tie.Need-same-length-4
-same-length-4 c = search needs
 
 returns-2 : tie.Need-returns-2
 unfolding programJudged
@@ -72,14 +45,14 @@ pub judge-input-spec : {M : Type 1} → statement M
 judge-input-spec =
     tie.close
     (tie.spec
-    input-taken-requires
-    fill-zero-requires
-    fill-zero-requires-2
-    refusal-requires
-    same-length
-    same-length-2
+    (λ c κs. search needs)
+    (λ c κs. search needs)
+    (λ c κs. search needs)
+    (λ c κs. search needs)
+    (λ c. search needs)
+    (λ c. search needs)
     returns
-    judge-requires
-    same-length-3
-    same-length-4
+    (λ c κs. search needs)
+    (λ c. search needs)
+    (λ c. search needs)
     returns-2)

@@ -10,45 +10,18 @@ Inv-loop answer line at samples places next₀ sample₀ next sample = (sample �
 abbrev μ-loop : tie.MeasureT-loop
 μ-loop answer line at samples places next₀ sample₀ next sample = samples - sample
 
-loop-holds : tie.Need-loop-holds Inv-loop μ-loop
-loop-holds c = search needs
-
-print-decimal-requires : tie.Need-print-decimal-requires Inv-loop μ-loop
-print-decimal-requires c κs = search needs
-
-print-number-requires : tie.Need-print-number-requires Inv-loop μ-loop
-print-number-requires c κs = search needs
-
-print-places-requires : tie.Need-print-places-requires Inv-loop μ-loop
-print-places-requires c κs = search needs
-
-add-next : tie.Need-add-next Inv-loop μ-loop
-add-next c = search needs
-
-add-sample : tie.Need-add-sample Inv-loop μ-loop
-add-sample c = search needs
-
-loop-less : tie.Need-loop-less Inv-loop μ-loop
-loop-less c = search needs
-
-loop-again : tie.Need-loop-again Inv-loop μ-loop
-loop-again c = search needs
-
-returns : tie.Need-returns Inv-loop μ-loop
-returns c = search needs
-
 pub print-line-spec : {M : Type 1} → statement M
 print-line-spec =
     tie.close
     (tie.spec
     Inv-loop
     μ-loop
-    loop-holds
-    print-decimal-requires
-    print-number-requires
-    print-places-requires
-    add-next
-    add-sample
-    loop-less
-    loop-again
-    returns)
+    (λ c. search needs)
+    (λ c κs. search needs)
+    (λ c κs. search needs)
+    (λ c κs. search needs)
+    (λ c. search needs)
+    (λ c. search needs)
+    (λ c. search needs)
+    (λ c. search needs)
+    (λ c. search needs))

@@ -17,9 +17,6 @@ Inv-loop table places place₀ place = place ≤ places
 abbrev μ-loop : tie.MeasureT-loop
 μ-loop table places place₀ place = places - place
 
-loop-holds : tie.Need-loop-holds Inv-loop μ-loop
-loop-holds c = search needs
-
 mul-print-row : tie.Need-mul-print-row Inv-loop μ-loop
 mul-print-row c =
     let g = c .before .before .before .args in
@@ -30,28 +27,16 @@ print-row-requires c κs =
     let g = c .before .before .before .args in
     omega (arith, row-within (c .before .loop .place) (g .places) (c .loop-test .taken))
 
-add-place : tie.Need-add-place Inv-loop μ-loop
-add-place c = search needs
-
-loop-less : tie.Need-loop-less Inv-loop μ-loop
-loop-less c = search needs
-
-loop-again : tie.Need-loop-again Inv-loop μ-loop
-loop-again c = search needs
-
-returns : tie.Need-returns Inv-loop μ-loop
-returns c = search needs
-
 pub print-rows-spec : {M : Type 1} → statement M
 print-rows-spec =
     tie.close
     (tie.spec
     Inv-loop
     μ-loop
-    loop-holds
+    (λ c. search needs)
     mul-print-row
     print-row-requires
-    add-place
-    loop-less
-    loop-again
-    returns)
+    (λ c. search needs)
+    (λ c. search needs)
+    (λ c. search needs)
+    (λ c. search needs))

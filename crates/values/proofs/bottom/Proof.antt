@@ -4,12 +4,9 @@ use Rattle.values.specs.Chain.{marginAt}
 use Rattle.values.proofs.bottom.Statement.{statement}
 use Rattle.values.proofs.bottom.Tie as tie
 
-chain-requires : tie.Need-chain-requires
-chain-requires c κs = search needs
-
 returns : tie.Need-returns
 unfolding marginAt
 returns c = c .chain .ensures
 
 pub bottom-spec : {M : Type 1} → statement M
-bottom-spec = tie.close (tie.spec chain-requires returns)
+bottom-spec = tie.close (tie.spec (λ c κs. search needs) returns)

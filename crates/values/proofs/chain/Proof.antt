@@ -8,12 +8,6 @@ use Rattle.values.proofs.Machine.{byte-count}
 use Rattle.values.proofs.chain.Statement.{statement}
 use Rattle.values.proofs.chain.Tie as tie
 
-mul-result : tie.Need-mul-result
-mul-result c = search needs
-
-cast-result : tie.Need-cast-result
-cast-result c = search needs
-
 add-result : tie.Need-add-result
 add-result c = record { fits = omega (arith, byte-count (c .before .args .yes)) }
 
@@ -21,4 +15,4 @@ returns : tie.Need-returns
 returns c = ap₂ (λ n b. 2 * n + b) (sym (code-at (c .before .args .margin .code) (c .before .pre))) (byte-count (c .before .args .yes) .0)
 
 pub chain-spec : {M : Type 1} → statement M
-chain-spec = tie.close (tie.spec mul-result cast-result add-result returns)
+chain-spec = tie.close (tie.spec (λ c. search needs) (λ c. search needs) add-result returns)

@@ -9,29 +9,8 @@ use Rattle.values.proofs.Machine.{byte-count}
 use Rattle.values.proofs.of_word.Statement.{statement}
 use Rattle.values.proofs.of_word.Tie as tie
 
-kind-requires : tie.Need-kind-requires
-kind-requires c κs = search needs
-
-payload-requires : tie.Need-payload-requires
-payload-requires c κs = search needs
-
-add-code : tie.Need-add-code
-add-code c = search needs
-
-mul-number : tie.Need-mul-number
-mul-number c = search needs
-
-cast-number : tie.Need-cast-number
-cast-number c = search needs
-
 add-number : tie.Need-add-number
 add-number c = record { fits = omega (arith, byte-count (eqb (c .before .kind .result) 9)) }
-
-bottom-requires : tie.Need-bottom-requires
-bottom-requires c κs = search needs
-
-top-requires : tie.Need-top-requires
-top-requires c κs = search needs
 
 returns : tie.Need-returns
 unfolding wordChain
@@ -53,14 +32,14 @@ pub of-word-spec : {M : Type 1} → statement M
 of-word-spec =
     tie.close
     (tie.spec
-    kind-requires
-    payload-requires
-    add-code
-    mul-number
-    cast-number
+    (λ c κs. search needs)
+    (λ c κs. search needs)
+    (λ c. search needs)
+    (λ c. search needs)
+    (λ c. search needs)
     add-number
-    bottom-requires
-    top-requires
+    (λ c κs. search needs)
+    (λ c κs. search needs)
     returns
     returns-2
     returns-3)

@@ -12,9 +12,6 @@ use Rattle.values.proofs.Codes.{code-at, code-opposite}
 use Rattle.values.proofs.opposite.Statement.{statement}
 use Rattle.values.proofs.opposite.Tie as tie
 
-negate-requires : tie.Need-negate-requires
-negate-requires c κs = search needs
-
 -- the code of half the number, negated
 negated : (c : tie.After-negate) → c .negate .result .code ≡ 2 ^ 28 - c .before .args .c / 2
 negated c =
@@ -38,4 +35,4 @@ returns c =
     c .chain .ensures ∙ rw (code-at (c .before .negate .result .code) (omega arith), e) (by-halves (c .before .before .args .c) (c .before .before .pre))
 
 pub opposite-spec : {M : Type 1} → statement M
-opposite-spec = tie.close (tie.spec negate-requires chain-requires returns)
+opposite-spec = tie.close (tie.spec (λ c κs. search needs) chain-requires returns)

@@ -17,12 +17,6 @@ add-word-at c = omega (arith, words-count (c .before .args .words .now))
 add-word-at-2 : tie.Need-add-word-at-2
 add-word-at-2 c = omega (arith, words-count (c .before .args .words .now))
 
-word-at-requires : tie.Need-word-at-requires
-word-at-requires c κs = search needs
-
-of-word-requires : tie.Need-of-word-requires
-of-word-requires c κs = search needs
-
 returns : tie.Need-returns
 unfolding signalIn
 returns c = c .of-word .ensures ∙ ap wordChain (c .before .word-at .ensures)
@@ -30,4 +24,4 @@ returns c = c .of-word .ensures ∙ ap wordChain (c .before .word-at .ensures)
 pub signal-at-spec : {M : Type 1} → statement M
 signal-at-spec =
     tie.close
-    (tie.spec mul-word-at add-word-at add-word-at-2 word-at-requires of-word-requires returns)
+    (tie.spec mul-word-at add-word-at add-word-at-2 (λ c κs. search needs) (λ c κs. search needs) returns)

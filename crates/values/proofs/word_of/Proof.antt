@@ -13,35 +13,8 @@ use Rattle.values.proofs.ChainWords.{word-between}
 use Rattle.values.proofs.word_of.Statement.{statement}
 use Rattle.values.proofs.word_of.Tie as tie
 
-yes-requires : tie.Need-yes-requires
-yes-requires c κs = search needs
-
-cast-kind : tie.Need-cast-kind
-cast-kind c = search needs
-
 sub-kind : tie.Need-sub-kind
 sub-kind c = omega (arith, byte-count (c .yes .result))
-
-mul-word : tie.Need-mul-word
-mul-word c = search needs
-
-add-word : tie.Need-add-word
-add-word c = search needs
-
-add-word-2 : tie.Need-add-word-2
-add-word-2 c = search needs
-
-bottom-requires : tie.Need-bottom-requires
-bottom-requires c κs = search needs
-
-mul-result : tie.Need-mul-result
-mul-result c = search needs
-
-top-requires : tie.Need-top-requires
-top-requires c κs = search needs
-
-mul-result-2 : tie.Need-mul-result-2
-mul-result-2 c = search needs
 
 returns : tie.Need-returns
 unfolding chainWord
@@ -67,16 +40,16 @@ pub word-of-spec : {M : Type 1} → statement M
 word-of-spec =
     tie.close
     (tie.spec
-    yes-requires
-    cast-kind
+    (λ c κs. search needs)
+    (λ c. search needs)
     sub-kind
-    mul-word
-    add-word
-    add-word-2
-    bottom-requires
-    mul-result
-    top-requires
-    mul-result-2
+    (λ c. search needs)
+    (λ c. search needs)
+    (λ c. search needs)
+    (λ c κs. search needs)
+    (λ c. search needs)
+    (λ c κs. search needs)
+    (λ c. search needs)
     returns
     returns-2
     returns-3)

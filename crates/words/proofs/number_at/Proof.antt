@@ -26,9 +26,6 @@ add-word-at c = omega (arith, inside (c .before), words-count (c .before .before
 word-at-requires-2 : tie.Need-word-at-requires-2
 word-at-requires-2 c κs = inside (c .before)
 
-number-of-words-requires : tie.Need-number-of-words-requires
-number-of-words-requires c κs = search needs
-
 returns : tie.Need-returns
 returns c =
     let g = c .before .before .before .before .args in
@@ -44,5 +41,5 @@ number-at-spec =
     word-at-requires
     add-word-at
     word-at-requires-2
-    number-of-words-requires
+    (λ c κs. search needs)
     returns)

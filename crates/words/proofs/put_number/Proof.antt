@@ -20,9 +20,6 @@ inside c = omega (arith, numbers-count (wordsOf (c .before .args .s .now)))
 mul-at : tie.Need-mul-at
 mul-at c = omega (arith, inside c, words-count (c .before .args .s .now))
 
-cast-put-word : tie.Need-cast-put-word
-cast-put-word c = search needs
-
 put-word-requires : tie.Need-put-word-requires
 put-word-requires c κs =
     let g = c .before .before .args in
@@ -33,9 +30,6 @@ add-put-word : tie.Need-add-put-word
 add-put-word c =
     omega (arith, inside (c .before .before .before .before .before), words-count (c .before .before .before .before .before .before .args .s .now))
 
-cast-put-word-2 : tie.Need-cast-put-word-2
-cast-put-word-2 c = search needs
-
 put-word-requires-2 : tie.Need-put-word-requires-2
 put-word-requires-2 c κs =
     let g = c .before .before .before .before .before .before .args in
@@ -43,9 +37,6 @@ put-word-requires-2 c κs =
     let e : length (wordsOf (p .last .0)) ≡ length (wordsOf (g .s .now)) = ap length (p .ensures .0) ∙ simp length-set in
     let l : g .i * 2 + 1 < length (wordsOf (p .last .0)) = omega (arith, inside (c .before .before .before .before .before)) in
     l
-
-same-length : tie.Need-same-length
-same-length c = search needs
 
 returns : tie.Need-returns
 unfolding bytesOf halvesOf
@@ -72,10 +63,10 @@ put-number-spec =
     tie.close
     (tie.spec
     mul-at
-    cast-put-word
+    (λ c. search needs)
     put-word-requires
     add-put-word
-    cast-put-word-2
+    (λ c. search needs)
     put-word-requires-2
-    same-length
+    (λ c. search needs)
     returns)

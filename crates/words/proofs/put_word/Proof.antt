@@ -15,14 +15,8 @@ use Rattle.words.proofs.put_word.Tie as tie
 mul-at : tie.Need-mul-at
 mul-at c = omega (arith, words-count (c .args .s .now))
 
-cast-s : tie.Need-cast-s
-cast-s c = search needs
-
 slice-write-s : tie.Need-slice-write-s
 slice-write-s c = omega (arith, words-count (c .args .s .now))
-
-cast-s-2 : tie.Need-cast-s-2
-cast-s-2 c = search needs
 
 add-s : tie.Need-add-s
 add-s c = omega (arith, words-count (c .args .s .now))
@@ -30,26 +24,17 @@ add-s c = omega (arith, words-count (c .args .s .now))
 slice-write-s-2 : tie.Need-slice-write-s-2
 slice-write-s-2 c = simp length-set (omega (arith, words-count (c .args .s .now)))
 
-cast-s-3 : tie.Need-cast-s-3
-cast-s-3 c = search needs
-
 add-s-2 : tie.Need-add-s-2
 add-s-2 c = omega (arith, words-count (c .args .s .now))
 
 slice-write-s-3 : tie.Need-slice-write-s-3
 slice-write-s-3 c = simp length-set (omega (arith, words-count (c .args .s .now)))
 
-cast-s-4 : tie.Need-cast-s-4
-cast-s-4 c = search needs
-
 add-s-3 : tie.Need-add-s-3
 add-s-3 c = omega (arith, words-count (c .args .s .now))
 
 slice-write-s-4 : tie.Need-slice-write-s-4
 slice-write-s-4 c = simp length-set (omega (arith, words-count (c .args .s .now)))
-
-same-length : tie.Need-same-length
-same-length c = search needs
 
 returns : tie.Need-returns
 unfolding bytesOf
@@ -68,16 +53,16 @@ put-word-spec =
     tie.close
     (tie.spec
     mul-at
-    cast-s
+    (λ c. search needs)
     slice-write-s
-    cast-s-2
+    (λ c. search needs)
     add-s
     slice-write-s-2
-    cast-s-3
+    (λ c. search needs)
     add-s-2
     slice-write-s-3
-    cast-s-4
+    (λ c. search needs)
     add-s-3
     slice-write-s-4
-    same-length
+    (λ c. search needs)
     returns)

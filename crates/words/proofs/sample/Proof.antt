@@ -11,12 +11,6 @@ use borrow.Author.Tests.{lt-ltb, le-ltb}
 use Rattle.words.proofs.sample.Statement.{statement}
 use Rattle.words.proofs.sample.Tie as tie
 
-cast-result : tie.Need-cast-result
-cast-result c = search needs
-
-cast-result-2 : tie.Need-cast-result-2
-cast-result-2 c = search needs
-
 -- the difference of the machine is that of the numbers
 down : (field : ℕ) → field < 2 ^ 27 → toZ w32 field -ℤ pos (2 ^ 27) ≡ negsuc (2 ^ 27 - suc field)
 down field h = rw (toZ-pos w32 {n = field} (omega arith)) (simp (lt-ltb field (2 ^ 27) h))
@@ -31,4 +25,4 @@ returns-2 : tie.Need-returns-2
 returns-2 c = toZ-ofZ (sub-result c) ∙ down (c .before .args .w % 134217728) (omega arith) ∙ simp (le-ltb _ _ (c .if1 .left))
 
 pub sample-spec : {M : Type 1} → statement M
-sample-spec = tie.close (tie.spec cast-result cast-result-2 sub-result returns returns-2)
+sample-spec = tie.close (tie.spec (λ c. search needs) (λ c. search needs) sub-result returns returns-2)

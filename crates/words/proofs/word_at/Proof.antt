@@ -30,9 +30,6 @@ add-word-of-bytes-3 c = omega (arith, words-count (c .before .before .before .be
 shared-slice-read-word-of-bytes-4 : tie.Need-shared-slice-read-word-of-bytes-4
 shared-slice-read-word-of-bytes-4 c = omega (arith, words-count (c .before .before .before .before .before .args .s .now))
 
-word-of-bytes-requires : tie.Need-word-of-bytes-requires
-word-of-bytes-requires c κs = search needs
-
 returns : tie.Need-returns
 returns c = c .word-of-bytes .ensures ∙ sym (getD-words (c .before .before .before .before .before .before .args .s .now) (c .before .before .before .before .before .before .args .i) (c .before .before .before .before .before .before .pre))
 
@@ -48,5 +45,5 @@ word-at-spec =
     shared-slice-read-word-of-bytes-3
     add-word-of-bytes-3
     shared-slice-read-word-of-bytes-4
-    word-of-bytes-requires
+    (λ c κs. search needs)
     returns)

@@ -7,17 +7,8 @@ use borrow.Author.Needs.{needs}
 use Rattle.words.proofs.word_or_zero.Statement.{statement}
 use Rattle.words.proofs.word_or_zero.Tie as tie
 
-word-count-requires : tie.Need-word-count-requires
-word-count-requires c κs = search needs
-
-word-at-requires : tie.Need-word-at-requires
-word-at-requires c κs = search needs
-
-returns : tie.Need-returns
-returns c = search needs
-
 returns-2 : tie.Need-returns-2
 returns-2 c = sym (List·getD-eq-default (wordsOf (c .before .before .before .args .s .now)) 0 (omega arith))
 
 pub word-or-zero-spec : {M : Type 1} → statement M
-word-or-zero-spec = tie.close (tie.spec word-count-requires word-at-requires returns returns-2)
+word-or-zero-spec = tie.close (tie.spec (λ c κs. search needs) (λ c κs. search needs) (λ c. search needs) returns-2)

@@ -73,15 +73,6 @@ sub-fill-zero c = inside c
 part-fill-zero-start : tie.Need-part-fill-zero-start
 part-fill-zero-start c = inside c
 
-part-fill-zero-end : tie.Need-part-fill-zero-end
-part-fill-zero-end c = search needs
-
-fill-zero-requires : tie.Need-fill-zero-requires
-fill-zero-requires c κs = search needs
-
-same-length : tie.Need-same-length
-same-length c = search needs
-
 abbrev Whole : tie.Start → List ℕ
 Whole c =
     let s = wordsOf (c .args .sheet .now) in
@@ -151,7 +142,7 @@ write-answer-spec =
     mul-after
     sub-fill-zero
     part-fill-zero-start
-    part-fill-zero-end
-    fill-zero-requires
-    same-length
+    (λ c. search needs)
+    (λ c κs. search needs)
+    (λ c. search needs)
     returns)

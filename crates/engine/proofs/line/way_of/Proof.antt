@@ -36,17 +36,11 @@ by-rows starts (Eventually left b) h = refl
 by-rows starts (Always left b) h = refl
 by-rows starts (Everywhere left b) h = absurd (miss others 11 tt h)
 
-enum-known-operator : tie.Need-enum-known-operator
-enum-known-operator c = search needs
-
 mul-only : tie.Need-mul-only
 mul-only c = omega (arith, known (c .before .before .before) (c .before .operator .given .1))
 
 shared-slice-read-only : tie.Need-shared-slice-read-only
 shared-slice-read-only c = known (c .before .before .before .before) (c .before .before .operator .given .1)
-
-enum-known-operator-2 : tie.Need-enum-known-operator-2
-enum-known-operator-2 c = search needs
 
 mul-first : tie.Need-mul-first
 mul-first c = omega (arith, known (c .before .before .before) (c .before .operator2 .given .1) .0)
@@ -59,9 +53,6 @@ mul-second c = omega (arith, known (c .before .before .before .before) (c .befor
 
 shared-slice-read-second : tie.Need-shared-slice-read-second
 shared-slice-read-second c = known (c .before .before .before .before .before) (c .before .before .before .operator2 .given .1) .1
-
-enum-known-operator-3 : tie.Need-enum-known-operator-3
-enum-known-operator-3 c = search needs
 
 mul-only-2 : tie.Need-mul-only-2
 mul-only-2 c = omega (arith, known (c .before .before .before) (c .before .operator3 .given .1))
@@ -85,15 +76,15 @@ pub way-of-spec : {M : Type 1} → statement M
 way-of-spec =
     tie.close
     (tie.spec
-    enum-known-operator
+    (λ c. search needs)
     mul-only
     shared-slice-read-only
-    enum-known-operator-2
+    (λ c. search needs)
     mul-first
     shared-slice-read-first
     mul-second
     shared-slice-read-second
-    enum-known-operator-3
+    (λ c. search needs)
     mul-only-2
     shared-slice-read-only-2
     returns

@@ -48,23 +48,11 @@ module _ (c : tie.After-way-of) where
       (wordsUpTo answer (start .args .to) (lineSaid (start .args .line))) (start .args .starts .now) (start .args .line .length) (start .args .line .operator) way
   reads e = line-reads (start .args .line) (start .pre .0) (sym (c .way-of .ensures) ∙ e)
 
-add-put-word : tie.Need-add-put-word
-add-put-word c = search needs
-
-put-word-requires : tie.Need-put-word-requires
-put-word-requires c κs = search needs
-
 add-begin : tie.Need-add-begin
 add-begin c = let begin = c .before .before .before .before .before .before .before .before .before in omega (arith, words-count (begin .args .answer .now), begin .pre .1)
 
-cast-samples : tie.Need-cast-samples
-cast-samples c = search needs
-
 way-of-requires : tie.Need-way-of-requires
 way-of-requires c κs = let begin = c .before .before .before .before .before .before .before .before .before .before in operands-known (begin .args .line) (begin .pre .0)
-
-enum-known-around : tie.Need-enum-known-around
-enum-known-around c = search needs
 
 write-around-requires : tie.Need-write-around-requires
 write-around-requires c κs =
@@ -73,9 +61,6 @@ write-around-requires c κs =
     let ready : AroundReady (take (a .to + 1) (first way)) (a .layout) (wordsOf (a .sheet .now)) (numbersOf (wordsOf (a .distances .now))) (c .before .before .around .given .0 .0) (a .line .length) =
     rw (before-line way) (reads way (c .before .before .around .given .1) .0) in
     (ready, verdicts-room way)
-
-enum-told : tie.Need-enum-told
-enum-told c = search needs
 
 write-rows-requires : tie.Need-write-rows-requires
 write-rows-requires c κs =
@@ -86,18 +71,12 @@ write-rows-requires c κs =
     rw (before-line way) (reads way (c .before .enum-told .given .1) .0) in
     (begin .pre .0 .surveyed .sheet, readable, verdicts-room way, omega (arith, begin .pre .0 .good .most, begin .pre .0 .surveyed .sheet .samples))
 
-same-length : tie.Need-same-length
-same-length c = search needs
-
 returns : tie.Need-returns
 returns c =
     let arm = c .before .before .before .before .before in
     let way = arm .before .before in
     let (_, same, same-rounds) = reads way (arm .around .given .1) in
     blocks-written (answer way) (start way .args .to) (start way .args .line) (room way) (put-first way) _ (arm .around .given .0 .0) same same-rounds (c .before .before .write-around .ensures)
-
-same-length-2 : tie.Need-same-length-2
-same-length-2 c = search needs
 
 returns-2 : tie.Need-returns-2
 returns-2 c =
@@ -110,16 +89,16 @@ pub write-line-spec : {M : Type 1} → statement M
 write-line-spec =
     tie.close
     (tie.spec
-    add-put-word
-    put-word-requires
+    (λ c. search needs)
+    (λ c κs. search needs)
     add-begin
-    cast-samples
+    (λ c. search needs)
     way-of-requires
-    enum-known-around
+    (λ c. search needs)
     write-around-requires
-    enum-told
+    (λ c. search needs)
     write-rows-requires
-    same-length
+    (λ c. search needs)
     returns
-    same-length-2
+    (λ c. search needs)
     returns-2)

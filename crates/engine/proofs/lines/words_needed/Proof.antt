@@ -63,25 +63,16 @@ decode-line-requires c κs =
     let step = walk-step _ _ _ _ _ _ _ (c .before .before .loop .inv .0) (more (c .before)) in
     (step .there, within (c .before .before .before .before .before) .sizes .samples .1)
 
-enum-told : tie.Need-enum-told Inv-loop μ-loop
-enum-told c = search needs
-
 returns : tie.Need-returns Inv-loop μ-loop
 returns c =
     let turn = c .before .before .before .before in
     absurd (never-refused _ _ _ _ _ _ _ (turn .before .loop .inv .0) (more turn) _ (c .before .before .decode-line .ensures) _ _ (c .enum-told .given .1))
-
-enum-known-line : tie.Need-enum-known-line Inv-loop μ-loop
-enum-known-line c = search needs
 
 mul-lengths : tie.Need-mul-lengths Inv-loop μ-loop
 mul-lengths c = omega (arith, few (c .before .before .before .before .before))
 
 array-write-lengths : tie.Need-array-write-lengths Inv-loop μ-loop
 array-write-lengths c = few (c .before .before .before .before .before)
-
-cast-needed : tie.Need-cast-needed Inv-loop μ-loop
-cast-needed c = search needs
 
 mul-needed : tie.Need-mul-needed Inv-loop μ-loop
 mul-needed c = omega (arith, ends (c .before .before), c .before .before .before .before .before .before .before .before .loop .inv .1)
@@ -91,12 +82,6 @@ add-needed c = omega (arith, ends (c .before .before), c .before .before .before
 
 add-needed-2 : tie.Need-add-needed-2 Inv-loop μ-loop
 add-needed-2 c = omega (arith, ends (c .before .before), c .before .before .before .before .before .before .before .before .loop .inv .1)
-
-add-k : tie.Need-add-k Inv-loop μ-loop
-add-k c = search needs
-
-loop-less : tie.Need-loop-less Inv-loop μ-loop
-loop-less c = search needs
 
 loop-again : tie.Need-loop-again Inv-loop μ-loop
 loop-again c = (passed (c .before .before) .walk, omega (arith, ends (c .before .before), c .before .before .before .before .before .before .before .before .loop .inv .1))
@@ -117,16 +102,16 @@ words-needed-spec =
     loop-holds
     slice-aggregate-decode-line
     decode-line-requires
-    enum-told
+    (λ c. search needs)
     returns
-    enum-known-line
+    (λ c. search needs)
     mul-lengths
     array-write-lengths
-    cast-needed
+    (λ c. search needs)
     mul-needed
     add-needed
     add-needed-2
-    add-k
-    loop-less
+    (λ c. search needs)
+    (λ c. search needs)
     loop-again
     returns-2)

@@ -62,9 +62,6 @@ decode-line-requires c κs =
     let step = walk-step _ _ _ _ _ _ _ (c .before .before .loop .inv .0) (more (c .before)) in
     (step .there, within (c .before .before .before .before .before .before) .sizes .samples .1)
 
-enum-told : tie.Need-enum-told Inv-loop μ-loop
-enum-told c = search needs
-
 unrefused : (c : tie.After-enum-told Inv-loop μ-loop) → ⊥
 unrefused c =
     let turn = c .before .before .before .before in
@@ -75,9 +72,6 @@ same-length c = absurd (unrefused c)
 
 returns : tie.Need-returns Inv-loop μ-loop
 returns c = absurd (unrefused c)
-
-enum-known-line : tie.Need-enum-known-line Inv-loop μ-loop
-enum-known-line c = search needs
 
 slice-aggregate-write-line : tie.Need-slice-aggregate-write-line Inv-loop μ-loop
 slice-aggregate-write-line c = sym (c .before .before .before .before .before .before .before .loop .inv .2 .room)
@@ -106,9 +100,6 @@ mul-starts c = omega (arith, few (c .before .before .before .before .before .bef
 array-write-starts : tie.Need-array-write-starts Inv-loop μ-loop
 array-write-starts c = few (c .before .before .before .before .before .before .before .before .before .before)
 
-cast-to : tie.Need-cast-to Inv-loop μ-loop
-cast-to c = search needs
-
 mul-to : tie.Need-mul-to Inv-loop μ-loop
 mul-to c = omega (arith, ends (c .before .before .before .before .before .before .before))
 
@@ -136,19 +127,10 @@ with-requires c κs =
     let line = c .before .before .before .before in
     omega (arith, done line .counted, yes-few _ _ _ _ (within (start line)) _ (few (turn line)))
 
-add-k : tie.Need-add-k Inv-loop μ-loop
-add-k c = search needs
-
-loop-less : tie.Need-loop-less Inv-loop μ-loop
-loop-less c = search needs
-
 loop-again : tie.Need-loop-again Inv-loop μ-loop
 loop-again c =
     let line = c .before .before .before .before .before in
     (passed (line .before .before .before) .walk, line .write-line .kept .1 .1 .1 .1 .1 .0 ∙ turn line .before .loop .inv .1, rw (c .with .ensures) (done line))
-
-same-length-2 : tie.Need-same-length-2 Inv-loop μ-loop
-same-length-2 c = search needs
 
 returns-2 : tie.Need-returns-2 Inv-loop μ-loop
 returns-2 c =
@@ -165,10 +147,10 @@ write-lines-spec =
     loop-holds
     slice-aggregate-decode-line
     decode-line-requires
-    enum-told
+    (λ c. search needs)
     same-length
     returns
-    enum-known-line
+    (λ c. search needs)
     slice-aggregate-write-line
     write-line-requires
     mul-lengths
@@ -176,13 +158,13 @@ write-lines-spec =
     add-starts
     mul-starts
     array-write-starts
-    cast-to
+    (λ c. search needs)
     mul-to
     add-to
     add-to-2
     with-requires
-    add-k
-    loop-less
+    (λ c. search needs)
+    (λ c. search needs)
     loop-again
-    same-length-2
+    (λ c. search needs)
     returns-2)

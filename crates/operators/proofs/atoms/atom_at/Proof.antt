@@ -15,12 +15,6 @@ use Rattle.values.specs.Chain.{chainDifference}
 use Rattle.operators.proofs.atoms.atom_at.Statement.{statement}
 use Rattle.operators.proofs.atoms.atom_at.Tie as tie
 
-word-at-requires : tie.Need-word-at-requires
-word-at-requires c κs = search needs
-
-sample-requires : tie.Need-sample-requires
-sample-requires c κs = search needs
-
 module _ (c : tie.After-sample) where
   abbrev start : tie.Start
   start = c .before .before .before
@@ -56,8 +50,8 @@ pub atom-at-spec : {M : Type 1} → statement M
 atom-at-spec =
     tie.close
     (tie.spec
-    word-at-requires
-    sample-requires
+    (λ c κs. search needs)
+    (λ c κs. search needs)
     difference-requires
     difference-requires-2
     returns

@@ -44,32 +44,14 @@ turned-at-requires c κs = omega (arith, in-row (c .before .before .before .befo
 turned-at-requires-2 : tie.Need-turned-at-requires-2 Inv-loop μ-loop
 turned-at-requires-2 c κs = omega (arith, in-row (c .before .before .before .before .before .args .t) (c .before .loop-test .taken))
 
-lesser-requires : tie.Need-lesser-requires Inv-loop μ-loop
-lesser-requires c κs = search needs
-
 turn-requires : tie.Need-turn-requires Inv-loop μ-loop
 turn-requires c κs = rw (both c) (meet-bound _ _ (small c (start c .args .left)) (small c (start c .args .right)))
-
-mul-row : tie.Need-mul-row Inv-loop μ-loop
-mul-row c = search needs
-
-slice-write-row : tie.Need-slice-write-row Inv-loop μ-loop
-slice-write-row c = search needs
-
-add-l : tie.Need-add-l Inv-loop μ-loop
-add-l c = search needs
-
-loop-less : tie.Need-loop-less Inv-loop μ-loop
-loop-less c = search needs
 
 loop-again : tie.Need-loop-again Inv-loop μ-loop
 loop-again c =
     let a = c .before .before .before .before .before .before .before .before .args in
     let loop = c .before .before .before .before .before .loop in
     (search needs, left-more (c .turn .result) (loop .inv .1) (omega arith) (c .turn .ensures ∙ ap (turnedTo (a .dual)) (both (c .before)) ∙ turned-number (a .dual) (λ u l. chainLattice .meet (Left (c .before) u l) (Right (c .before) u l)) (a .t) (loop .l)))
-
-same-length : tie.Need-same-length Inv-loop μ-loop
-same-length c = search needs
 
 returns : tie.Need-returns Inv-loop μ-loop
 returns c = let ended : c .before .loop .l ≡ c .before .before .before .before .args .places = omega arith in left-all (c .before .loop .inv .1) ended
@@ -83,12 +65,12 @@ and-row-spec =
     loop-holds
     turned-at-requires
     turned-at-requires-2
-    lesser-requires
+    (λ c κs. search needs)
     turn-requires
-    mul-row
-    slice-write-row
-    add-l
-    loop-less
+    (λ c. search needs)
+    (λ c. search needs)
+    (λ c. search needs)
+    (λ c. search needs)
     loop-again
-    same-length
+    (λ c. search needs)
     returns)

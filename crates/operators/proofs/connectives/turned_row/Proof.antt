@@ -23,25 +23,10 @@ loop-holds c = (search needs, left-none _ _)
 turned-at-requires : tie.Need-turned-at-requires Inv-loop μ-loop
 turned-at-requires c κs = omega (arith, in-row (c .before .before .before .before .args .t) (c .loop-test .taken))
 
-mul-row : tie.Need-mul-row Inv-loop μ-loop
-mul-row c = search needs
-
-slice-write-row : tie.Need-slice-write-row Inv-loop μ-loop
-slice-write-row c = search needs
-
-add-l : tie.Need-add-l Inv-loop μ-loop
-add-l c = search needs
-
-loop-less : tie.Need-loop-less Inv-loop μ-loop
-loop-less c = search needs
-
 loop-again : tie.Need-loop-again Inv-loop μ-loop
 loop-again c =
     let loop = c .before .before .loop in
     (search needs, left-more (c .turned-at .result) (loop .inv .1) (omega arith) (c .turned-at .ensures))
-
-same-length : tie.Need-same-length Inv-loop μ-loop
-same-length c = search needs
 
 returns : tie.Need-returns Inv-loop μ-loop
 returns c = let ended : c .before .loop .l ≡ c .before .before .before .before .args .places = omega arith in left-all (c .before .loop .inv .1) ended
@@ -54,10 +39,10 @@ turned-row-spec =
     μ-loop
     loop-holds
     turned-at-requires
-    mul-row
-    slice-write-row
-    add-l
-    loop-less
+    (λ c. search needs)
+    (λ c. search needs)
+    (λ c. search needs)
+    (λ c. search needs)
     loop-again
-    same-length
+    (λ c. search needs)
     returns)

@@ -26,14 +26,8 @@ module _ (c : tie.Start) where
   held : (c .args .t ≡ 0 → ⊥) → c .args .former ≡ turned (c .args .dual) (ahead signal (c .args .lower) (c .args .upper)) (c .args .t - 1) (c .args .l)
   held ne = c .pre .2 (c .args .t - 1) (omega arith)
 
-greatest-ahead-requires : tie.Need-greatest-ahead-requires
-greatest-ahead-requires c κs = search needs
-
 turn-requires : tie.Need-turn-requires
 turn-requires c κs = let start = c .before .before in rw (held start (c .if1 .left)) (turned-small (start .args .dual) _ _ _ (small start (start .args .t - 1)))
-
-sub-greatest-next : tie.Need-sub-greatest-next
-sub-greatest-next c = search needs
 
 greatest-next-requires : tie.Need-greatest-next-requires
 greatest-next-requires c κs =
@@ -65,9 +59,9 @@ pub eventually-at-spec : {M : Type 1} → statement M
 eventually-at-spec =
     tie.close
     (tie.spec
-    greatest-ahead-requires
+    (λ c κs. search needs)
     turn-requires
-    sub-greatest-next
+    (λ c. search needs)
     greatest-next-requires
     turn-requires-2
     returns)

@@ -19,37 +19,16 @@ abbrev μ-loop : tie.MeasureT-loop
 loop-holds : tie.Need-loop-holds Inv-loop μ-loop
 loop-holds c = (search needs, left-none _ _)
 
-mul-eventually-at : tie.Need-mul-eventually-at Inv-loop μ-loop
-mul-eventually-at c = search needs
-
-slice-read-eventually-at : tie.Need-slice-read-eventually-at Inv-loop μ-loop
-slice-read-eventually-at c = search needs
-
 eventually-at-requires : tie.Need-eventually-at-requires Inv-loop μ-loop
 eventually-at-requires c κs =
     let start = c .before .before .before .before .before in
     let loop = c .before .before .loop in
     (start .pre .0, c .before .loop-test .taken, λ u e. loop .inv .1 .kept (loop .l) (omega arith) ∙ start .pre .2 u e .at (loop .l) (c .before .loop-test .taken))
 
-mul-row : tie.Need-mul-row Inv-loop μ-loop
-mul-row c = search needs
-
-slice-write-row : tie.Need-slice-write-row Inv-loop μ-loop
-slice-write-row c = search needs
-
-add-l : tie.Need-add-l Inv-loop μ-loop
-add-l c = search needs
-
-loop-less : tie.Need-loop-less Inv-loop μ-loop
-loop-less c = search needs
-
 loop-again : tie.Need-loop-again Inv-loop μ-loop
 loop-again c =
     let loop = c .before .before .before .loop in
     (search needs, left-more (c .eventually-at .result) (loop .inv .1) (omega arith) (c .eventually-at .ensures))
-
-same-length : tie.Need-same-length Inv-loop μ-loop
-same-length c = search needs
 
 returns : tie.Need-returns Inv-loop μ-loop
 returns c = let ended : c .before .loop .l ≡ c .before .before .before .before .args .places = omega arith in left-all (c .before .loop .inv .1) ended
@@ -61,13 +40,13 @@ eventually-row-spec =
     Inv-loop
     μ-loop
     loop-holds
-    mul-eventually-at
-    slice-read-eventually-at
+    (λ c. search needs)
+    (λ c. search needs)
     eventually-at-requires
-    mul-row
-    slice-write-row
-    add-l
-    loop-less
+    (λ c. search needs)
+    (λ c. search needs)
+    (λ c. search needs)
+    (λ c. search needs)
     loop-again
-    same-length
+    (λ c. search needs)
     returns)

@@ -25,9 +25,6 @@ abbrev μ-loop : tie.MeasureT-loop
 end-fits : (c : tie.Start Inv-loop μ-loop) → c .args .t + c .args .upper + 1 ≤ length (c .args .words .now)
 end-fits c = window-end (c .args .words .now) (c .pre .0) (omega arith)
 
-bottom-requires : tie.Need-bottom-requires Inv-loop μ-loop
-bottom-requires c κs = search needs
-
 add-u : tie.Need-add-u Inv-loop μ-loop
 add-u c = omega (arith, end-fits (c .before .before))
 
@@ -45,14 +42,8 @@ loop-holds c =
 turned-at-requires : tie.Need-turned-at-requires Inv-loop μ-loop
 turned-at-requires c κs = omega (arith, in-table (c .loop-test .taken) (c .before .before .before .before .pre .1))
 
-greater-requires : tie.Need-greater-requires Inv-loop μ-loop
-greater-requires c κs = search needs
-
 add-u-2 : tie.Need-add-u-2 Inv-loop μ-loop
 add-u-2 c = omega (arith, end-fits (c .before .before .before .before .before .before))
-
-loop-less : tie.Need-loop-less Inv-loop μ-loop
-loop-less c = search needs
 
 loop-again : tie.Need-loop-again Inv-loop μ-loop
 loop-again c =
@@ -72,14 +63,14 @@ greatest-ahead-spec =
     (tie.spec
     Inv-loop
     μ-loop
-    bottom-requires
+    (λ c κs. search needs)
     add-u
     add-u-end
     add-u-end-2
     loop-holds
     turned-at-requires
-    greater-requires
+    (λ c κs. search needs)
     add-u-2
-    loop-less
+    (λ c. search needs)
     loop-again
     returns)

@@ -34,9 +34,6 @@ add-turned-at-3 c = omega (arith, end-fits (c .before .before .before))
 turned-at-requires-2 : tie.Need-turned-at-requires-2
 turned-at-requires-2 c κs = inside (c .before .before .before) _ (omega arith)
 
-greater-requires : tie.Need-greater-requires
-greater-requires c κs = search needs
-
 returns : tie.Need-returns
 returns c =
     let start = c .before .before .before .before .before in
@@ -47,12 +44,6 @@ returns c =
 add-greatest-ahead : tie.Need-add-greatest-ahead
 add-greatest-ahead c = omega (arith, end-fits (c .before .before .before))
 
-greatest-ahead-requires : tie.Need-greatest-ahead-requires
-greatest-ahead-requires c κs = search needs
-
-returns-2 : tie.Need-returns-2
-returns-2 c = search needs
-
 pub greatest-next-spec : {M : Type 1} → statement M
 greatest-next-spec =
     tie.close
@@ -62,8 +53,8 @@ greatest-next-spec =
     add-turned-at-2
     add-turned-at-3
     turned-at-requires-2
-    greater-requires
+    (λ c κs. search needs)
     returns
     add-greatest-ahead
-    greatest-ahead-requires
-    returns-2)
+    (λ c κs. search needs)
+    (λ c. search needs))

@@ -7,9 +7,6 @@ use Rattle.operators.proofs.RowLaws.{turned-number}
 use Rattle.operators.proofs.signals.turned_at.Statement.{statement}
 use Rattle.operators.proofs.signals.turned_at.Tie as tie
 
-signal-at-requires : tie.Need-signal-at-requires
-signal-at-requires c κs = search needs
-
 turn-requires : tie.Need-turn-requires
 turn-requires c κs = rw (c .signal-at .ensures) (signal-bound _ _ _ _ _)
 
@@ -19,4 +16,4 @@ returns c =
     c .turn .ensures ∙ ap (turnedTo (a .negated)) (c .before .signal-at .ensures) ∙ turned-number (a .negated) _ (a .t) (a .l)
 
 pub turned-at-spec : {M : Type 1} → statement M
-turned-at-spec = tie.close (tie.spec signal-at-requires turn-requires returns)
+turned-at-spec = tie.close (tie.spec (λ c κs. search needs) turn-requires returns)

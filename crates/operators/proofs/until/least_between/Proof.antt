@@ -20,23 +20,11 @@ Inv-loop words start places first end l least₀ u₀ least u =
 abbrev μ-loop : tie.MeasureT-loop
 μ-loop words start places first end l least₀ u₀ least u = end - u
 
-top-requires : tie.Need-top-requires Inv-loop μ-loop
-top-requires c κs = search needs
-
 loop-holds : tie.Need-loop-holds Inv-loop μ-loop
 loop-holds c = (search needs, search needs, c .top .ensures ∙ sym (least-none _ _ (c .before .before .args .first) (omega arith)))
 
 signal-at-requires : tie.Need-signal-at-requires Inv-loop μ-loop
 signal-at-requires c κs = omega (arith, in-table (c .loop-test .taken) (c .before .before .before .before .pre .1))
-
-lesser-requires : tie.Need-lesser-requires Inv-loop μ-loop
-lesser-requires c κs = search needs
-
-add-u : tie.Need-add-u Inv-loop μ-loop
-add-u c = search needs
-
-loop-less : tie.Need-loop-less Inv-loop μ-loop
-loop-less c = search needs
 
 loop-again : tie.Need-loop-again Inv-loop μ-loop
 loop-again c =
@@ -54,11 +42,11 @@ least-between-spec =
     (tie.spec
     Inv-loop
     μ-loop
-    top-requires
+    (λ c κs. search needs)
     loop-holds
     signal-at-requires
-    lesser-requires
-    add-u
-    loop-less
+    (λ c κs. search needs)
+    (λ c. search needs)
+    (λ c. search needs)
     loop-again
     returns)

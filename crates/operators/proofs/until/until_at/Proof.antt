@@ -44,9 +44,6 @@ least-between-requires c κs =
     let sooner : a .t + a .lower ≤ a .t + a .upper + 1 = omega arith in
     (search needs, search needs, omega (arith, mul-le-mul-right (a .places) sooner))
 
-bottom-requires : tie.Need-bottom-requires Inv-loop μ-loop
-bottom-requires c κs = search needs
-
 loop-holds : tie.Need-loop-holds Inv-loop μ-loop
 loop-holds c =
     let a = c .before .before .before .args in
@@ -61,23 +58,11 @@ returns c =
 signal-at-requires : tie.Need-signal-at-requires Inv-loop μ-loop
 signal-at-requires c κs = omega (arith, in-table (c .before .loop-test .taken) (c .before .before .before .before .before .before .pre .2))
 
-lesser-requires : tie.Need-lesser-requires Inv-loop μ-loop
-lesser-requires c κs = search needs
-
 signal-at-requires-2 : tie.Need-signal-at-requires-2 Inv-loop μ-loop
 signal-at-requires-2 c κs = omega (arith, in-table (c .before .before .before .loop-test .taken) (c .before .before .before .before .before .before .before .before .pre .2))
 
-lesser-requires-2 : tie.Need-lesser-requires-2 Inv-loop μ-loop
-lesser-requires-2 c κs = search needs
-
-greater-requires : tie.Need-greater-requires Inv-loop μ-loop
-greater-requires c κs = search needs
-
 add-u : tie.Need-add-u Inv-loop μ-loop
 add-u c = omega (arith, end-fits (c .before .before .before .before .before .before .before .before .before .before .before))
-
-loop-less : tie.Need-loop-less Inv-loop μ-loop
-loop-less c = search needs
 
 loop-again : tie.Need-loop-again Inv-loop μ-loop
 loop-again c =
@@ -109,15 +94,15 @@ until-at-spec =
     add-end
     add-end-2
     least-between-requires
-    bottom-requires
+    (λ c κs. search needs)
     loop-holds
     returns
     signal-at-requires
-    lesser-requires
+    (λ c κs. search needs)
     signal-at-requires-2
-    lesser-requires-2
-    greater-requires
+    (λ c κs. search needs)
+    (λ c κs. search needs)
     add-u
-    loop-less
+    (λ c. search needs)
     loop-again
     returns-2)

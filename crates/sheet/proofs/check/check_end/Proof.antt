@@ -14,9 +14,6 @@ use borrow.Author.Needs.{needs}
 use Rattle.sheet.proofs.check.check_end.Statement.{statement}
 use Rattle.sheet.proofs.check.check_end.Tie as tie
 
-is-end-requires : tie.Need-is-end-requires
-is-end-requires c κs = search needs
-
 returns : tie.Need-returns
 unfolding endChecked
 returns c = simp (sym (c .before .is-end .ensures) ∙ not-true _ (c .if1 .taken))
@@ -32,9 +29,6 @@ add-after c =
     let kind-15 = and-true (isKind 15 (wordsOf (g .s .now)) (g .at)) _ (end-there c) .0 in
     omega (arith, words-count (g .s .now), kind-told 15 (wordsOf (g .s .now)) (g .at) kind-15)
 
-word-count-requires : tie.Need-word-count-requires
-word-count-requires c κs = search needs
-
 returns-2 : tie.Need-returns-2
 unfolding endChecked
 returns-2 c = simp (end-there (c .before .before), ← c .before .word-count .ensures, ne-eqb _ _ (c .if2 .taken))
@@ -46,4 +40,4 @@ returns-3 c = simp (end-there (c .before .before), ← c .before .word-count .en
 pub check-end-spec : {M : Type 1} → statement M
 check-end-spec =
     tie.close
-    (tie.spec is-end-requires returns add-after word-count-requires returns-2 returns-3)
+    (tie.spec (λ c κs. search needs) returns add-after (λ c κs. search needs) returns-2 returns-3)

@@ -26,12 +26,6 @@ returns : tie.Need-returns
 unfolding checked
 returns c = simp (lt-leb _ _ (c .if1 .taken))
 
-check-head-requires : tie.Need-check-head-requires
-check-head-requires c κs = search needs
-
-enum-known-fault : tie.Need-enum-known-fault
-enum-known-fault c = search needs
-
 -- ---- the head has passed
 
 abbrev tested : tie.After-known-told2 → tie.Else1
@@ -62,15 +56,6 @@ returns-2 : tie.Need-returns-2
 unfolding checked
 returns-2 c = simp (enough (c .before .before .before .before), sym (c .before .before .before .check-head .ensures) ∙ ap headSaid (c .before .fault .given .1))
 
-enum-known-sizes : tie.Need-enum-known-sizes
-enum-known-sizes c = search needs
-
-check-roads-requires : tie.Need-check-roads-requires
-check-roads-requires c κs = search needs
-
-enum-known-fault-2 : tie.Need-enum-known-fault-2
-enum-known-fault-2 c = search needs
-
 returns-3 : tie.Need-returns-3
 unfolding checked
 returns-3 c =
@@ -78,9 +63,6 @@ returns-3 c =
     let refused-roads = mapped-refused roadAt (roadsFrom (sheet head) (sizes head .places) (length (sheet head)) 0 0)
     (sym (c .before .before .before .check-roads .ensures) ∙ ap stageSaid (c .before .fault2 .given .1)) in
     simp (enough (tested head), head-found head, refused-roads)
-
-enum-known-after : tie.Need-enum-known-after
-enum-known-after c = search needs
 
 -- ---- the roads have passed
 
@@ -103,12 +85,6 @@ mul-count c = let few = sample-count (within (to-head (c .before))) in omega ari
 mul-count-2 : tie.Need-mul-count-2
 mul-count-2 c = let few = sample-count (within (to-head (c .before .before))) in omega arith
 
-check-samples-requires : tie.Need-check-samples-requires
-check-samples-requires c κs = search needs
-
-enum-known-fault-3 : tie.Need-enum-known-fault-3
-enum-known-fault-3 c = search needs
-
 returns-4 : tie.Need-returns-4
 unfolding checked
 returns-4 c =
@@ -116,9 +92,6 @@ returns-4 c =
     let head = to-head roads in
     let passed = roads-passed roads in
     simp (enough (tested head), head-found head, passed .1, passed .2, sym (c .before .before .before .check-samples .ensures) ∙ ap stageSaid (c .before .fault3 .given .1))
-
-enum-known-after-2 : tie.Need-enum-known-after-2
-enum-known-after-2 c = search needs
 
 -- ---- the samples have passed
 
@@ -133,15 +106,6 @@ samples-found c = sym (c .before .before .before .check-samples .ensures) ∙ ap
 
 check-lines-requires : tie.Need-check-lines-requires
 check-lines-requires c κs = within (to-head (to-roads c)) .samples-most
-
-enum-known-fault-4 : tie.Need-enum-known-fault-4
-enum-known-fault-4 c = search needs
-
-enum-known-lines : tie.Need-enum-known-lines
-enum-known-lines c = search needs
-
-check-end-requires : tie.Need-check-end-requires
-check-end-requires c κs = search needs
 
 -- ---- the lines have passed
 
@@ -198,24 +162,24 @@ check-sheet-spec =
     tie.close
     (tie.spec
     returns
-    check-head-requires
-    enum-known-fault
+    (λ c κs. search needs)
+    (λ c. search needs)
     returns-2
-    enum-known-sizes
-    check-roads-requires
-    enum-known-fault-2
+    (λ c. search needs)
+    (λ c κs. search needs)
+    (λ c. search needs)
     returns-3
-    enum-known-after
+    (λ c. search needs)
     mul-count
     mul-count-2
-    check-samples-requires
-    enum-known-fault-3
+    (λ c κs. search needs)
+    (λ c. search needs)
     returns-4
-    enum-known-after-2
+    (λ c. search needs)
     check-lines-requires
-    enum-known-fault-4
-    enum-known-lines
+    (λ c. search needs)
+    (λ c. search needs)
     sub-t31
-    check-end-requires
+    (λ c κs. search needs)
     returns-5
     returns-6)

@@ -59,15 +59,6 @@ sub-fill-zero c = whole c
 part-fill-zero-start : tie.Need-part-fill-zero-start
 part-fill-zero-start c = whole c
 
-part-fill-zero-end : tie.Need-part-fill-zero-end
-part-fill-zero-end c = search needs
-
-fill-zero-requires : tie.Need-fill-zero-requires
-fill-zero-requires c κs = search needs
-
-same-length : tie.Need-same-length
-same-length c = search needs
-
 returns : tie.Need-returns
 returns c =
     let g = c .before .before .before .before .before .before .before .before .before .before .args in
@@ -100,7 +91,7 @@ fill-distances-spec =
     find-distances-requires
     sub-fill-zero
     part-fill-zero-start
-    part-fill-zero-end
-    fill-zero-requires
-    same-length
+    (λ c. search needs)
+    (λ c κs. search needs)
+    (λ c. search needs)
     returns)

@@ -20,24 +20,12 @@ Inv-loop table₀ count i₀ table i =
 abbrev μ-loop : tie.MeasureT-loop
 μ-loop table₀ count i₀ table i = count - i
 
-number-count-requires : tie.Need-number-count-requires Inv-loop μ-loop
-number-count-requires c κs = search needs
-
-loop-holds : tie.Need-loop-holds Inv-loop μ-loop
-loop-holds c = search needs
-
 put-number-requires : tie.Need-put-number-requires Inv-loop μ-loop
 put-number-requires c κs =
     let t₀ = c .before .before .before .before .before .before .args .table .now in
     let h = c .before .before .loop in
     let l : h .i < length (numbersOf (wordsOf (h .table))) = omega (arith, same-count (h .table) t₀ (h .inv .1), c .before .before .before .number-count .ensures) in
     l
-
-add-i : tie.Need-add-i Inv-loop μ-loop
-add-i c = search needs
-
-loop-less : tie.Need-loop-less Inv-loop μ-loop
-loop-less c = search needs
 
 loop-again : tie.Need-loop-again Inv-loop μ-loop
 loop-again c =
@@ -49,9 +37,6 @@ loop-again c =
       p .ensures .0 ∙ ap (λ (t : List ℕ). set t (h .i) (2 ^ 64 - 1)) (h .inv .2)
           ∙ fill-more (h .i) (2 ^ 64 - 1) (numbersOf (wordsOf t₀)) (omega (arith, c .before .before .before .before .before .before .number-count .ensures)),
     )
-
-same-length : tie.Need-same-length Inv-loop μ-loop
-same-length c = search needs
 
 returns : tie.Need-returns Inv-loop μ-loop
 returns c =
@@ -66,11 +51,11 @@ fill-none-spec =
     (tie.spec
     Inv-loop
     μ-loop
-    number-count-requires
-    loop-holds
+    (λ c κs. search needs)
+    (λ c. search needs)
     put-number-requires
-    add-i
-    loop-less
+    (λ c. search needs)
+    (λ c. search needs)
     loop-again
-    same-length
+    (λ c. search needs)
     returns)

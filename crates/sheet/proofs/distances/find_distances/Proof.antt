@@ -12,19 +12,10 @@ use borrow.Author.Needs.{needs}
 use Rattle.sheet.proofs.distances.find_distances.Statement.{statement}
 use Rattle.sheet.proofs.distances.find_distances.Tie as tie
 
-start-requires : tie.Need-start-requires
-start-requires c κs = search needs
-
-put-roads-requires : tie.Need-put-roads-requires
-put-roads-requires c κs = search needs
-
 relax-all-requires : tie.Need-relax-all-requires
 relax-all-requires c κs =
     let g = c .before .before .before .before .before .before .before .before .before .before .before .args in
     ap length (c .before .before .before .put-roads .ensures) ∙ length-stage (weightAmong (wordsOf (g .s .now)) (g .roads)) (g .places) 0
-
-same-length : tie.Need-same-length
-same-length c = search needs
 
 returns : tie.Need-returns
 returns c =
@@ -39,4 +30,4 @@ returns c =
 
 pub find-distances-spec : {M : Type 1} → statement M
 find-distances-spec =
-    tie.close (tie.spec start-requires put-roads-requires relax-all-requires same-length returns)
+    tie.close (tie.spec (λ c κs. search needs) (λ c κs. search needs) relax-all-requires (λ c. search needs) returns)

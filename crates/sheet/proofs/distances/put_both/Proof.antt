@@ -45,9 +45,6 @@ put-number-requires-2 c κs =
     let l : g .b * g .n + g .a < length (numbersOf (wordsOf (p .last .0))) = omega (arith, back o, same-count (p .last .0) (g .table .now) (p .kept .0)) in
     l
 
-same-length : tie.Need-same-length
-same-length c = search needs
-
 returns : tie.Need-returns
 returns c =
     let g = c .before .before .before .before .before .before .before .before .before .args in
@@ -64,5 +61,5 @@ put-both-spec =
     mul-put-number-2
     add-put-number-2
     put-number-requires-2
-    same-length
+    (λ c. search needs)
     returns)

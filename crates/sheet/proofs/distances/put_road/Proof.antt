@@ -28,12 +28,6 @@ to c = c .second-place .ensures ∙ ap secondPlace (c .before .before .road-word
 road-word-requires : tie.Need-road-word-requires
 road-word-requires c κs = kind-inside (wordsOf (c .before .before .args .s .now)) 2 (roadAt (c .before .before .args .r)) (c .before .before .pre .0 .road)
 
-first-place-requires : tie.Need-first-place-requires
-first-place-requires c κs = search needs
-
-second-place-requires : tie.Need-second-place-requires
-second-place-requires c κs = search needs
-
 weight-requires : tie.Need-weight-requires
 weight-requires c κs =
     let g = c .before .before .before .before .before .args in
@@ -49,9 +43,6 @@ put-both-requires c κs =
     let e : length t ≡ g .n * g .n = ap length (h .1) ∙ length-stage (weightAmong (wordsOf (g .s .now)) (g .r)) (g .n) 0 in
     (omega (arith, h .0 .order, h .0 .inside), omega (arith, h .0 .inside), e)
 
-same-length : tie.Need-same-length
-same-length c = search needs
-
 returns : tie.Need-returns
 returns c =
     let read = c .before .before .before .before in
@@ -66,9 +57,9 @@ put-road-spec =
     tie.close
     (tie.spec
     road-word-requires
-    first-place-requires
-    second-place-requires
+    (λ c κs. search needs)
+    (λ c κs. search needs)
     weight-requires
     put-both-requires
-    same-length
+    (λ c. search needs)
     returns)

@@ -27,20 +27,11 @@ put-road-requires c κs =
     let h = c .before .before .loop in
     (c .before .before .before .before .before .pre .0 (h .r) (c .before .loop-test .taken), h .inv .2)
 
-add-r : tie.Need-add-r Inv-loop μ-loop
-add-r c = search needs
-
-loop-less : tie.Need-loop-less Inv-loop μ-loop
-loop-less c = search needs
-
 loop-again : tie.Need-loop-again Inv-loop μ-loop
 loop-again c =
     let h = c .before .before .before .before .before .loop in
     let p = c .before .before .put-road in
     (omega arith, p .kept .1 .1 .1 .0 ∙ h .inv .1, p .ensures)
-
-same-length : tie.Need-same-length Inv-loop μ-loop
-same-length c = search needs
 
 returns : tie.Need-returns Inv-loop μ-loop
 returns c =
@@ -57,8 +48,8 @@ put-roads-spec =
     μ-loop
     loop-holds
     put-road-requires
-    add-r
-    loop-less
+    (λ c. search needs)
+    (λ c. search needs)
     loop-again
-    same-length
+    (λ c. search needs)
     returns)

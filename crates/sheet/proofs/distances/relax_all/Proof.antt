@@ -27,20 +27,11 @@ relax-through-requires c κs =
     let h = c .before .before .loop in
     (c .before .loop-test .taken, same-count (h .table) (c .before .before .before .before .args .table .now) (h .inv .1) ∙ c .before .before .before .before .pre)
 
-add-k : tie.Need-add-k Inv-loop μ-loop
-add-k c = search needs
-
-loop-less : tie.Need-loop-less Inv-loop μ-loop
-loop-less c = search needs
-
 loop-again : tie.Need-loop-again Inv-loop μ-loop
 loop-again c =
     let h = c .before .before .before .before .before .loop in
     let l = c .before .before .relax-through in
     (omega arith, l .kept .1 .1 .0 ∙ h .inv .1, λ w e. l .ensures w (h .inv .2 w e))
-
-same-length : tie.Need-same-length Inv-loop μ-loop
-same-length c = search needs
 
 returns : tie.Need-returns Inv-loop μ-loop
 returns c =
@@ -56,8 +47,8 @@ relax-all-spec =
     μ-loop
     loop-holds
     relax-through-requires
-    add-k
-    loop-less
+    (λ c. search needs)
+    (λ c. search needs)
     loop-again
-    same-length
+    (λ c. search needs)
     returns)

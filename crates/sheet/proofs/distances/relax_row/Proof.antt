@@ -64,12 +64,6 @@ relax-requires c κs =
     let to : g .a * g .n + h .b < length (numbersOf (wordsOf (h .table))) = omega (arith, in-table (p .1) (c .before .loop-test .taken)) in
     (from, to)
 
-add-b : tie.Need-add-b Inv-loop μ-loop
-add-b c = search needs
-
-loop-less : tie.Need-loop-less Inv-loop μ-loop
-loop-less c = search needs
-
 loop-again : tie.Need-loop-again Inv-loop μ-loop
 loop-again c =
     let g = c .before .before .before .before .before .before .before .before .before .args in
@@ -88,9 +82,6 @@ loop-again c =
           ∙ relaxing-more w (g .n) (g .k) (g .a) (h .b) (x .result) (numbersOf (wordsOf (h .table))) (p .1) taken (p .0) q (h .inv .2 w e)
           ∙ ap (relaxing w (g .n) (g .k)) z,
     )
-
-same-length : tie.Need-same-length Inv-loop μ-loop
-same-length c = search needs
 
 returns : tie.Need-returns Inv-loop μ-loop
 returns c =
@@ -113,8 +104,8 @@ relax-row-spec =
     add-relax
     add-relax-2
     relax-requires
-    add-b
-    loop-less
+    (λ c. search needs)
+    (λ c. search needs)
     loop-again
-    same-length
+    (λ c. search needs)
     returns)

@@ -33,12 +33,6 @@ relax-row-requires c κs =
     let h = c .before .before .loop in
     (p .0, c .before .loop-test .taken, same-count (h .table) (c .before .before .before .before .args .table .now) (h .inv .1) ∙ p .1)
 
-add-a : tie.Need-add-a Inv-loop μ-loop
-add-a c = search needs
-
-loop-less : tie.Need-loop-less Inv-loop μ-loop
-loop-less c = search needs
-
 loop-again : tie.Need-loop-again Inv-loop μ-loop
 loop-again c =
     let g = c .before .before .before .before .before .before .before .args in
@@ -46,9 +40,6 @@ loop-again c =
     let r = c .before .before .relax-row in
     let z : h .a * g .n + g .n ≡ (h .a + 1) * g .n = omega arith in
     (omega arith, r .kept .1 .1 .1 .0 ∙ h .inv .1, λ w e. r .ensures w (h .inv .2 w e) ∙ ap (relaxing w (g .n) (g .k)) z)
-
-same-length : tie.Need-same-length Inv-loop μ-loop
-same-length c = search needs
 
 returns : tie.Need-returns Inv-loop μ-loop
 returns c =
@@ -66,8 +57,8 @@ relax-through-spec =
     μ-loop
     loop-holds
     relax-row-requires
-    add-a
-    loop-less
+    (λ c. search needs)
+    (λ c. search needs)
     loop-again
-    same-length
+    (λ c. search needs)
     returns)

@@ -28,9 +28,6 @@ inside c =
     let f = c .before .before .before .before .before .fill-none in
     omega (arith, in-table (c .before .loop-test .taken) (c .before .loop-test .taken), same-count (h .table) t (h .inv .1 ∙ f .kept .0))
 
-fill-none-requires : tie.Need-fill-none-requires Inv-loop μ-loop
-fill-none-requires c κs = search needs
-
 loop-holds : tie.Need-loop-holds Inv-loop μ-loop
 loop-holds c =
     let g = c .before .before .before .before .before .args in
@@ -46,12 +43,6 @@ add-put-number c = omega (arith, inside c, length-numbers (c .before .before .lo
 put-number-requires : tie.Need-put-number-requires Inv-loop μ-loop
 put-number-requires c κs = inside c
 
-add-a : tie.Need-add-a Inv-loop μ-loop
-add-a c = search needs
-
-loop-less : tie.Need-loop-less Inv-loop μ-loop
-loop-less c = search needs
-
 loop-again : tie.Need-loop-again Inv-loop μ-loop
 loop-again c =
     let h = c .before .before .before .before .before .loop in
@@ -61,9 +52,6 @@ loop-again c =
       p .kept .0 ∙ h .inv .1,
       p .ensures .0 ∙ ap (λ (t : List ℕ). set t (h .a * n + h .a) 0) (h .inv .2) ∙ begun-more n (h .a) (c .before .before .before .before .loop-test .taken),
     )
-
-same-length : tie.Need-same-length Inv-loop μ-loop
-same-length c = search needs
 
 returns : tie.Need-returns Inv-loop μ-loop
 returns c =
@@ -78,13 +66,13 @@ start-spec =
     (tie.spec
     Inv-loop
     μ-loop
-    fill-none-requires
+    (λ c κs. search needs)
     loop-holds
     mul-put-number
     add-put-number
     put-number-requires
-    add-a
-    loop-less
+    (λ c. search needs)
+    (λ c. search needs)
     loop-again
-    same-length
+    (λ c. search needs)
     returns)

@@ -10,18 +10,6 @@ use borrow.Author.Needs.{needs}
 use Rattle.sheet.proofs.line.decode_line.Statement.{statement}
 use Rattle.sheet.proofs.line.decode_line.Tie as tie
 
-decode-operator-requires : tie.Need-decode-operator-requires
-decode-operator-requires c κs = search needs
-
-enum-known-fault : tie.Need-enum-known-fault
-enum-known-fault c = search needs
-
-enum-known-operator : tie.Need-enum-known-operator
-enum-known-operator c = search needs
-
-length-of-requires : tie.Need-length-of-requires
-length-of-requires c κs = search needs
-
 returns : tie.Need-returns
 unfolding lineAt
 returns c =
@@ -44,10 +32,10 @@ pub decode-line-spec : {M : Type 1} → statement M
 decode-line-spec =
     tie.close
     (tie.spec
-    decode-operator-requires
-    enum-known-fault
-    enum-known-operator
-    length-of-requires
+    (λ c κs. search needs)
+    (λ c. search needs)
+    (λ c. search needs)
+    (λ c κs. search needs)
     returns
     returns-2
     returns-3)

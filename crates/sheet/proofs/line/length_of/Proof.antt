@@ -10,99 +10,9 @@ use borrow.Author.Needs.{needs}
 use Rattle.sheet.proofs.line.length_of.Statement.{statement}
 use Rattle.sheet.proofs.line.length_of.Tie as tie
 
-enum-told : tie.Need-enum-told
-enum-told c = search needs
-
-cast-result : tie.Need-cast-result
-cast-result c = search needs
-
-enum-told-2 : tie.Need-enum-told-2
-enum-told-2 c = search needs
-
-cast-result-2 : tie.Need-cast-result-2
-cast-result-2 c = search needs
-
-enum-told-3 : tie.Need-enum-told-3
-enum-told-3 c = search needs
-
-cast-result-3 : tie.Need-cast-result-3
-cast-result-3 c = search needs
-
-enum-known-operator : tie.Need-enum-known-operator
-enum-known-operator c = search needs
-
-operand-length-requires : tie.Need-operand-length-requires
-operand-length-requires c κs = search needs
-
-enum-known-operator-2 : tie.Need-enum-known-operator-2
-enum-known-operator-2 c = search needs
-
-lesser-length-requires : tie.Need-lesser-length-requires
-lesser-length-requires c κs = search needs
-
-enum-known-operator-3 : tie.Need-enum-known-operator-3
-enum-known-operator-3 c = search needs
-
-lesser-length-requires-2 : tie.Need-lesser-length-requires-2
-lesser-length-requires-2 c κs = search needs
-
-shortened-requires : tie.Need-shortened-requires
-shortened-requires c κs = search needs
-
-enum-known-operator-4 : tie.Need-enum-known-operator-4
-enum-known-operator-4 c = search needs
-
-operand-length-requires-2 : tie.Need-operand-length-requires-2
-operand-length-requires-2 c κs = search needs
-
-enum-known-operator-5 : tie.Need-enum-known-operator-5
-enum-known-operator-5 c = search needs
-
-lesser-length-requires-3 : tie.Need-lesser-length-requires-3
-lesser-length-requires-3 c κs = search needs
-
-enum-known-operator-6 : tie.Need-enum-known-operator-6
-enum-known-operator-6 c = search needs
-
-lesser-length-requires-4 : tie.Need-lesser-length-requires-4
-lesser-length-requires-4 c κs = search needs
-
-enum-known-operator-7 : tie.Need-enum-known-operator-7
-enum-known-operator-7 c = search needs
-
-operand-length-requires-3 : tie.Need-operand-length-requires-3
-operand-length-requires-3 c κs = search needs
-
-shortened-requires-2 : tie.Need-shortened-requires-2
-shortened-requires-2 c κs = search needs
-
-enum-known-operator-8 : tie.Need-enum-known-operator-8
-enum-known-operator-8 c = search needs
-
-operand-length-requires-4 : tie.Need-operand-length-requires-4
-operand-length-requires-4 c κs = search needs
-
-shortened-requires-3 : tie.Need-shortened-requires-3
-shortened-requires-3 c κs = search needs
-
-enum-known-operator-9 : tie.Need-enum-known-operator-9
-enum-known-operator-9 c = search needs
-
-operand-length-requires-5 : tie.Need-operand-length-requires-5
-operand-length-requires-5 c κs = search needs
-
 by-operator : (T : ℕ) (lengths : List ℕ) {o met : Operator} → o ≡ met
     → lengthOf T (λ i. getD lengths i 0) (operatorSaid met) ≡ lengthOf T (λ i. getD lengths i 0) (operatorSaid o)
 by-operator T lengths e = sym (ap (λ (o : Operator). lengthOf T (λ i. getD lengths i 0) (operatorSaid o)) e)
-
-returns : tie.Need-returns
-returns c = search needs
-
-returns-2 : tie.Need-returns-2
-returns-2 c = search needs
-
-returns-3 : tie.Need-returns-3
-returns-3 c = search needs
 
 returns-4 : tie.Need-returns-4
 returns-4 c =
@@ -156,36 +66,36 @@ pub length-of-spec : {M : Type 1} → statement M
 length-of-spec =
     tie.close
     (tie.spec
-    enum-told
-    cast-result
-    enum-told-2
-    cast-result-2
-    enum-told-3
-    cast-result-3
-    enum-known-operator
-    operand-length-requires
-    enum-known-operator-2
-    lesser-length-requires
-    enum-known-operator-3
-    lesser-length-requires-2
-    shortened-requires
-    enum-known-operator-4
-    operand-length-requires-2
-    enum-known-operator-5
-    lesser-length-requires-3
-    enum-known-operator-6
-    lesser-length-requires-4
-    enum-known-operator-7
-    operand-length-requires-3
-    shortened-requires-2
-    enum-known-operator-8
-    operand-length-requires-4
-    shortened-requires-3
-    enum-known-operator-9
-    operand-length-requires-5
-    returns
-    returns-2
-    returns-3
+    (λ c. search needs)
+    (λ c. search needs)
+    (λ c. search needs)
+    (λ c. search needs)
+    (λ c. search needs)
+    (λ c. search needs)
+    (λ c. search needs)
+    (λ c κs. search needs)
+    (λ c. search needs)
+    (λ c κs. search needs)
+    (λ c. search needs)
+    (λ c κs. search needs)
+    (λ c κs. search needs)
+    (λ c. search needs)
+    (λ c κs. search needs)
+    (λ c. search needs)
+    (λ c κs. search needs)
+    (λ c. search needs)
+    (λ c κs. search needs)
+    (λ c. search needs)
+    (λ c κs. search needs)
+    (λ c κs. search needs)
+    (λ c. search needs)
+    (λ c κs. search needs)
+    (λ c κs. search needs)
+    (λ c. search needs)
+    (λ c κs. search needs)
+    (λ c. search needs)
+    (λ c. search needs)
+    (λ c. search needs)
     returns-4
     returns-5
     returns-6

@@ -14,9 +14,6 @@ use borrow.Author.Needs.{needs}
 use Rattle.sheet.proofs.operator.decode_atom.Statement.{statement}
 use Rattle.sheet.proofs.operator.decode_atom.Tie as tie
 
-fields-below-requires : tie.Need-fields-below-requires
-fields-below-requires c κs = search needs
-
 returns : tie.Need-returns
 unfolding atomRead
 returns c = simp (sym (c .before .fields-below .ensures) ∙ not-true _ (c .if1 .taken))
@@ -26,18 +23,6 @@ below c = sym (c .before .fields-below .ensures) ∙ not-false _ (c .if1 .left)
 
 add-read-constant : tie.Need-add-read-constant
 add-read-constant c = omega (arith, words-count (c .before .before .before .args .s .now))
-
-read-constant-requires : tie.Need-read-constant-requires
-read-constant-requires c κs = search needs
-
-enum-known-fault : tie.Need-enum-known-fault
-enum-known-fault c = search needs
-
-enum-known-constant : tie.Need-enum-known-constant
-enum-known-constant c = search needs
-
-operator-of-requires : tie.Need-operator-of-requires
-operator-of-requires c κs = search needs
 
 add-t16 : tie.Need-add-t16
 add-t16 c = omega (arith, words-count (c .before .before .before .before .before .before .before .before .args .s .now))
@@ -62,13 +47,13 @@ pub decode-atom-spec : {M : Type 1} → statement M
 decode-atom-spec =
     tie.close
     (tie.spec
-    fields-below-requires
+    (λ c κs. search needs)
     returns
     add-read-constant
-    read-constant-requires
-    enum-known-fault
-    enum-known-constant
-    operator-of-requires
+    (λ c κs. search needs)
+    (λ c. search needs)
+    (λ c. search needs)
+    (λ c κs. search needs)
     add-t16
     returns-2
     returns-3)

@@ -11,9 +11,6 @@ use borrow.Author.Needs.{needs}
 use Rattle.sheet.proofs.operator.decode_bounded.Statement.{statement}
 use Rattle.sheet.proofs.operator.decode_bounded.Tie as tie
 
-fields-below-requires : tie.Need-fields-below-requires
-fields-below-requires c κs = search needs
-
 returns : tie.Need-returns
 unfolding boundedRead
 returns c = simp (sym (c .before .fields-below .ensures) ∙ not-true _ (c .if1 .taken))
@@ -26,18 +23,6 @@ below c = sym (c .before .fields-below .ensures) ∙ not-false _ (c .if1 .left)
 
 add-read-bounds : tie.Need-add-read-bounds
 add-read-bounds c = omega (arith, words-count (c .before .before .before .args .s .now))
-
-read-bounds-requires : tie.Need-read-bounds-requires
-read-bounds-requires c κs = search needs
-
-enum-known-fault : tie.Need-enum-known-fault
-enum-known-fault c = search needs
-
-enum-known-bounds : tie.Need-enum-known-bounds
-enum-known-bounds c = search needs
-
-operator-of-requires : tie.Need-operator-of-requires
-operator-of-requires c κs = search needs
 
 add-t16 : tie.Need-add-t16
 add-t16 c = omega (arith, words-count (c .before .before .before .before .before .before .before .before .args .s .now))
@@ -57,13 +42,13 @@ pub decode-bounded-spec : {M : Type 1} → statement M
 decode-bounded-spec =
     tie.close
     (tie.spec
-    fields-below-requires
+    (λ c κs. search needs)
     returns
     add-read-bounds
-    read-bounds-requires
-    enum-known-fault
-    enum-known-bounds
-    operator-of-requires
+    (λ c κs. search needs)
+    (λ c. search needs)
+    (λ c. search needs)
+    (λ c κs. search needs)
     add-t16
     returns-2
     returns-3)

@@ -13,12 +13,6 @@ use borrow.Author.Needs.{needs}
 use Rattle.sheet.proofs.operator.decode_operator.Statement.{statement}
 use Rattle.sheet.proofs.operator.decode_operator.Tie as tie
 
-word-or-zero-requires : tie.Need-word-or-zero-requires
-word-or-zero-requires c κs = search needs
-
-fields-of-requires : tie.Need-fields-of-requires
-fields-of-requires c κs = search needs
-
 decode-plain-requires : tie.Need-decode-plain-requires
 decode-plain-requires c κs = omega (arith, words-count (c .before .before .before .before .args .s .now))
 
@@ -30,15 +24,6 @@ decode-plain-requires-3 c κs = let fits = words-count (c .before .before .befor
 
 decode-bounded-requires : tie.Need-decode-bounded-requires
 decode-bounded-requires c κs = let fits = words-count (c .before .before .before .before .args .s .now) in ⊎-elim (λ key. omega arith) (λ key. omega arith) (c .match .keys4)
-
-decode-bounded-requires-2 : tie.Need-decode-bounded-requires-2
-decode-bounded-requires-2 c κs = search needs
-
-decode-atom-requires : tie.Need-decode-atom-requires
-decode-atom-requires c κs = search needs
-
-decode-bounded-requires-3 : tie.Need-decode-bounded-requires-3
-decode-bounded-requires-3 c κs = search needs
 
 above-8 : {n : ℕ} → 3 ≤ n → (n ≡ 3 → ⊥) → ((n ≡ 4) ⊎ (n ≡ 8) → ⊥) → ((n ≡ 5) ⊎ (n ≡ 7) → ⊥) → (n ≡ 6 → ⊥) → 9 ≤ n
 above-8 {n} least not-3 not-4-8 not-5-7 not-6 =
@@ -109,15 +94,15 @@ pub decode-operator-spec : {M : Type 1} → statement M
 decode-operator-spec =
     tie.close
     (tie.spec
-    word-or-zero-requires
-    fields-of-requires
+    (λ c κs. search needs)
+    (λ c κs. search needs)
     decode-plain-requires
     decode-plain-requires-2
     decode-plain-requires-3
     decode-bounded-requires
-    decode-bounded-requires-2
-    decode-atom-requires
-    decode-bounded-requires-3
+    (λ c κs. search needs)
+    (λ c κs. search needs)
+    (λ c κs. search needs)
     returns
     returns-2
     returns-3

@@ -6,18 +6,9 @@ use borrow.Author.Needs.{needs}
 use Rattle.sheet.proofs.operator.decode_plain.Statement.{statement}
 use Rattle.sheet.proofs.operator.decode_plain.Tie as tie
 
-fields-below-requires : tie.Need-fields-below-requires
-fields-below-requires c κs = search needs
-
 returns : tie.Need-returns
 unfolding plainRead
 returns c = simp (sym (c .before .fields-below .ensures) ∙ not-true _ (c .if1 .taken))
-
-operator-of-requires : tie.Need-operator-of-requires
-operator-of-requires c κs = search needs
-
-add-t10 : tie.Need-add-t10
-add-t10 c = search needs
 
 returns-2 : tie.Need-returns-2
 unfolding plainRead
@@ -25,4 +16,4 @@ returns-2 c = rw (c .operator-of .ensures) (simp (sym (c .before .before .fields
 
 pub decode-plain-spec : {M : Type 1} → statement M
 decode-plain-spec =
-    tie.close (tie.spec fields-below-requires returns operator-of-requires add-t10 returns-2)
+    tie.close (tie.spec (λ c κs. search needs) returns (λ c κs. search needs) (λ c. search needs) returns-2)

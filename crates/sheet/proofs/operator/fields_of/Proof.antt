@@ -5,15 +5,9 @@ use Rattle.sheet.specs.Decoding.{fieldsOf}
 use Rattle.sheet.proofs.operator.fields_of.Statement.{statement}
 use Rattle.sheet.proofs.operator.fields_of.Tie as tie
 
-cast-t6 : tie.Need-cast-t6
-cast-t6 c = search needs
-
-cast-t8 : tie.Need-cast-t8
-cast-t8 c = search needs
-
 returns : tie.Need-returns
 unfolding fieldsOf
 returns c = simp div-one
 
 pub fields-of-spec : {M : Type 1} → statement M
-fields-of-spec = tie.close (tie.spec cast-t6 cast-t8 returns)
+fields-of-spec = tie.close (tie.spec (λ c. search needs) (λ c. search needs) returns)

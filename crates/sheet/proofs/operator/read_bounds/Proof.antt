@@ -11,9 +11,6 @@ use borrow.Author.Needs.{needs}
 use Rattle.sheet.proofs.operator.read_bounds.Statement.{statement}
 use Rattle.sheet.proofs.operator.read_bounds.Tie as tie
 
-is-kind-requires : tie.Need-is-kind-requires
-is-kind-requires c κs = search needs
-
 returns : tie.Need-returns
 unfolding boundsAt
 returns c = simp (sym (c .before .is-kind .ensures) ∙ not-true _ (c .if1 .taken))
@@ -24,27 +21,9 @@ kind-6 c = sym (c .before .is-kind .ensures) ∙ not-false _ (c .if1 .left)
 add-next : tie.Need-add-next
 add-next c = omega (arith, words-count (c .before .before .before .args .s .now))
 
-is-kind-requires-2 : tie.Need-is-kind-requires-2
-is-kind-requires-2 c κs = search needs
-
 returns-2 : tie.Need-returns-2
 unfolding boundsAt
 returns-2 c = simp (kind-6 (c .before .before), sym (c .before .is-kind2 .ensures) ∙ not-true _ (c .if2 .taken))
-
-word-or-zero-requires : tie.Need-word-or-zero-requires
-word-or-zero-requires c κs = search needs
-
-payload-requires : tie.Need-payload-requires
-payload-requires c κs = search needs
-
-word-or-zero-requires-2 : tie.Need-word-or-zero-requires-2
-word-or-zero-requires-2 c κs = search needs
-
-payload-requires-2 : tie.Need-payload-requires-2
-payload-requires-2 c κs = search needs
-
-ordered-bounds-requires : tie.Need-ordered-bounds-requires
-ordered-bounds-requires c κs = search needs
 
 returns-3 : tie.Need-returns-3
 unfolding boundsAt
@@ -64,14 +43,14 @@ pub read-bounds-spec : {M : Type 1} → statement M
 read-bounds-spec =
     tie.close
     (tie.spec
-    is-kind-requires
+    (λ c κs. search needs)
     returns
     add-next
-    is-kind-requires-2
+    (λ c κs. search needs)
     returns-2
-    word-or-zero-requires
-    payload-requires
-    word-or-zero-requires-2
-    payload-requires-2
-    ordered-bounds-requires
+    (λ c κs. search needs)
+    (λ c κs. search needs)
+    (λ c κs. search needs)
+    (λ c κs. search needs)
+    (λ c κs. search needs)
     returns-3)

@@ -13,9 +13,6 @@ use Rattle.sheet.specs.Lines.{constantAt}
 use Rattle.sheet.proofs.operator.read_constant.Statement.{statement}
 use Rattle.sheet.proofs.operator.read_constant.Tie as tie
 
-is-kind-requires : tie.Need-is-kind-requires
-is-kind-requires c κs = search needs
-
 returns : tie.Need-returns
 unfolding constantAt
 returns c = simp (sym (c .before .is-kind .ensures) ∙ not-true _ (c .if1 .taken))
@@ -23,18 +20,9 @@ returns c = simp (sym (c .before .is-kind .ensures) ∙ not-true _ (c .if1 .take
 kind-8 : (c : tie.Else1) → isKind 8 (wordsOf (c .before .before .before .args .s .now)) (c .before .before .before .args .at) ≡ true
 kind-8 c = sym (c .before .is-kind .ensures) ∙ not-false _ (c .if1 .left)
 
-spare-bit-zero-requires : tie.Need-spare-bit-zero-requires
-spare-bit-zero-requires c κs = search needs
-
 returns-2 : tie.Need-returns-2
 unfolding constantAt
 returns-2 c = simp (kind-8 (c .before .before), sym (c .before .spare-bit-zero .ensures) ∙ not-true _ (c .if2 .taken))
-
-word-or-zero-requires : tie.Need-word-or-zero-requires
-word-or-zero-requires c κs = search needs
-
-sample-requires : tie.Need-sample-requires
-sample-requires c κs = search needs
 
 returns-3 : tie.Need-returns-3
 unfolding constantAt
@@ -49,10 +37,10 @@ pub read-constant-spec : {M : Type 1} → statement M
 read-constant-spec =
     tie.close
     (tie.spec
-    is-kind-requires
+    (λ c κs. search needs)
     returns
-    spare-bit-zero-requires
+    (λ c κs. search needs)
     returns-2
-    word-or-zero-requires
-    sample-requires
+    (λ c κs. search needs)
+    (λ c κs. search needs)
     returns-3)

@@ -11,11 +11,8 @@ use Rattle.sheet.proofs.road.road_word.Tie as tie
 road-at-requires : tie.Need-road-at-requires
 road-at-requires c κs = omega (arith, words-count (c .before .args .s .now))
 
-word-at-requires : tie.Need-word-at-requires
-word-at-requires c κs = search needs
-
 returns : tie.Need-returns
 returns c = c .word-at .ensures ∙ ap (wordAt (wordsOf (c .before .before .before .args .s .now))) (c .before .road-at .ensures)
 
 pub road-word-spec : {M : Type 1} → statement M
-road-word-spec = tie.close (tie.spec road-at-requires word-at-requires returns)
+road-word-spec = tie.close (tie.spec road-at-requires (λ c κs. search needs) returns)

@@ -16,15 +16,6 @@ road-at-requires c κs = omega (arith, words-count (c .before .args .s .now))
 add-word-at : tie.Need-add-word-at
 add-word-at c = omega (arith, words-count (c .before .before .args .s .now))
 
-word-at-requires : tie.Need-word-at-requires
-word-at-requires c κs = search needs
-
-payload-requires : tie.Need-payload-requires
-payload-requires c κs = search needs
-
-cast-result : tie.Need-cast-result
-cast-result c = search needs
-
 returns : tie.Need-returns
 returns c =
     let sheet = wordsOf (c .before .before .before .before .args .s .now) in
@@ -33,4 +24,4 @@ returns c =
 pub weight-spec : {M : Type 1} → statement M
 weight-spec =
     tie.close
-    (tie.spec road-at-requires add-word-at word-at-requires payload-requires cast-result returns)
+    (tie.spec road-at-requires add-word-at (λ c κs. search needs) (λ c κs. search needs) (λ c. search needs) returns)

@@ -13,21 +13,9 @@ use borrow.Author.Needs.{needs}
 use Rattle.sheet.proofs.stages.check_head.Statement.{statement}
 use Rattle.sheet.proofs.stages.check_head.Tie as tie
 
-is-kind-requires : tie.Need-is-kind-requires
-is-kind-requires c κs = search needs
-
 returns : tie.Need-returns
 unfolding headChecked
 returns c = simp (sym (c .before .is-kind .ensures) ∙ not-true _ (c .if1 .taken))
-
-word-or-zero-requires : tie.Need-word-or-zero-requires
-word-or-zero-requires c κs = search needs
-
-sizes-of-requires : tie.Need-sizes-of-requires
-sizes-of-requires c κs = search needs
-
-within-requires : tie.Need-within-requires
-within-requires c κs = search needs
 
 -- ---- the kind has passed: what is left are the limits
 
@@ -52,9 +40,6 @@ returns-2 c =
     let none = sym (c .before .within .ensures) ∙ not-true _ (c .if2 .taken) in
     sym (limits-next (c .before .before) ∙ simp none)
 
-within-requires-2 : tie.Need-within-requires-2
-within-requires-2 c κs = search needs
-
 places-within : (c : tie.Else2) → between 1 mostPlaces (sizes (c .before .before) .places) ≡ true
 places-within c = sym (c .before .within .ensures) ∙ not-false _ (c .if2 .left)
 
@@ -62,9 +47,6 @@ returns-3 : tie.Need-returns-3
 returns-3 c =
     let none = sym (c .before .within2 .ensures) ∙ not-true _ (c .if3 .taken) in
     sym (limits-next (c .before .before .before .before) ∙ simp (places-within (c .before .before), none))
-
-within-requires-3 : tie.Need-within-requires-3
-within-requires-3 c κs = search needs
 
 signals-within : (c : tie.Else3) → between 1 mostSignals (sizes (c .before .before .before .before) .signals) ≡ true
 signals-within c = sym (c .before .within2 .ensures) ∙ not-false _ (c .if3 .left)
@@ -85,14 +67,14 @@ pub check-head-spec : {M : Type 1} → statement M
 check-head-spec =
     tie.close
     (tie.spec
-    is-kind-requires
+    (λ c κs. search needs)
     returns
-    word-or-zero-requires
-    sizes-of-requires
-    within-requires
+    (λ c κs. search needs)
+    (λ c κs. search needs)
+    (λ c κs. search needs)
     returns-2
-    within-requires-2
+    (λ c κs. search needs)
     returns-3
-    within-requires-3
+    (λ c κs. search needs)
     returns-4
     returns-5)

@@ -26,9 +26,6 @@ loop-holds c =
     let g = c .before .args in
     lines-start (wordsOf (g .s .now)) (g .signals) (g .samples) (g .start)
 
-is-kind-requires : tie.Need-is-kind-requires Inv-loop μ-loop
-is-kind-requires c κs = search needs
-
 abbrev sheet : tie.Then1 Inv-loop μ-loop → List ℕ
 sheet c = wordsOf (c .before .before .before .before .args .s .now)
 
@@ -52,9 +49,6 @@ decode-line-requires c κs =
     let turn = c .before .before in
     (kind-told 5 (sheet turn) (index turn) (kind-5 turn) .0, c .before .before .before .before .before .before .pre)
 
-enum-known-fault : tie.Need-enum-known-fault Inv-loop μ-loop
-enum-known-fault c = search needs
-
 returns-2 : tie.Need-returns-2 Inv-loop μ-loop
 returns-2 c =
     let g = c .before .before .before .before .before .before .before .before .before .before .args in
@@ -62,9 +56,6 @@ returns-2 c =
     let read = sym (c .before .before .before .decode-line .ensures) ∙ ap decodedSaid (c .before .fault .given .1) in
     let room = c .before .before .before .before .before in
     sym (ap (mapped lineCount) (line-refused (wordsOf (g .s .now)) (g .signals) (g .samples) (g .start) (l .inv) (kind-5 (room .before)) (room .if2 .left) read))
-
-enum-known-line : tie.Need-enum-known-line Inv-loop μ-loop
-enum-known-line c = search needs
 
 below : (c : tie.After-known-told2 Inv-loop μ-loop) → c .before .before .before .before .before .before .before .before .loop .lines < mostLines
 below c = let bounded = c .before .before .before .before .before .before .before .before .loop .inv .bounded in let more = c .before .before .before .before .before .if2 .left in omega arith
@@ -112,13 +103,13 @@ check-lines-spec =
     Inv-loop
     μ-loop
     loop-holds
-    is-kind-requires
+    (λ c κs. search needs)
     returns
     slice-aggregate-decode-line
     decode-line-requires
-    enum-known-fault
+    (λ c. search needs)
     returns-2
-    enum-known-line
+    (λ c. search needs)
     mul-lengths
     array-write-lengths
     add-lines

@@ -15,18 +15,9 @@ use borrow.Author.Needs.{needs}
 use Rattle.sheet.proofs.stages.check_road.Statement.{statement}
 use Rattle.sheet.proofs.stages.check_road.Tie as tie
 
-word-or-zero-requires : tie.Need-word-or-zero-requires
-word-or-zero-requires c κs = search needs
-
 returns : tie.Need-returns
 unfolding roadChecked
 returns c = simp (← c .before .word-or-zero .ensures, ne-eqb _ 0 (c .if1 .taken))
-
-second-place-requires : tie.Need-second-place-requires
-second-place-requires c κs = search needs
-
-first-place-requires : tie.Need-first-place-requires
-first-place-requires c κs = search needs
 
 -- the places as they were read, where the spare bits have passed
 module _ (c : tie.After-first-place) where
@@ -53,12 +44,6 @@ unfolding roadChecked
 returns-3 c =
     let p = c .before .before in
     simp (← p .before .before .before .word-or-zero .ensures, spare-zero p, first-read p, second-read p, lt-ltb _ _ (c .before .if2 .left), le-ltb _ _ (c .if3 .taken))
-
-payload-requires : tie.Need-payload-requires
-payload-requires c κs = search needs
-
-cast-payload : tie.Need-cast-payload
-cast-payload c = search needs
 
 -- ---- the places have passed: what is left is the order, and the weight
 
@@ -101,9 +86,6 @@ returns-4 c = sym (order-next (c .before) ∙ simp (le-ltb _ _ (c .if4 .taken)))
 add-next : tie.Need-add-next
 add-next c = omega (arith, words-count (bytes (c .before)))
 
-is-kind-requires : tie.Need-is-kind-requires
-is-kind-requires c κs = search needs
-
 -- ---- the order has passed
 
 weight-next : (c : tie.Else4) → roadChecked (sheet (c .before)) (places (c .before)) (index (c .before)) (last (c .before)) ≡ weighed (c .before)
@@ -113,12 +95,6 @@ returns-5 : tie.Need-returns-5
 returns-5 c =
     let other = sym (c .before .is-kind .ensures) ∙ not-true _ (c .if5 .taken) in
     sym (weight-next (c .before .before) ∙ simp other)
-
-word-or-zero-requires-2 : tie.Need-word-or-zero-requires-2
-word-or-zero-requires-2 c κs = search needs
-
-payload-requires-2 : tie.Need-payload-requires-2
-payload-requires-2 c κs = search needs
 
 -- ---- the weight's word is there: what is left is that it is not 0
 
@@ -142,19 +118,19 @@ pub check-road-spec : {M : Type 1} → statement M
 check-road-spec =
     tie.close
     (tie.spec
-    word-or-zero-requires
+    (λ c κs. search needs)
     returns
-    second-place-requires
-    first-place-requires
+    (λ c κs. search needs)
+    (λ c κs. search needs)
     returns-2
     returns-3
-    payload-requires
-    cast-payload
+    (λ c κs. search needs)
+    (λ c. search needs)
     returns-4
     add-next
-    is-kind-requires
+    (λ c κs. search needs)
     returns-5
-    word-or-zero-requires-2
-    payload-requires-2
+    (λ c κs. search needs)
+    (λ c κs. search needs)
     returns-6
     returns-7)

@@ -25,9 +25,6 @@ abbrev μ-loop : tie.MeasureT-loop
 loop-holds : tie.Need-loop-holds Inv-loop μ-loop
 loop-holds c = roads-start (wordsOf (c .before .args .s .now)) (c .before .args .places)
 
-is-kind-requires : tie.Need-is-kind-requires Inv-loop μ-loop
-is-kind-requires c κs = search needs
-
 -- ---- there is a road
 
 abbrev bytes : tie.Then1 Inv-loop μ-loop → List ℕ
@@ -48,17 +45,11 @@ kind-2 c = sym (c .before .is-kind .ensures) ∙ c .if1 .taken
 check-road-requires : tie.Need-check-road-requires Inv-loop μ-loop
 check-road-requires c κs = kind-told 2 (sheet c) (index c) (kind-2 c) .0
 
-enum-known-fault : tie.Need-enum-known-fault Inv-loop μ-loop
-enum-known-fault c = search needs
-
 returns : tie.Need-returns Inv-loop μ-loop
 returns c =
     let road = c .before .before .before .before in
     let read = sym (c .before .before .before .check-road .ensures) ∙ ap stageSaid (c .before .fault .given .1) in
     sym (road-refused (sheet road) (places road) (road .before .before .loop .inv) (kind-2 road) read)
-
-enum-known-payload : tie.Need-enum-known-payload Inv-loop μ-loop
-enum-known-payload c = search needs
 
 -- ---- the road has passed
 
@@ -95,11 +86,11 @@ check-roads-spec =
     Inv-loop
     μ-loop
     loop-holds
-    is-kind-requires
+    (λ c κs. search needs)
     check-road-requires
-    enum-known-fault
+    (λ c. search needs)
     returns
-    enum-known-payload
+    (λ c. search needs)
     add-at
     loop-less
     loop-again

@@ -26,12 +26,6 @@ abbrev μ-loop : tie.MeasureT-loop
 loop-holds : tie.Need-loop-holds Inv-loop μ-loop
 loop-holds c = refl
 
-is-kind-requires : tie.Need-is-kind-requires Inv-loop μ-loop
-is-kind-requires c κs = search needs
-
-spare-bit-zero-requires : tie.Need-spare-bit-zero-requires Inv-loop μ-loop
-spare-bit-zero-requires c κs = search needs
-
 -- ---- there is a sample to check
 
 abbrev bytes : tie.In-loop Inv-loop μ-loop → List ℕ
@@ -69,12 +63,6 @@ returns-2 c =
 add-at : tie.Need-add-at Inv-loop μ-loop
 add-at c = let there = kind-told 4 (sheet (to-turn (c .before))) (index (to-turn (c .before))) (kind-4 (c .before)) in omega (arith, words-count (bytes (to-turn (c .before))))
 
-sub-left : tie.Need-sub-left Inv-loop μ-loop
-sub-left c = search needs
-
-loop-less : tie.Need-loop-less Inv-loop μ-loop
-loop-less c = search needs
-
 loop-again : tie.Need-loop-again Inv-loop μ-loop
 loop-again c =
     let clear = sym (c .before .before .spare-bit-zero .ensures) ∙ not-false _ (c .if2 .left) in
@@ -94,12 +82,12 @@ check-samples-spec =
     Inv-loop
     μ-loop
     loop-holds
-    is-kind-requires
-    spare-bit-zero-requires
+    (λ c κs. search needs)
+    (λ c κs. search needs)
     returns
     returns-2
     add-at
-    sub-left
-    loop-less
+    (λ c. search needs)
+    (λ c. search needs)
     loop-again
     returns-3)

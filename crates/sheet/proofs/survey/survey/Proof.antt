@@ -13,24 +13,9 @@ use Rattle.sheet.proofs.Surveys.{accepting, refusing}
 use Rattle.sheet.proofs.survey.survey.Statement.{statement}
 use Rattle.sheet.proofs.survey.survey.Tie as tie
 
-number-count-requires : tie.Need-number-count-requires
-number-count-requires c κs = search needs
-
-check-sheet-requires : tie.Need-check-sheet-requires
-check-sheet-requires c κs = search needs
-
 -- the outcome of the check, by the room that was counted
 decided : (c : tie.After-check-sheet) → checkSaid (c .check-sheet .result) ≡ mapped layoutOf (checked (wordsOf (c .before .before .before .before .before .args .s .now)) (length (numbersOf (wordsOf (c .before .before .before .before .before .args .distances .now)))))
 decided c = c .check-sheet .ensures ∙ ap (λ (d : ℕ). mapped layoutOf (checked (wordsOf (c .before .before .before .before .before .args .s .now)) d)) (c .before .number-count .ensures)
-
-enum-known-fault : tie.Need-enum-known-fault
-enum-known-fault c = search needs
-
-fill-zero-requires : tie.Need-fill-zero-requires
-fill-zero-requires c κs = search needs
-
-enum-known-layout : tie.Need-enum-known-layout
-enum-known-layout c = search needs
 
 fill-distances-requires : tie.Need-fill-distances-requires
 fill-distances-requires c κs =
@@ -39,9 +24,6 @@ fill-distances-requires c κs =
     let layout = c .before .before .layout .given in
     let said = sym (ap checkSaid (layout .1)) ∙ decided check in
     accepting (wordsOf (g .s .now)) (length (numbersOf (wordsOf (g .distances .now)))) (layout .0 .0) (sym said) .roads
-
-same-length : tie.Need-same-length
-same-length c = search needs
 
 returns : tie.Need-returns
 returns c =
@@ -55,9 +37,6 @@ returns c =
     ∙ sym (refusing (wordsOf (g .s .now)) (length (numbersOf (wordsOf table))) (faultNumber (fault .0 .0)) (fault .0 .1 .0) (sym said)) in
     let tail = zero-numbers-tail table (fill .last .0) (length table) refl (fill .ensures) in
     (said, (left, tail))
-
-same-length-2 : tie.Need-same-length-2
-same-length-2 c = search needs
 
 returns-2 : tie.Need-returns-2
 returns-2 c =
@@ -75,13 +54,13 @@ pub survey-spec : {M : Type 1} → statement M
 survey-spec =
     tie.close
     (tie.spec
-    number-count-requires
-    check-sheet-requires
-    enum-known-fault
-    fill-zero-requires
-    enum-known-layout
+    (λ c κs. search needs)
+    (λ c κs. search needs)
+    (λ c. search needs)
+    (λ c κs. search needs)
+    (λ c. search needs)
     fill-distances-requires
-    same-length
+    (λ c. search needs)
     returns
-    same-length-2
+    (λ c. search needs)
     returns-2)

@@ -4,18 +4,6 @@ use borrow.Author.Needs.{needs}
 use Rattle.sheet.proofs.word.is_end.Statement.{statement}
 use Rattle.sheet.proofs.word.is_end.Tie as tie
 
-is-kind-requires : tie.Need-is-kind-requires
-is-kind-requires c κs = search needs
-
-word-or-zero-requires : tie.Need-word-or-zero-requires
-word-or-zero-requires c κs = search needs
-
-payload-requires : tie.Need-payload-requires
-payload-requires c κs = search needs
-
-cast-result : tie.Need-cast-result
-cast-result c = search needs
-
 returns : tie.Need-returns
 returns c = simp (sym (c .before .before .before .is-kind .ensures) ∙ c .before .before .if1 .taken, ← c .before .word-or-zero .ensures, ← c .payload .ensures)
 
@@ -23,4 +11,4 @@ returns-2 : tie.Need-returns-2
 returns-2 c = simp (sym (c .before .is-kind .ensures) ∙ c .if1 .left, c .if1 .left)
 
 pub is-end-spec : {M : Type 1} → statement M
-is-end-spec = tie.close (tie.spec is-kind-requires word-or-zero-requires payload-requires cast-result returns returns-2)
+is-end-spec = tie.close (tie.spec (λ c κs. search needs) (λ c κs. search needs) (λ c κs. search needs) (λ c. search needs) returns returns-2)

@@ -9,12 +9,6 @@ use borrow.Author.Needs.{needs}
 use Rattle.sheet.proofs.word.is_kind.Statement.{statement}
 use Rattle.sheet.proofs.word.is_kind.Tie as tie
 
-word-or-zero-requires : tie.Need-word-or-zero-requires
-word-or-zero-requires c κs = search needs
-
-kind-requires : tie.Need-kind-requires
-kind-requires c κs = search needs
-
 returns : tie.Need-returns
 returns c =
     let g = c .before .before .before .args in
@@ -22,4 +16,4 @@ returns c =
     ap (λ (k : ℕ). eqb k (g .kind)) read ∙ kind-read (wordsOf (g .s .now)) (g .at) (g .kind) (c .before .before .before .pre)
 
 pub is-kind-spec : {M : Type 1} → statement M
-is-kind-spec = tie.close (tie.spec word-or-zero-requires kind-requires returns)
+is-kind-spec = tie.close (tie.spec (λ c κs. search needs) (λ c κs. search needs) returns)

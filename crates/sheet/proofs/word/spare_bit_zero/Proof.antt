@@ -7,11 +7,8 @@ use borrow.Author.Needs.{needs}
 use Rattle.sheet.proofs.word.spare_bit_zero.Statement.{statement}
 use Rattle.sheet.proofs.word.spare_bit_zero.Tie as tie
 
-word-or-zero-requires : tie.Need-word-or-zero-requires
-word-or-zero-requires c κs = search needs
-
 returns : tie.Need-returns
 returns c = ap (λ (w : ℕ). eqb (bits 27 1 w) 0) (c .word-or-zero .ensures)
 
 pub spare-bit-zero-spec : {M : Type 1} → statement M
-spare-bit-zero-spec = tie.close (tie.spec word-or-zero-requires returns)
+spare-bit-zero-spec = tie.close (tie.spec (λ c κs. search needs) returns)

@@ -21,23 +21,11 @@ abbrev μ-loop : tie.MeasureT-loop
 loop-holds : tie.Need-loop-holds Inv-loop μ-loop
 loop-holds c = let g = c .before .before .before .args in (search needs, rows-none (λ v. v / g .unit) (g .old .now) (g .x .now))
 
-shared-slice-read-if1 : tie.Need-shared-slice-read-if1 Inv-loop μ-loop
-shared-slice-read-if1 c = search needs
-
-strip-changed-requires : tie.Need-strip-changed-requires Inv-loop μ-loop
-strip-changed-requires c κs = search needs
-
 returns : tie.Need-returns Inv-loop μ-loop
 returns c =
     let g = c .before .before .before .before .before .before .before .before .before .args in
     let s = c .before .strip-changed in
     rows-found (λ v. v / g .unit) (g .old .now) (g .x .now) (s .result) (c .before .before .before .before .before .loop .place) (length (g .inside .now)) (c .before .before .before .before .loop-test .taken) (c .if2 .taken) (s .ensures)
-
-add-place : tie.Need-add-place Inv-loop μ-loop
-add-place c = search needs
-
-loop-less : tie.Need-loop-less Inv-loop μ-loop
-loop-less c = search needs
 
 loop-again : tie.Need-loop-again Inv-loop μ-loop
 loop-again c =
@@ -67,10 +55,10 @@ changed-spec =
     Inv-loop
     μ-loop
     loop-holds
-    shared-slice-read-if1
-    strip-changed-requires
+    (λ c. search needs)
+    (λ c κs. search needs)
     returns
-    add-place
-    loop-less
+    (λ c. search needs)
+    (λ c. search needs)
     loop-again
     returns-2)

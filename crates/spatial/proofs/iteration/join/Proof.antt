@@ -19,21 +19,6 @@ abbrev μ-loop : tie.MeasureT-loop
 loop-holds : tie.Need-loop-holds Inv-loop μ-loop
 loop-holds c = (search needs, search needs, search needs, joining-none (c .before .before .before .before .before .pre .1))
 
-shared-slice-read-if1 : tie.Need-shared-slice-read-if1 Inv-loop μ-loop
-shared-slice-read-if1 c = search needs
-
-copy-strip-requires : tie.Need-copy-strip-requires Inv-loop μ-loop
-copy-strip-requires c κs = search needs
-
-greater-strip-requires : tie.Need-greater-strip-requires Inv-loop μ-loop
-greater-strip-requires c κs = search needs
-
-add-place : tie.Need-add-place Inv-loop μ-loop
-add-place c = search needs
-
-loop-less : tie.Need-loop-less Inv-loop μ-loop
-loop-less c = search needs
-
 loop-again : tie.Need-loop-again Inv-loop μ-loop
 loop-again c =
     let h = c .before .before .before .loop in
@@ -41,12 +26,6 @@ loop-again c =
     (λ w. rw (w .9, w .10) (search needs, w .2 .kept .1 .0 ∙ h .inv .1, w .6 .kept .1 .1 .0 ∙ h .inv .2, joining-inside (h .inv .3) (w .0 .taken) (w .2 .ensures) (w .6 .ensures)))
     (λ w. rw (w .1, w .2) (search needs, h .inv .1, h .inv .2, joining-outside (h .inv .3) (c .before .before .loop-test .taken) (w .0 .left)))
     (c .if1 .came)
-
-same-length : tie.Need-same-length Inv-loop μ-loop
-same-length c = search needs
-
-same-length-2 : tie.Need-same-length-2 Inv-loop μ-loop
-same-length-2 c = search needs
 
 returns : tie.Need-returns Inv-loop μ-loop
 returns c =
@@ -61,12 +40,12 @@ join-spec =
     Inv-loop
     μ-loop
     loop-holds
-    shared-slice-read-if1
-    copy-strip-requires
-    greater-strip-requires
-    add-place
-    loop-less
+    (λ c. search needs)
+    (λ c κs. search needs)
+    (λ c κs. search needs)
+    (λ c. search needs)
+    (λ c. search needs)
     loop-again
-    same-length
-    same-length-2
+    (λ c. search needs)
+    (λ c. search needs)
     returns)

@@ -6,21 +6,6 @@ use borrow.Author.Needs.{needs}
 use Rattle.spatial.proofs.iteration.pull_road.Statement.{statement}
 use Rattle.spatial.proofs.iteration.pull_road.Tie as tie
 
-shared-slice-read-if1 : tie.Need-shared-slice-read-if1
-shared-slice-read-if1 c = search needs
-
-shared-slice-read-if1-2 : tie.Need-shared-slice-read-if1-2
-shared-slice-read-if1-2 c = search needs
-
-pull-strip-requires : tie.Need-pull-strip-requires
-pull-strip-requires c κs = search needs
-
-pull-strip-requires-2 : tie.Need-pull-strip-requires-2
-pull-strip-requires-2 c κs = search needs
-
-same-length : tie.Need-same-length
-same-length c = search needs
-
 returns : tie.Need-returns
 returns c =
     let g = c .before .before .before .before .before .before .before .before .before .before .before .before .before .before .args in
@@ -37,10 +22,10 @@ pub pull-road-spec : {M : Type 1} → statement M
 pull-road-spec =
     tie.close
     (tie.spec
-    shared-slice-read-if1
-    shared-slice-read-if1-2
-    pull-strip-requires
-    pull-strip-requires-2
-    same-length
+    (λ c. search needs)
+    (λ c. search needs)
+    (λ c κs. search needs)
+    (λ c κs. search needs)
+    (λ c. search needs)
     returns
     returns-2)

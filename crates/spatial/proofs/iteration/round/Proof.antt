@@ -13,15 +13,6 @@ join-requires c κs = let p = c .before .before .before .before .before .before 
 step-requires : tie.Need-step-requires
 step-requires c κs = let p = c .before .before .before .before .before .before .before .before .before .before .before .before .before .before .before .before .pre in (p .0, p .3 .low, search needs, search needs)
 
-same-length : tie.Need-same-length
-same-length c = search needs
-
-same-length-2 : tie.Need-same-length-2
-same-length-2 c = search needs
-
-same-length-3 : tie.Need-same-length-3
-same-length-3 c = search needs
-
 returns : tie.Need-returns
 returns c =
     let g = c .before .before .before .before .before .before .before .before .before .before .before .before .before .before .before .before .before .before .before .args in
@@ -36,4 +27,4 @@ returns c =
 pub round-spec : {M : Type 1} → statement M
 round-spec =
     tie.close
-    (tie.spec join-requires step-requires same-length same-length-2 same-length-3 returns)
+    (tie.spec join-requires step-requires (λ c. search needs) (λ c. search needs) (λ c. search needs) returns)

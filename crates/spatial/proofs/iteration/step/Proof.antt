@@ -39,12 +39,6 @@ module _ (c : tie.After-second-place Inv-loop μ-loop) where
 road-word-requires : tie.Need-road-word-requires Inv-loop μ-loop
 road-word-requires c κs = c .before .before .before .before .before .before .pre .0 .there (c .before .loop .r) (c .loop-test .taken)
 
-first-place-requires : tie.Need-first-place-requires Inv-loop μ-loop
-first-place-requires c κs = search needs
-
-second-place-requires : tie.Need-second-place-requires Inv-loop μ-loop
-second-place-requires c κs = search needs
-
 pull-road-requires : tie.Need-pull-road-requires Inv-loop μ-loop
 pull-road-requires c κs =
     let read = c .before in
@@ -58,12 +52,6 @@ pull-road-requires c κs =
       search needs,
     )
 
-add-r : tie.Need-add-r Inv-loop μ-loop
-add-r c = search needs
-
-loop-less : tie.Need-loop-less Inv-loop μ-loop
-loop-less c = search needs
-
 loop-again : tie.Need-loop-again Inv-loop μ-loop
 loop-again c =
     let read = c .before .before .before .before in
@@ -73,9 +61,6 @@ loop-again c =
     let pulled : RoadPulled (firstPlace (road read)) (secondPlace (road read)) (g .both .now) (h .x) (c .before .before .pull-road .last .0) =
     rw (← first read, ← second read) (c .before .before .pull-road .ensures) in
     (search needs, c .before .before .pull-road .kept .0 ∙ h .inv .1, road-more (wordsOf (g .sheet .now)) (h .r) (g .both .now) (h .x) (c .before .before .pull-road .last .0) (start read .pre .0 .order (h .r) here) (g .x .now) pulled (h .inv .2))
-
-same-length : tie.Need-same-length Inv-loop μ-loop
-same-length c = search needs
 
 returns : tie.Need-returns Inv-loop μ-loop
 returns c =
@@ -92,11 +77,11 @@ step-spec =
     μ-loop
     loop-holds
     road-word-requires
-    first-place-requires
-    second-place-requires
+    (λ c κs. search needs)
+    (λ c κs. search needs)
     pull-road-requires
-    add-r
-    loop-less
+    (λ c. search needs)
+    (λ c. search needs)
     loop-again
-    same-length
+    (λ c. search needs)
     returns)

@@ -20,21 +20,6 @@ abbrev μ-loop : tie.MeasureT-loop
 loop-holds : tie.Need-loop-holds Inv-loop μ-loop
 loop-holds c = (search needs, search needs, search needs, low-none, low-none)
 
-shared-slice-read-if1 : tie.Need-shared-slice-read-if1 Inv-loop μ-loop
-shared-slice-read-if1 c = search needs
-
-clear-strip-requires : tie.Need-clear-strip-requires Inv-loop μ-loop
-clear-strip-requires c κs = search needs
-
-clear-strip-requires-2 : tie.Need-clear-strip-requires-2 Inv-loop μ-loop
-clear-strip-requires-2 c κs = search needs
-
-add-place : tie.Need-add-place Inv-loop μ-loop
-add-place c = search needs
-
-loop-less : tie.Need-loop-less Inv-loop μ-loop
-loop-less c = search needs
-
 loop-again : tie.Need-loop-again Inv-loop μ-loop
 loop-again c =
     let h = c .before .before .before .loop in
@@ -42,12 +27,6 @@ loop-again c =
     (λ w. rw (w .9, w .10) (search needs, w .2 .kept .0 ∙ h .inv .1, w .6 .kept .0 ∙ h .inv .2, low-more (w .2 .ensures) (λ _ _. refl) (h .inv .3), low-more (w .6 .ensures) (λ _ _. refl) (h .inv .4)))
     (λ w. rw (w .1, w .2) (search needs, h .inv .1, h .inv .2, low-inside (not-false _ (w .0 .left)) (h .inv .3), low-inside (not-false _ (w .0 .left)) (h .inv .4)))
     (c .if1 .came)
-
-same-length : tie.Need-same-length Inv-loop μ-loop
-same-length c = search needs
-
-same-length-2 : tie.Need-same-length-2 Inv-loop μ-loop
-same-length-2 c = search needs
 
 returns : tie.Need-returns Inv-loop μ-loop
 returns c =
@@ -62,12 +41,12 @@ clear-outside-spec =
     Inv-loop
     μ-loop
     loop-holds
-    shared-slice-read-if1
-    clear-strip-requires
-    clear-strip-requires-2
-    add-place
-    loop-less
+    (λ c. search needs)
+    (λ c κs. search needs)
+    (λ c κs. search needs)
+    (λ c. search needs)
+    (λ c. search needs)
     loop-again
-    same-length
-    same-length-2
+    (λ c. search needs)
+    (λ c. search needs)
     returns)

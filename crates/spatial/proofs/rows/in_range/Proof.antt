@@ -4,9 +4,6 @@ use borrow.Author.Needs.{needs}
 use Rattle.spatial.proofs.rows.in_range.Statement.{statement}
 use Rattle.spatial.proofs.rows.in_range.Tie as tie
 
-number-at-requires : tie.Need-number-at-requires
-number-at-requires c κs = search needs
-
 returns : tie.Need-returns
 returns c = simp (← c .before .number-at .ensures, lt-leb _ _ (c .if1 .taken))
 
@@ -14,4 +11,4 @@ returns-2 : tie.Need-returns-2
 returns-2 c = simp (← c .before .number-at .ensures, le-leb _ _ (c .if1 .left))
 
 pub in-range-spec : {M : Type 1} → statement M
-in-range-spec = tie.close (tie.spec number-at-requires returns returns-2)
+in-range-spec = tie.close (tie.spec (λ c κs. search needs) returns returns-2)

@@ -19,9 +19,6 @@ add-signal-at c = omega (arith, index c, words-count (c .before .before .args .w
 signal-at-requires : tie.Need-signal-at-requires
 signal-at-requires c κs = index c .1
 
-bottom-requires : tie.Need-bottom-requires
-bottom-requires c κs = search needs
-
 returns : tie.Need-returns
 returns c = simp (lt-ltb _ _ (c .before .if1 .taken)) (c .signal-at .ensures)
 
@@ -29,4 +26,4 @@ returns-2 : tie.Need-returns-2
 returns-2 c = simp (le-ltb _ _ (c .before .if1 .left)) (c .bottom .ensures)
 
 pub lane-signal-spec : {M : Type 1} → statement M
-lane-signal-spec = tie.close (tie.spec add-signal-at signal-at-requires bottom-requires returns returns-2)
+lane-signal-spec = tie.close (tie.spec add-signal-at signal-at-requires (λ c κs. search needs) returns returns-2)

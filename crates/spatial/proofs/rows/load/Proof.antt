@@ -18,22 +18,10 @@ abbrev μ-loop : tie.MeasureT-loop
 loop-holds : tie.Need-loop-holds Inv-loop μ-loop
 loop-holds c = (search needs, row-written-none _ _)
 
-load-strip-requires : tie.Need-load-strip-requires Inv-loop μ-loop
-load-strip-requires c κs = search needs
-
-add-place : tie.Need-add-place Inv-loop μ-loop
-add-place c = search needs
-
-loop-less : tie.Need-loop-less Inv-loop μ-loop
-loop-less c = search needs
-
 loop-again : tie.Need-loop-again Inv-loop μ-loop
 loop-again c =
     let strip = c .before .before .load-strip in
     (search needs, row-written-more (c .before .before .before .before .before .loop .inv .1) (strip .ensures) (strip .kept .1 .1 .1 .1 .1 .1 .0) (λ _ _. refl))
-
-same-length : tie.Need-same-length Inv-loop μ-loop
-same-length c = search needs
 
 returns : tie.Need-returns Inv-loop μ-loop
 returns c = let ended : c .before .loop .place ≡ c .before .before .before .before .args .places = omega arith in row-written-all (c .before .loop .inv .1) ended
@@ -45,9 +33,9 @@ load-spec =
     Inv-loop
     μ-loop
     loop-holds
-    load-strip-requires
-    add-place
-    loop-less
+    (λ c κs. search needs)
+    (λ c. search needs)
+    (λ c. search needs)
     loop-again
-    same-length
+    (λ c. search needs)
     returns)

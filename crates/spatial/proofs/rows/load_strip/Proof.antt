@@ -15,35 +15,8 @@ Inv-loop words start places first count place row₀ lane₀ row lane = Writing 
 abbrev μ-loop : tie.MeasureT-loop
 μ-loop words start places first count place row₀ lane₀ row lane = lanes - lane
 
-loop-holds : tie.Need-loop-holds Inv-loop μ-loop
-loop-holds c = search needs
-
-lane-signal-requires : tie.Need-lane-signal-requires Inv-loop μ-loop
-lane-signal-requires c κs = search needs
-
-mul-row : tie.Need-mul-row Inv-loop μ-loop
-mul-row c = search needs
-
-add-row : tie.Need-add-row Inv-loop μ-loop
-add-row c = search needs
-
-mul-row-2 : tie.Need-mul-row-2 Inv-loop μ-loop
-mul-row-2 c = search needs
-
-slice-write-row : tie.Need-slice-write-row Inv-loop μ-loop
-slice-write-row c = search needs
-
-add-lane : tie.Need-add-lane Inv-loop μ-loop
-add-lane c = search needs
-
-loop-less : tie.Need-loop-less Inv-loop μ-loop
-loop-less c = search needs
-
 loop-again : tie.Need-loop-again Inv-loop μ-loop
 loop-again c = writing-more (c .before .before .loop .inv) (omega arith) (omega arith) (c .lane-signal .ensures)
-
-same-length : tie.Need-same-length Inv-loop μ-loop
-same-length c = search needs
 
 returns : tie.Need-returns Inv-loop μ-loop
 returns c = writing-all (c .before .loop .inv) (omega arith)
@@ -54,14 +27,14 @@ load-strip-spec =
     (tie.spec
     Inv-loop
     μ-loop
-    loop-holds
-    lane-signal-requires
-    mul-row
-    add-row
-    mul-row-2
-    slice-write-row
-    add-lane
-    loop-less
+    (λ c. search needs)
+    (λ c κs. search needs)
+    (λ c. search needs)
+    (λ c. search needs)
+    (λ c. search needs)
+    (λ c. search needs)
+    (λ c. search needs)
+    (λ c. search needs)
     loop-again
-    same-length
+    (λ c. search needs)
     returns)

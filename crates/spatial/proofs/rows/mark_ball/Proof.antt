@@ -33,23 +33,11 @@ add-in-range c = omega (arith, there c)
 in-range-requires : tie.Need-in-range-requires Inv-loop μ-loop
 in-range-requires c κs = there c .0
 
-slice-write-inside : tie.Need-slice-write-inside Inv-loop μ-loop
-slice-write-inside c = search needs
-
-add-place : tie.Need-add-place Inv-loop μ-loop
-add-place c = search needs
-
-loop-less : tie.Need-loop-less Inv-loop μ-loop
-loop-less c = search needs
-
 loop-again : tie.Need-loop-again Inv-loop μ-loop
 unfolding inTable
 loop-again c =
     let h = c .before .before .loop in
     (search needs, search needs, marked-more _ (h .inside) (h .place) (c .in-range .result) (h .inv .2) (omega arith) (c .in-range .ensures))
-
-same-length : tie.Need-same-length Inv-loop μ-loop
-same-length c = search needs
 
 returns : tie.Need-returns Inv-loop μ-loop
 returns c =
@@ -67,9 +55,9 @@ mark-ball-spec =
     mul-in-range
     add-in-range
     in-range-requires
-    slice-write-inside
-    add-place
-    loop-less
+    (λ c. search needs)
+    (λ c. search needs)
+    (λ c. search needs)
     loop-again
-    same-length
+    (λ c. search needs)
     returns)

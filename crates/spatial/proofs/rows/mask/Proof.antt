@@ -35,15 +35,6 @@ add-in-range c = omega (arith, there c)
 in-range-requires : tie.Need-in-range-requires Inv-loop μ-loop
 in-range-requires c κs = there c .0
 
-mask-strip-requires : tie.Need-mask-strip-requires Inv-loop μ-loop
-mask-strip-requires c κs = search needs
-
-add-place : tie.Need-add-place Inv-loop μ-loop
-add-place c = search needs
-
-loop-less : tie.Need-loop-less Inv-loop μ-loop
-loop-less c = search needs
-
 loop-again : tie.Need-loop-again Inv-loop μ-loop
 unfolding masked inTable
 loop-again c =
@@ -54,9 +45,6 @@ loop-again c =
       row-written-more (h .inv .1) (strip .ensures) (strip .kept .1 .0)
           (λ lane _. ap (λ (t : Bool). cond t (laneOf (g .from .now) lane (h .place)) 0) (c .before .before .before .before .in-range .ensures)),
     )
-
-same-length : tie.Need-same-length Inv-loop μ-loop
-same-length c = search needs
 
 returns : tie.Need-returns Inv-loop μ-loop
 returns c = let ended : c .before .loop .place ≡ c .before .before .before .before .before .args .places = omega arith in row-written-all (c .before .loop .inv .1) ended
@@ -71,9 +59,9 @@ mask-spec =
     mul-in-range
     add-in-range
     in-range-requires
-    mask-strip-requires
-    add-place
-    loop-less
+    (λ c κs. search needs)
+    (λ c. search needs)
+    (λ c. search needs)
     loop-again
-    same-length
+    (λ c. search needs)
     returns)

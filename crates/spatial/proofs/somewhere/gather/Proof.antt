@@ -23,12 +23,6 @@ Inv-loop row out₀ distances centre places lower upper least place₀ out place
 abbrev μ-loop : tie.MeasureT-loop
 μ-loop row out₀ distances centre places lower upper least place₀ out place = places - place
 
-of-none-requires : tie.Need-of-none-requires Inv-loop μ-loop
-of-none-requires c κs = search needs
-
-fill-strip-requires : tie.Need-fill-strip-requires Inv-loop μ-loop
-fill-strip-requires c κs = search needs
-
 loop-holds : tie.Need-loop-holds Inv-loop μ-loop
 loop-holds c =
     let a = c .before .before .before .before .before .before .before .before .args in
@@ -46,15 +40,6 @@ add-in-range c = omega (arith, there c)
 in-range-requires : tie.Need-in-range-requires Inv-loop μ-loop
 in-range-requires c κs = there c .0
 
-pull-strip-requires : tie.Need-pull-strip-requires Inv-loop μ-loop
-pull-strip-requires c κs = search needs
-
-add-place : tie.Need-add-place Inv-loop μ-loop
-add-place c = search needs
-
-loop-less : tie.Need-loop-less Inv-loop μ-loop
-loop-less c = search needs
-
 loop-again : tie.Need-loop-again Inv-loop μ-loop
 unfolding inTable
 loop-again c =
@@ -65,9 +50,6 @@ loop-again c =
     (λ w. rw (w .5) (search needs, w .2 .kept .0 ∙ loop .inv .1, gathering-more (a .least) _ (a .row .now) (a .centre) (loop .place) (told ∙ w .0 .taken) (loop .inv .2) (w .2 .ensures)))
     (λ w. rw (w .1) (search needs, loop .inv .1, gathering-past (a .least) _ (a .row .now) (a .centre) (loop .place) (told ∙ w .0 .left) (loop .inv .2)))
     (c .if1 .came)
-
-same-length : tie.Need-same-length Inv-loop μ-loop
-same-length c = search needs
 
 returns : tie.Need-returns Inv-loop μ-loop
 returns c =
@@ -82,15 +64,15 @@ gather-spec =
     (tie.spec
     Inv-loop
     μ-loop
-    of-none-requires
-    fill-strip-requires
+    (λ c κs. search needs)
+    (λ c κs. search needs)
     loop-holds
     mul-in-range
     add-in-range
     in-range-requires
-    pull-strip-requires
-    add-place
-    loop-less
+    (λ c κs. search needs)
+    (λ c. search needs)
+    (λ c. search needs)
     loop-again
-    same-length
+    (λ c. search needs)
     returns)

@@ -5,21 +5,6 @@ use Rattle.spatial.proofs.Ranges.{range-done}
 use Rattle.spatial.proofs.somewhere.somewhere_block.Statement.{statement}
 use Rattle.spatial.proofs.somewhere.somewhere_block.Tie as tie
 
-slice-aggregate-load : tie.Need-slice-aggregate-load
-slice-aggregate-load c = search needs
-
-load-requires : tie.Need-load-requires
-load-requires c κs = search needs
-
-slice-aggregate-gather-all : tie.Need-slice-aggregate-gather-all
-slice-aggregate-gather-all c = search needs
-
-gather-all-requires : tie.Need-gather-all-requires
-gather-all-requires c κs = search needs
-
-same-length : tie.Need-same-length
-same-length c = search needs
-
 returns : tie.Need-returns
 returns c =
     let start = c .before .before .before .before .before .before .before .before .before .before .before in
@@ -33,9 +18,9 @@ pub somewhere-block-spec : {M : Type 1} → statement M
 somewhere-block-spec =
     tie.close
     (tie.spec
-    slice-aggregate-load
-    load-requires
-    slice-aggregate-gather-all
-    gather-all-requires
-    same-length
+    (λ c. search needs)
+    (λ c κs. search needs)
+    (λ c. search needs)
+    (λ c κs. search needs)
+    (λ c. search needs)
     returns)

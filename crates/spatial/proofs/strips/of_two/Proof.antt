@@ -3,12 +3,6 @@ use borrow.Author.Needs.{needs}
 use Rattle.spatial.proofs.strips.of_two.Statement.{statement}
 use Rattle.spatial.proofs.strips.of_two.Tie as tie
 
-lesser-requires : tie.Need-lesser-requires
-lesser-requires c κs = search needs
-
-greater-requires : tie.Need-greater-requires
-greater-requires c κs = search needs
-
 returns : tie.Need-returns
 returns c = rw (c .before .if1 .taken) (c .lesser .ensures)
 
@@ -16,4 +10,4 @@ returns-2 : tie.Need-returns-2
 returns-2 c = rw (c .before .if1 .left) (c .greater .ensures)
 
 pub of-two-spec : {M : Type 1} → statement M
-of-two-spec = tie.close (tie.spec lesser-requires greater-requires returns returns-2)
+of-two-spec = tie.close (tie.spec (λ c κs. search needs) (λ c κs. search needs) returns returns-2)

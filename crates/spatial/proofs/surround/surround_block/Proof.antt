@@ -5,24 +5,6 @@ use borrow.Author.Needs.{needs}
 use Rattle.spatial.proofs.surround.surround_block.Statement.{statement}
 use Rattle.spatial.proofs.surround.surround_block.Tie as tie
 
-slice-aggregate-load : tie.Need-slice-aggregate-load
-slice-aggregate-load c = search needs
-
-load-requires : tie.Need-load-requires
-load-requires c κs = search needs
-
-slice-aggregate-load-2 : tie.Need-slice-aggregate-load-2
-slice-aggregate-load-2 c = search needs
-
-load-requires-2 : tie.Need-load-requires-2
-load-requires-2 c κs = search needs
-
-slice-aggregate-surround-centres : tie.Need-slice-aggregate-surround-centres
-slice-aggregate-surround-centres c = search needs
-
-slice-aggregate-surround-centres-2 : tie.Need-slice-aggregate-surround-centres-2
-slice-aggregate-surround-centres-2 c = search needs
-
 surround-centres-requires : tie.Need-surround-centres-requires
 surround-centres-requires c κs =
     let g = c .before .before .before .before .before .before .before .before .before .before .before .before .before .args in
@@ -42,9 +24,6 @@ surround-centres-requires c κs =
       c .before .before .before .before .before .before .before .before .before .before .before .before .before .pre .1,
     )
 
-same-length : tie.Need-same-length
-same-length c = search needs
-
 returns : tie.Need-returns
 returns c =
     let g = c .before .before .before .before .before .before .before .before .before .before .before .before .before .before .before .before .args in
@@ -59,12 +38,12 @@ pub surround-block-spec : {M : Type 1} → statement M
 surround-block-spec =
     tie.close
     (tie.spec
-    slice-aggregate-load
-    load-requires
-    slice-aggregate-load-2
-    load-requires-2
-    slice-aggregate-surround-centres
-    slice-aggregate-surround-centres-2
+    (λ c. search needs)
+    (λ c κs. search needs)
+    (λ c. search needs)
+    (λ c κs. search needs)
+    (λ c. search needs)
+    (λ c. search needs)
     surround-centres-requires
-    same-length
+    (λ c. search needs)
     returns)

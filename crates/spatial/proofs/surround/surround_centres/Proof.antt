@@ -34,21 +34,6 @@ loop-holds c =
       centres-none (g .left .now) (g .right .now) (g .places) (wordsOf (g .sheet .now)) (g .roads) (numbersOf (wordsOf (g .distances .now))) (g .lower) (g .upper) (g .out .now),
     )
 
-slice-aggregate-surround-centre : tie.Need-slice-aggregate-surround-centre Inv-loop μ-loop
-slice-aggregate-surround-centre c = search needs
-
-slice-aggregate-surround-centre-2 : tie.Need-slice-aggregate-surround-centre-2 Inv-loop μ-loop
-slice-aggregate-surround-centre-2 c = search needs
-
-slice-aggregate-surround-centre-3 : tie.Need-slice-aggregate-surround-centre-3 Inv-loop μ-loop
-slice-aggregate-surround-centre-3 c = search needs
-
-slice-aggregate-surround-centre-4 : tie.Need-slice-aggregate-surround-centre-4 Inv-loop μ-loop
-slice-aggregate-surround-centre-4 c = search needs
-
-array-borrow-prefix-inside : tie.Need-array-borrow-prefix-inside Inv-loop μ-loop
-array-borrow-prefix-inside c = search needs
-
 slice-aggregate-surround-centre-5 : tie.Need-slice-aggregate-surround-centre-5 Inv-loop μ-loop
 slice-aggregate-surround-centre-5 c =
     let l = length-take-le (c .before .before .before .before .before .before .before .before .before .before .before .before .args .places) (c .before .before .before .before .before .before .loop .inside) (omega (arith, c .before .before .before .before .before .before .before .before .before .before .before .before .pre .0 .few-places)) in
@@ -56,21 +41,6 @@ slice-aggregate-surround-centre-5 c =
 
 surround-centre-requires : tie.Need-surround-centre-requires Inv-loop μ-loop
 surround-centre-requires c κs = (search needs, length-take-le (c .before .before .before .before .before .before .before .before .before .before .before .before .args .places) (c .before .before .before .before .before .before .loop .inside) (omega (arith, c .before .before .before .before .before .before .before .before .before .before .before .before .pre .0 .few-places)), c .before .before .before .before .before .before .before .before .before .before .before .before .pre .0, search needs)
-
-slice-aggregate-copy-strip : tie.Need-slice-aggregate-copy-strip Inv-loop μ-loop
-slice-aggregate-copy-strip c = search needs
-
-copy-strip-requires : tie.Need-copy-strip-requires Inv-loop μ-loop
-copy-strip-requires c κs = search needs
-
-greater-of-requires : tie.Need-greater-of-requires Inv-loop μ-loop
-greater-of-requires c κs = search needs
-
-add-centre : tie.Need-add-centre Inv-loop μ-loop
-add-centre c = search needs
-
-loop-less : tie.Need-loop-less Inv-loop μ-loop
-loop-less c = search needs
 
 loop-again : tie.Need-loop-again Inv-loop μ-loop
 loop-again c =
@@ -81,9 +51,6 @@ loop-again c =
     let done = centres-more (g .left .now) (g .right .now) (g .places) (wordsOf (g .sheet .now)) (g .roads) (numbersOf (wordsOf (g .distances .now))) (g .lower) (g .upper)
     (h .centre) (g .out .now) (h .out) (s .last .1 .1 .1 .1 .1 .1 .1 .1 .1 .0) (w .last .1 .0) (h .most) (s .result) (h .inv .6) (s .ensures) (w .ensures) (w .kept .1 .0) in
     (omega (arith, c .before .before .before .before .before .before .before .before .before .before .before .before .before .before .before .before .before .loop-test .taken), search needs, search needs, search needs, search needs, length-front (h .inside) (s .last .1 .1 .1 .1 .1 .1 .1 .1 .1 .1 .1 .1 .1 .0) (g .places) (s .kept .1 .1 .1 .1 .1 .1 .1 .1 .1 .1 .1 .1 .1 .0) ∙ h .inv .5, rw (c .greater-of .ensures) done)
-
-same-length : tie.Need-same-length Inv-loop μ-loop
-same-length c = search needs
 
 returns : tie.Need-returns Inv-loop μ-loop
 returns c =
@@ -99,18 +66,18 @@ surround-centres-spec =
     Inv-loop
     μ-loop
     loop-holds
-    slice-aggregate-surround-centre
-    slice-aggregate-surround-centre-2
-    slice-aggregate-surround-centre-3
-    slice-aggregate-surround-centre-4
-    array-borrow-prefix-inside
+    (λ c. search needs)
+    (λ c. search needs)
+    (λ c. search needs)
+    (λ c. search needs)
+    (λ c. search needs)
     slice-aggregate-surround-centre-5
     surround-centre-requires
-    slice-aggregate-copy-strip
-    copy-strip-requires
-    greater-of-requires
-    add-centre
-    loop-less
+    (λ c. search needs)
+    (λ c κs. search needs)
+    (λ c κs. search needs)
+    (λ c. search needs)
+    (λ c. search needs)
     loop-again
-    same-length
+    (λ c. search needs)
     returns)

@@ -5,11 +5,8 @@ use Rattle.values.proofs.Codes.{code-opposite}
 use Rattle.values.proofs.Margin.negate.Statement.{statement}
 use Rattle.values.proofs.Margin.negate.Tie as tie
 
-sub-t2 : tie.Need-sub-t2
-sub-t2 c = search needs
-
 returns : tie.Need-returns
 returns c = sym (code-opposite (c .before .args .self .code) (c .before .pre))
 
 pub negate-spec : {M : Type 1} → statement M
-negate-spec = tie.close (tie.spec sub-t2 returns)
+negate-spec = tie.close (tie.spec (λ c. search needs) returns)

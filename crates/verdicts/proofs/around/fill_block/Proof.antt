@@ -20,42 +20,18 @@ module _ (c : tie.Start) where
   told : {around : Around} {out : List ℕ} {r : ℕ} → c .args .around ≡ around → Filled around out r → Filled (c .args .around) out r
   told {around} {out} {r} e = subst (λ a. Filled a out r) (sym e)
 
-enum-known-around : tie.Need-enum-known-around
-enum-known-around c = search needs
-
-cast-surround-block : tie.Need-cast-surround-block
-cast-surround-block c = search needs
-
-cast-surround-block-2 : tie.Need-cast-surround-block-2
-cast-surround-block-2 c = search needs
-
 surround-block-requires : tie.Need-surround-block-requires
 surround-block-requires c κs =
     let start = c .before .before .before .before .before .before .before .before .before .before in
     (block-ready (ready start (c .before .before .before .before .around .given .1)) (start .pre .1) (start .pre .2), start .pre .3)
-
-enum-known-around-2 : tie.Need-enum-known-around-2
-enum-known-around-2 c = search needs
-
-cast-somewhere-block : tie.Need-cast-somewhere-block
-cast-somewhere-block c = search needs
-
-cast-somewhere-block-2 : tie.Need-cast-somewhere-block-2
-cast-somewhere-block-2 c = search needs
 
 somewhere-block-requires : tie.Need-somewhere-block-requires
 somewhere-block-requires c κs =
     let start = c .before .before .before .before .before .before .before .before .before .before in
     (range-ready (ready start (c .before .before .before .before .around2 .given .1)) (start .pre .2), start .pre .3)
 
-same-length : tie.Need-same-length
-same-length c = search needs
-
 returns : tie.Need-returns
 returns c = told (c .before .before .before .before .before .before .before .before .before .before .before .before .before) (c .before .before .before .before .before .before .before .around .given .1) (surround-filled (c .before .before .surround-block .ensures))
-
-same-length-2 : tie.Need-same-length-2
-same-length-2 c = search needs
 
 returns-2 : tie.Need-returns-2
 returns-2 c = told (c .before .before .before .before .before .before .before .before .before .before .before .before .before) (c .before .before .before .before .before .before .before .around2 .given .1) (somewhere-filled (c .before .before .somewhere-block .ensures))
@@ -64,15 +40,15 @@ pub fill-block-spec : {M : Type 1} → statement M
 fill-block-spec =
     tie.close
     (tie.spec
-    enum-known-around
-    cast-surround-block
-    cast-surround-block-2
+    (λ c. search needs)
+    (λ c. search needs)
+    (λ c. search needs)
     surround-block-requires
-    enum-known-around-2
-    cast-somewhere-block
-    cast-somewhere-block-2
+    (λ c. search needs)
+    (λ c. search needs)
+    (λ c. search needs)
     somewhere-block-requires
-    same-length
+    (λ c. search needs)
     returns
-    same-length-2
+    (λ c. search needs)
     returns-2)

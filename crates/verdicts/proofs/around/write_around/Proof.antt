@@ -62,9 +62,6 @@ longer c =
 loop-holds : tie.Need-loop-holds Inv-loop μ-loop
 loop-holds c = (search needs, search needs, no-samples _ _ _ _ _)
 
-sub-block-size : tie.Need-sub-block-size Inv-loop μ-loop
-sub-block-size c = search needs
-
 block-size-requires : tie.Need-block-size-requires Inv-loop μ-loop
 block-size-requires c κs = omega arith
 
@@ -82,17 +79,8 @@ with-requires c κs =
     let ready = block .before .before .before .before .before .before .before .before .pre .0 in
     omega (arith, few-yes (longer block), mul-le-mul (room (block .before .before) .0) (ready .few-places .1), ready .few)
 
-add-first : tie.Need-add-first Inv-loop μ-loop
-add-first c = search needs
-
-loop-less : tie.Need-loop-less Inv-loop μ-loop
-loop-less c = search needs
-
 loop-again : tie.Need-loop-again Inv-loop μ-loop
 loop-again c = (search needs, search needs, rw (c .with .ensures) (longer (c .before .before .before)))
-
-same-length : tie.Need-same-length Inv-loop μ-loop
-same-length c = search needs
 
 returns : tie.Need-returns Inv-loop μ-loop
 returns c =
@@ -108,12 +96,12 @@ write-around-spec =
     Inv-loop
     μ-loop
     loop-holds
-    sub-block-size
+    (λ c. search needs)
     block-size-requires
     write-block-requires
     with-requires
-    add-first
-    loop-less
+    (λ c. search needs)
+    (λ c. search needs)
     loop-again
-    same-length
+    (λ c. search needs)
     returns)

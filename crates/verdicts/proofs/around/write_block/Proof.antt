@@ -50,9 +50,6 @@ slice-reshare-prefix-fill-block c = bytes (c .before .before .before)
 slice-aggregate-fill-block : tie.Need-slice-aggregate-fill-block
 slice-aggregate-fill-block c = sym (length-take-le _ _ (bytes (c .before .before .before .before)))
 
-slice-aggregate-fill-block-2 : tie.Need-slice-aggregate-fill-block-2
-slice-aggregate-fill-block-2 c = search needs
-
 fill-block-requires : tie.Need-fill-block-requires
 fill-block-requires c κs =
     let begin = c .before .before .before .before .before in
@@ -64,17 +61,11 @@ mul-to c = let begin = c .before .before .before .before .before .before .before
 add-to : tie.Need-add-to
 add-to c = let begin = c .before .before .before .before .before .before .before .before in omega (arith, room begin, words-count (begin .args .answer .now))
 
-slice-aggregate-write-lanes : tie.Need-slice-aggregate-write-lanes
-slice-aggregate-write-lanes c = search needs
-
 write-lanes-requires : tie.Need-write-lanes-requires
 write-lanes-requires c κs =
     let block = c .before .before .before .before in
     let begin = start block in
     (lanes-bounded (filled block) (begin .pre .0 .few-places .1) (begin .pre .2) (omega (arith, block .fill-block .kept .1 .1 .1 .1 .1 .1 .1 .0, begin .pre .0 .few-places)), room begin)
-
-same-length : tie.Need-same-length
-same-length c = search needs
 
 returns : tie.Need-returns
 returns c =
@@ -90,11 +81,11 @@ write-block-spec =
     mul-end
     slice-reshare-prefix-fill-block
     slice-aggregate-fill-block
-    slice-aggregate-fill-block-2
+    (λ c. search needs)
     fill-block-requires
     mul-to
     add-to
-    slice-aggregate-write-lanes
+    (λ c. search needs)
     write-lanes-requires
-    same-length
+    (λ c. search needs)
     returns)

@@ -61,12 +61,6 @@ add-yes c =
 add-at : tie.Need-add-at Inv-loop μ-loop
 add-at c = omega (arith, room (c .before .before .before .before), words-count (c .before .before .before .before .before .loop .answer))
 
-add-lane : tie.Need-add-lane Inv-loop μ-loop
-add-lane c = search needs
-
-loop-less : tie.Need-loop-less Inv-loop μ-loop
-loop-less c = search needs
-
 loop-again : tie.Need-loop-again Inv-loop μ-loop
 loop-again c =
     let start = c .before .before .before .before .before .before .before .before in
@@ -80,9 +74,6 @@ loop-again c =
       c .before .before .write-sample .ensures .0 ∙ after ∙ put-row first (start .args .to) words (loop .lane) (start .args .places) (omega (arith, start .pre .1)),
       total c,
     )
-
-same-length : tie.Need-same-length Inv-loop μ-loop
-same-length c = search needs
 
 returns : tie.Need-returns Inv-loop μ-loop
 returns c =
@@ -102,8 +93,8 @@ write-lanes-spec =
     write-sample-requires
     add-yes
     add-at
-    add-lane
-    loop-less
+    (λ c. search needs)
+    (λ c. search needs)
     loop-again
-    same-length
+    (λ c. search needs)
     returns)

@@ -42,16 +42,10 @@ sub-atom-row c = begins (c .before .before .before)
 part-atom-row-start : tie.Need-part-atom-row-start
 part-atom-row-start c = begins (c .before .before .before)
 
-part-atom-row-end : tie.Need-part-atom-row-end
-part-atom-row-end c = search needs
-
 atom-row-requires : tie.Need-atom-row-requires
 atom-row-requires c κs =
     let start = c .before .before .before .before .before in
     (start .pre .0, rw (samples start) (simp length-drop (omega (arith, start .pre .1))), rw (toZ-ofZ (start .fits .constant)) (start .pre .2), start .pre .3)
-
-same-length : tie.Need-same-length
-same-length c = search needs
 
 returns : tie.Need-returns
 returns c =
@@ -65,7 +59,7 @@ recorded-row-spec =
     mul-begin
     sub-atom-row
     part-atom-row-start
-    part-atom-row-end
+    (λ c. search needs)
     atom-row-requires
-    same-length
+    (λ c. search needs)
     returns)

@@ -54,60 +54,27 @@ module _ (c : tie.After-slice-known) where
   atoms-inside k (signal, sample, bits) =
       (signal, omega (arith, sample-inside (start .args .layout) sample, start .pre .0 .recorded), rw (constant-kept k bits) bits, start .pre .3)
 
-enum-told : tie.Need-enum-told
-enum-told c = search needs
-
-true-row-requires : tie.Need-true-row-requires
-true-row-requires c κs = search needs
-
-enum-known-operator : tie.Need-enum-known-operator
-enum-known-operator c = search needs
-
 recorded-row-requires : tie.Need-recorded-row-requires
 recorded-row-requires c κs = atoms-inside (c .before .before .before .before) (c .before .before .operator .given .0 .1 .0) (readable (c .before .before .before .before) (c .before .before .operator .given .1))
 
-enum-known-operator-2 : tie.Need-enum-known-operator-2
-enum-known-operator-2 c = search needs
-
 recorded-row-requires-2 : tie.Need-recorded-row-requires-2
 recorded-row-requires-2 c κs = atoms-inside (c .before .before .before .before) (c .before .before .operator2 .given .0 .1 .0) (readable (c .before .before .before .before) (c .before .before .operator2 .given .1))
-
-enum-known-operator-3 : tie.Need-enum-known-operator-3
-enum-known-operator-3 c = search needs
 
 not-of-requires : tie.Need-not-of-requires
 not-of-requires c κs =
     let known = c .before .before .before .before in (readable known (c .before .before .operator3 .given .1), start known .pre .3)
 
-enum-known-operator-4 : tie.Need-enum-known-operator-4
-enum-known-operator-4 c = search needs
-
 and-of-requires : tie.Need-and-of-requires
 and-of-requires c κs =
     let known = c .before .before .before .before in let (left, right) = readable known (c .before .before .operator4 .given .1) in (left, right, start known .pre .3)
-
-enum-known-operator-5 : tie.Need-enum-known-operator-5
-enum-known-operator-5 c = search needs
 
 until-of-requires : tie.Need-until-of-requires
 until-of-requires c κs =
     let known = c .before .before .before .before in let (ordered, left, right) = readable known (c .before .before .operator5 .given .1) in (ordered, left, right, start known .pre .3)
 
-enum-told-2 : tie.Need-enum-told-2
-enum-told-2 c = search needs
-
-enum-told-3 : tie.Need-enum-told-3
-enum-told-3 c = search needs
-
-enum-known-operator-6 : tie.Need-enum-known-operator-6
-enum-known-operator-6 c = search needs
-
 and-of-requires-2 : tie.Need-and-of-requires-2
 and-of-requires-2 c κs =
     let known = c .before .before .before .before in let (left, right) = readable known (c .before .before .operator6 .given .1) in (left, right, start known .pre .3)
-
-enum-known-operator-7 : tie.Need-enum-known-operator-7
-enum-known-operator-7 c = search needs
 
 eventually-of-requires : tie.Need-eventually-of-requires
 unfolding lineValue value
@@ -117,9 +84,6 @@ eventually-of-requires c κs =
     let (ordered, line) = readable known which in
     (ordered, line, former known which, start known .pre .3)
 
-enum-known-operator-8 : tie.Need-enum-known-operator-8
-enum-known-operator-8 c = search needs
-
 eventually-of-requires-2 : tie.Need-eventually-of-requires-2
 unfolding lineValue value
 eventually-of-requires-2 c κs =
@@ -128,18 +92,9 @@ eventually-of-requires-2 c κs =
     let (ordered, line) = readable known which in
     (ordered, line, former known which, start known .pre .3)
 
-enum-told-4 : tie.Need-enum-told-4
-enum-told-4 c = search needs
-
-same-length : tie.Need-same-length
-same-length c = search needs
-
 returns : tie.Need-returns
 unfolding lineValue value
 returns c = told (c .before .before .before .before .before .before) (c .before .before .before .before .enum-told .given .1) (c .before .before .true-row .ensures)
-
-same-length-2 : tie.Need-same-length-2
-same-length-2 c = search needs
 
 returns-2 : tie.Need-returns-2
 unfolding lineValue value
@@ -148,9 +103,6 @@ returns-2 c =
     let which = c .before .before .before .before .before .operator .given in
     told known (which .1) (left-same (c .before .before .recorded-row .ensures) (λ l b. ap (λ k. chains .atom (Sample known (which .0 .0) l -ℤ k)) (constant-kept (which .0 .1 .0) (readable known (which .1) .2))))
 
-same-length-3 : tie.Need-same-length-3
-same-length-3 c = search needs
-
 returns-3 : tie.Need-returns-3
 unfolding lineValue value
 returns-3 c =
@@ -158,22 +110,13 @@ returns-3 c =
     let which = c .before .before .before .before .before .operator2 .given in
     told known (which .1) (left-same (c .before .before .recorded-row2 .ensures) (λ l b. ap (λ k. chains .atom (k -ℤ Sample known (which .0 .0) l)) (constant-kept (which .0 .1 .0) (readable known (which .1) .2))))
 
-same-length-4 : tie.Need-same-length-4
-same-length-4 c = search needs
-
 returns-4 : tie.Need-returns-4
 unfolding lineValue value
 returns-4 c = told (c .before .before .before .before .before .before .before) (c .before .before .before .before .before .operator3 .given .1) (c .before .before .not-of .ensures)
 
-same-length-5 : tie.Need-same-length-5
-same-length-5 c = search needs
-
 returns-5 : tie.Need-returns-5
 unfolding lineValue value
 returns-5 c = told (c .before .before .before .before .before .before .before) (c .before .before .before .before .before .operator4 .given .1) (c .before .before .and-of .ensures)
-
-same-length-6 : tie.Need-same-length-6
-same-length-6 c = search needs
 
 returns-6 : tie.Need-returns-6
 unfolding lineValue value
@@ -185,22 +128,13 @@ returns-7 c = absurd (readable (c .before .before) (c .enum-told2 .given .1))
 returns-8 : tie.Need-returns-8
 returns-8 c = absurd (readable (c .before .before) (c .enum-told3 .given .1))
 
-same-length-7 : tie.Need-same-length-7
-same-length-7 c = search needs
-
 returns-9 : tie.Need-returns-9
 unfolding lineValue value
 returns-9 c = told (c .before .before .before .before .before .before .before) (c .before .before .before .before .before .operator6 .given .1) (c .before .before .and-of2 .ensures)
 
-same-length-8 : tie.Need-same-length-8
-same-length-8 c = search needs
-
 returns-10 : tie.Need-returns-10
 unfolding lineValue value
 returns-10 c = told (c .before .before .before .before .before .before .before) (c .before .before .before .before .before .operator7 .given .1) (c .before .before .eventually-of .ensures)
-
-same-length-9 : tie.Need-same-length-9
-same-length-9 c = search needs
 
 returns-11 : tie.Need-returns-11
 unfolding lineValue value
@@ -213,45 +147,45 @@ pub value-row-spec : {M : Type 1} → statement M
 value-row-spec =
     tie.close
     (tie.spec
-    enum-told
-    true-row-requires
-    enum-known-operator
+    (λ c. search needs)
+    (λ c κs. search needs)
+    (λ c. search needs)
     recorded-row-requires
-    enum-known-operator-2
+    (λ c. search needs)
     recorded-row-requires-2
-    enum-known-operator-3
+    (λ c. search needs)
     not-of-requires
-    enum-known-operator-4
+    (λ c. search needs)
     and-of-requires
-    enum-known-operator-5
+    (λ c. search needs)
     until-of-requires
-    enum-told-2
-    enum-told-3
-    enum-known-operator-6
+    (λ c. search needs)
+    (λ c. search needs)
+    (λ c. search needs)
     and-of-requires-2
-    enum-known-operator-7
+    (λ c. search needs)
     eventually-of-requires
-    enum-known-operator-8
+    (λ c. search needs)
     eventually-of-requires-2
-    enum-told-4
-    same-length
+    (λ c. search needs)
+    (λ c. search needs)
     returns
-    same-length-2
+    (λ c. search needs)
     returns-2
-    same-length-3
+    (λ c. search needs)
     returns-3
-    same-length-4
+    (λ c. search needs)
     returns-4
-    same-length-5
+    (λ c. search needs)
     returns-5
-    same-length-6
+    (λ c. search needs)
     returns-6
     returns-7
     returns-8
-    same-length-7
+    (λ c. search needs)
     returns-9
-    same-length-8
+    (λ c. search needs)
     returns-10
-    same-length-9
+    (λ c. search needs)
     returns-11
     returns-12)

@@ -78,12 +78,6 @@ write-sample-requires c κs =
       begin .pre .4,
     )
 
-same-length : tie.Need-same-length
-same-length c = search needs
-
-same-length-2 : tie.Need-same-length-2
-same-length-2 c = search needs
-
 returns : tie.Need-returns
 returns c =
     let called = c .before .before .before .before .before .before .before in
@@ -102,6 +96,6 @@ write-row-spec =
     slice-aggregate-value-row
     value-row-requires
     write-sample-requires
-    same-length
-    same-length-2
+    (λ c. search needs)
+    (λ c. search needs)
     returns)

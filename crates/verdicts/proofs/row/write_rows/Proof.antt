@@ -60,9 +60,6 @@ loop-holds : tie.Need-loop-holds Inv-loop μ-loop
 unfolding concat sumBelow
 loop-holds c = (search needs, search needs, search needs, sym (put-nil _ _), search needs, search needs, λ u e. absurd (omega arith))
 
-slice-aggregate-write-row : tie.Need-slice-aggregate-write-row Inv-loop μ-loop
-slice-aggregate-write-row c = search needs
-
 write-row-requires : tie.Need-write-row-requires Inv-loop μ-loop
 write-row-requires c κs =
     let turn = c .before .before in
@@ -91,12 +88,6 @@ add-yes c =
 add-to : tie.Need-add-to Inv-loop μ-loop
 add-to c = let turn = c .before .before .before .before .before .before .before in omega (arith, room turn, words-count (turn .before .loop .answer))
 
-add-t : tie.Need-add-t Inv-loop μ-loop
-add-t c = search needs
-
-loop-less : tie.Need-loop-less Inv-loop μ-loop
-loop-less c = search needs
-
 loop-again : tie.Need-loop-again Inv-loop μ-loop
 loop-again c =
     let turn = c .before .before .before .before .before .before .before in
@@ -118,9 +109,6 @@ loop-again c =
       λ u e. let same : loop .t ≡ u = omega arith in subst (λ (v : ℕ). Filled n (value v) (called .last .1 .1 .1 .1 .1 .1 .1 .1 .0)) same held,
     )
 
-same-length : tie.Need-same-length Inv-loop μ-loop
-same-length c = search needs
-
 returns : tie.Need-returns Inv-loop μ-loop
 returns c =
     let start = c .before .before .before .before .before in
@@ -138,12 +126,12 @@ write-rows-spec =
     Inv-loop
     μ-loop
     loop-holds
-    slice-aggregate-write-row
+    (λ c. search needs)
     write-row-requires
     add-yes
     add-to
-    add-t
-    loop-less
+    (λ c. search needs)
+    (λ c. search needs)
     loop-again
-    same-length
+    (λ c. search needs)
     returns)

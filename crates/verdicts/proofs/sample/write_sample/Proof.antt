@@ -65,24 +65,12 @@ word-of-requires c κs =
 put-word-requires : tie.Need-put-word-requires Inv-loop μ-loop
 put-word-requires c κs = room (c .before .before .before) .1
 
-yes-requires : tie.Need-yes-requires Inv-loop μ-loop
-yes-requires c κs = search needs
-
-cast-yes : tie.Need-cast-yes Inv-loop μ-loop
-cast-yes c = search needs
-
 add-yes : tie.Need-add-yes Inv-loop μ-loop
 add-yes c =
     let start = c .before .before .before .before .before .before .before .before .before .before .before in
     let loop = c .before .before .before .before .before .before .before .before .loop in
     let small : loop .yes ≤ loop .l = rw (loop .inv .3) (yes-bound (λ k. chainVerdict (Value start k)) (loop .l)) in
     omega (arith, byte-count (c .yes .result), start .pre .0 .few-places)
-
-add-l : tie.Need-add-l Inv-loop μ-loop
-add-l c = search needs
-
-loop-less : tie.Need-loop-less Inv-loop μ-loop
-loop-less c = search needs
 
 loop-again : tie.Need-loop-again Inv-loop μ-loop
 loop-again c =
@@ -93,9 +81,6 @@ loop-again c =
     let more = put-more (wordsOf (start .args .answer .now)) (start .args .to) (λ k. chainWord (Value start k)) (loop .l) (word .result) (room (c .before .before .before .before .before .before .before) .0) (word .ensures) in
     let one = byte-count (c .yes .result) .0 ∙ ap count (c .yes .ensures) in
     (search needs, search needs, stored ∙ more, ap₂ _+_ (loop .inv .3) one ∙ sym (sum-more _ (loop .l)))
-
-same-length : tie.Need-same-length Inv-loop μ-loop
-same-length c = search needs
 
 returns : tie.Need-returns Inv-loop μ-loop
 returns c =
@@ -119,11 +104,11 @@ write-sample-spec =
     add-put-word
     word-of-requires
     put-word-requires
-    yes-requires
-    cast-yes
+    (λ c κs. search needs)
+    (λ c. search needs)
     add-yes
-    add-l
-    loop-less
+    (λ c. search needs)
+    (λ c. search needs)
     loop-again
-    same-length
+    (λ c. search needs)
     returns)

@@ -10,9 +10,6 @@ use Rattle.verdicts.proofs.tally.Tally.with.Tie as tie
 of-rounds : (count : ℕ) {m n : ℕ} → m ≡ n → _≡_ {A = Tally} (record { rounds = m; yes = count }) (record { rounds = n; yes = count })
 of-rounds count = ap (λ m. record { rounds = m; yes = count })
 
-add-yes : tie.Need-add-yes
-add-yes c = search needs
-
 returns : tie.Need-returns
 returns c = of-rounds _ (omega arith)
 
@@ -20,4 +17,4 @@ returns-2 : tie.Need-returns-2
 returns-2 c = of-rounds _ (omega arith)
 
 pub with-spec : {M : Type 1} → statement M
-with-spec = tie.close (tie.spec add-yes returns returns-2)
+with-spec = tie.close (tie.spec (λ c. search needs) returns returns-2)
