@@ -8,31 +8,32 @@ use native.Mathlib.Omega.{arith}
 use lib.ListN.{length, getD, set, replicate, List·getD-append}
 use Rattle.words.specs.Rows.{rows, padded}
 use Rattle.words.proofs.Rows.{in-table, length-rows, getD-rows}
-use Rattle.logic.specs.Network.{Network, distanceIn}
-use Rattle.logic.specs.Formulas.{Line, lineIn}
-use Rattle.logic.proofs.Totals.{sum-more}
+use Rattle.network.specs.Network.{Network, distanceIn}
+use Rattle.formulas.specs.Formulas.{Line, lineIn}
+use Rattle.counting.proofs.Totals.{sum-more}
 use Rattle.sheet.specs.declared.check.Layout as Code
-use Rattle.sheet.specs.declared.line.Line as Read
-use Rattle.sheet.specs.declared.line.Decoded.{Decoded}
-use Rattle.sheet.specs.declared.line.Decoded.the-variants as D
-use Rattle.sheet.specs.declared.fault.Fault.{Fault}
-use Rattle.sheet.specs.Limits.{mostLines}
+use Rattle.lines.specs.declared.line.Line as Read
+use Rattle.lines.specs.declared.line.Decoded.{Decoded}
+use Rattle.lines.specs.declared.line.Decoded.the-variants as D
+use Rattle.checks.specs.declared.fault.Fault.{Fault}
+use Rattle.checks.specs.Limits.{mostLines}
 use Rattle.sheet.specs.Layout.{Layout}
-use Rattle.sheet.specs.Lines.{lineAt}
-use Rattle.sheet.specs.GoodLines.{GoodTable}
-use Rattle.sheet.specs.Roads.{network, distanceNumber, distanceTable}
-use Rattle.sheet.specs.Decoding.{lineSaid, decodedSaid}
+use Rattle.lines.specs.Lines.{lineAt}
+use Rattle.lines.specs.GoodLines.{GoodTable}
+use Rattle.roads.specs.Roads.{distanceNumber, distanceTable}
+use Rattle.sheet.specs.Recording.{network}
+use Rattle.lines.specs.Decoding.{lineSaid, decodedSaid}
 use Rattle.sheet.specs.Checking.{layoutOf}
-use Rattle.sheet.proofs.AcceptedRoads.{accepted-roads}
-use Rattle.sheet.proofs.Checks.{never, same-accepted}
-use Rattle.sheet.proofs.Walk.{Walk, Step, walk-start, walk-step}
+use Rattle.sheet.proofs.Surveys.{accepted-roads}
+use Rattle.checks.proofs.Checks.{never, same-accepted}
+use Rattle.lines.proofs.Walk.{Walk, Step, walk-start, walk-step}
 use Rattle.sheet.proofs.Whole.{accepted-sheet}
 use Rattle.spatial.specs.Steps.{RoadsIn}
 use Rattle.spatial.proofs.SheetRoads.{good-roads}
-use Rattle.verdicts.specs.Answer.{lineIndex}
+use Rattle.answers.specs.Answer.{lineIndex}
 use Rattle.verdicts.specs.Writing.{Surveyed}
-use Rattle.verdicts.proofs.WholeAnswer.{InAnswer, index-bound}
-use Rattle.verdicts.proofs.Accepted.{table, sizes}
+use Rattle.answers.proofs.WholeAnswer.{InAnswer, index-bound}
+use Rattle.answers.proofs.Accepted.{table, sizes}
 use Rattle.engine.specs.Lines.{found, Accepting}
 use Rattle.engine.specs.Lent.{foundIn}
 

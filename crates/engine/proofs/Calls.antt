@@ -9,16 +9,16 @@ use borrow.Fn.Kinds.{Dens, endedOf}
 use denote.Triple.Clauses.{AtExit}
 use Rattle.words.specs.Bytes.{wordsOf, numbersOf}
 use Rattle.sheet.specs.Layout.{Layout}
-use Rattle.sheet.specs.Roads.{network, recording}
+use Rattle.sheet.specs.Recording.{network, recording}
 use Rattle.sheet.specs.Apart.{SamplesApart}
 use Rattle.sheet.proofs.Whole.{accepted-sheet}
 use Rattle.lookup.specs.Lookup.{verdictNumber, saidAt, lookedUp}
-use Rattle.verdicts.specs.Meant.{meantAt}
-use Rattle.verdicts.specs.Judged.{Judged, judged}
-use Rattle.verdicts.specs.Steady.{Steady}
-use Rattle.verdicts.proofs.Accepted.{accepted-answered, answered-lookup, answered-rounds}
-use Rattle.verdicts.proofs.Examples.{StarredExamples, examples-of}
-use Rattle.verdicts.proofs.Steadiness.{steadiness}
+use Rattle.answers.specs.Meant.{meantAt}
+use Rattle.answers.specs.Judged.{Judged, judged}
+use Rattle.answers.specs.Steady.{Steady}
+use Rattle.answers.proofs.Accepted.{accepted-answered, answered-lookup, answered-rounds}
+use Rattle.answers.proofs.Examples.{StarredExamples, examples-of}
+use Rattle.answers.proofs.Steadiness.{steadiness}
 use Rattle.engine.specs.declared.Result.{Result}
 use Rattle.engine.specs.Lent.{judgedIn}
 use Rattle.engine.specs.Result.{resultSaid}

@@ -8,17 +8,17 @@ use lib.Seq.{length-take-le, getD-append-add, take-at}
 use Rattle.words.specs.Rows.{concat, put}
 use Rattle.words.proofs.Rows.{in-table}
 use Rattle.words.proofs.Puts.{length-front}
-use Rattle.logic.specs.Network.{Network}
-use Rattle.logic.specs.Formulas.{Line, lineIn, Recording, InBits}
+use Rattle.network.specs.Network.{Network}
+use Rattle.formulas.specs.Formulas.{Line, lineIn, Recording, InBits}
 use Rattle.logic.specs.Table.{valueAt}
-use Rattle.logic.proofs.TableKeeps.{ConstantsIn}
+use Rattle.formulas.specs.Formulas.{ConstantsIn}
 use Rattle.values.specs.Said.{verdictWord}
 use Rattle.values.specs.Chain.{chains, chainWord, wordChain}
 use Rattle.values.specs.Signals.{signalIn}
 use Rattle.values.proofs.ChainWords.{word-said, word-back}
 use Rattle.values.proofs.ChainTable.{chains-valid, chains-margin, chains-verdict}
-use Rattle.verdicts.specs.Answer.{lineIndex, wordFor, lineWords}
-use Rattle.verdicts.proofs.AnswerWords.{sizes, lines-size, sizes-below, verdict-among}
+use Rattle.answers.specs.Answer.{lineIndex, wordFor, lineWords}
+use Rattle.answers.proofs.AnswerWords.{sizes, lines-size, sizes-below, verdict-among}
 
 module _ (N : Network) (T : ℕ) (x : Recording) (samples : (s t l : ℕ) → InBits 27 (x s t l)) (lines : List Line) (constants : ConstantsIn (InBits 27) lines) where
   -- the word of the chain number is that of verdict and margin

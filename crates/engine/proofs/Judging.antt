@@ -5,14 +5,15 @@ use Prim.Native.Nat.{ℕ, _<_, _≤_}
 use lib.ListN.{length}
 use borrow.Author.Tests.{le-leb, lt-leb}
 use Rattle.sheet.specs.declared.check.Layout as Code
-use Rattle.sheet.specs.Checked.{accepted, refused}
+use Rattle.checks.specs.Checked.{accepted, refused}
 use Rattle.sheet.specs.Layout.{Layout, checked}
-use Rattle.sheet.specs.Checking.{mapped, layoutOf}
+use Rattle.checks.specs.Checked.{mapped}
+use Rattle.sheet.specs.Checking.{layoutOf}
 use Rattle.sheet.specs.Survey.{surveyedBy, surveyed}
-use Rattle.sheet.proofs.Checks.{mapped-accepted, mapped-refused}
-use Rattle.verdicts.specs.Answer.{wordsNeeded}
-use Rattle.verdicts.specs.Judged.{refusal, answered, judgedBy, judged}
-use Rattle.verdicts.proofs.Accepted.{judged-by-room}
+use Rattle.checks.proofs.Checks.{mapped-accepted, mapped-refused}
+use Rattle.answers.specs.Answer.{wordsNeeded}
+use Rattle.answers.specs.Judged.{refusal, answered, judgedBy, judged}
+use Rattle.answers.proofs.Accepted.{judged-by-room}
 use Rattle.engine.specs.Lines.{foundBy, found, Accepting}
 
 accepting-here : (s distances : List ℕ) (layout : Code.Layout) → mapped layoutOf (checked s (length distances)) ≡ accepted layout

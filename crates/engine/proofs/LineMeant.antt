@@ -7,18 +7,19 @@ use lib.ListN.{length}
 use Rattle.words.specs.Rows.{rows}
 use Rattle.words.proofs.Rows.{rows-ext}
 use Rattle.logic.specs.Margin.{marginLattice}
-use Rattle.logic.specs.Network.{Network, joined, within}
-use Rattle.logic.specs.Formulas.{Operator, True, AtLeast, AtMost, Not, And, Until, Somewhere, Surrounded, Or, Eventually, Always, Everywhere, Line, lineIn, lengthOf, Recording, InBits}
+use Rattle.network.specs.Network.{Network, joined, within}
+use Rattle.formulas.specs.Formulas.{Operator, True, AtLeast, AtMost, Not, And, Until, Somewhere, Surrounded, Or, Eventually, Always, Everywhere, Line, lineIn, lengthOf, Recording, InBits}
 use Rattle.logic.specs.Table.{Signal, verdicts, margins, value, valueAt}
-use Rattle.logic.specs.Counts.{count, sumBelow, mostBelow, roundsAt}
+use Rattle.counting.specs.Totals.{count, sumBelow, mostBelow}
+use Rattle.logic.specs.Counts.{roundsAt}
 use Rattle.logic.proofs.Keeps.{same-kept, masked-kept}
 use Rattle.logic.proofs.Rounds.{rounds-same}
-use Rattle.logic.proofs.TableKeeps.{ConstantsIn}
-use Rattle.logic.proofs.Totals.{sum-same, most-same}
-use Rattle.sheet.specs.GoodLines.{lengthsOf, Sound, GoodTable}
+use Rattle.formulas.specs.Formulas.{ConstantsIn}
+use Rattle.counting.proofs.Totals.{sum-same, most-same}
+use Rattle.lines.specs.GoodLines.{lengthsOf, Sound, GoodTable}
 use Rattle.values.specs.Chain.{chains, chainWord, chainVerdict, chainMargin}
 use Rattle.values.proofs.ChainTable.{chains-margin, chains-verdict}
-use Rattle.verdicts.specs.Answer.{wordFor}
+use Rattle.answers.specs.Answer.{wordFor}
 use Rattle.verdicts.proofs.LineValues.{operands-same, value-step}
 use Rattle.engine.proofs.EarlierLines.{word-meant}
 

@@ -7,15 +7,15 @@ use Prim.Native.Nat.{ℕ, _+_, _*_, _≤_, _<_, _^_}
 use native.Mathlib.Nat.{mul-le-mul-right}
 use native.Mathlib.Omega.{arith}
 use lib.ListN.{length, getD}
-use Rattle.logic.specs.Formulas as Formulas
+use Rattle.formulas.specs.Formulas as Formulas
 use Rattle.logic.specs.Counts.{roundsAt}
 use Rattle.sheet.specs.declared.check.Layout.{Layout}
-use Rattle.sheet.specs.declared.operator.Bounds.{Bounds}
-use Rattle.sheet.specs.declared.operator.Operator.{Operator}
-use Rattle.sheet.specs.declared.operator.Operator.the-variants.{True, AtLeast, AtMost, Not, And, Until, Somewhere, Surrounded, Or, Eventually, Always, Everywhere}
-use Rattle.sheet.specs.declared.line.Line.{Line}
-use Rattle.sheet.specs.Decoding.{operatorSaid, lineSaid}
-use Rattle.sheet.specs.GoodLines.{Sound}
+use Rattle.lines.specs.declared.operator.Bounds.{Bounds}
+use Rattle.lines.specs.declared.operator.Operator.{Operator}
+use Rattle.lines.specs.declared.operator.Operator.the-variants.{True, AtLeast, AtMost, Not, And, Until, Somewhere, Surrounded, Or, Eventually, Always, Everywhere}
+use Rattle.lines.specs.declared.line.Line.{Line}
+use Rattle.lines.specs.Decoding.{operatorSaid, lineSaid}
+use Rattle.lines.specs.GoodLines.{Sound}
 use Rattle.verdicts.specs.Writing.{lineValue, lineRounds, Written, Readable}
 use Rattle.verdicts.specs.declared.around.Around.{Around}
 use Rattle.verdicts.specs.declared.around.Around.the-variants.{Surround, Range}

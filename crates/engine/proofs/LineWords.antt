@@ -9,17 +9,17 @@ use lib.Seq.{take-at}
 use Rattle.words.specs.Rows.{rows, put}
 use Rattle.words.proofs.Puts.{length-front, put-append, put-one}
 use Rattle.words.proofs.Rows.{rows-ext}
-use Rattle.logic.specs.Counts.{count, sumBelow}
-use Rattle.logic.proofs.Totals.{sum-same, most-same, most-none}
+use Rattle.counting.specs.Totals.{count, sumBelow}
+use Rattle.counting.proofs.Totals.{sum-same, most-same, most-none}
 use Rattle.sheet.specs.declared.check.Layout.{Layout}
-use Rattle.sheet.specs.declared.line.Line.{Line}
-use Rattle.sheet.specs.Decoding.{operatorSaid, lineSaid}
+use Rattle.lines.specs.declared.line.Line.{Line}
+use Rattle.lines.specs.Decoding.{operatorSaid, lineSaid}
 use Rattle.values.specs.Chain.{chainWord, chainVerdict}
 use Rattle.verdicts.specs.Writing.{lineValue, lineRounds}
 use Rattle.verdicts.specs.declared.tally.Tally.{Tally}
 use Rattle.verdicts.specs.declared.around.Around.{Around}
 use Rattle.verdicts.specs.Around.{aroundValue, aroundRounds, SamplesWritten, AroundWritten}
-use Rattle.verdicts.specs.Answer.{firstWord}
+use Rattle.answers.specs.Answer.{firstWord}
 use Rattle.engine.specs.Line.{wordsUpTo, valueHere, roundsHere, LineWritten}
 
 module _ (answer : List ℕ) (to : ℕ) (line : Line) {first : List ℕ} (room : to < length answer) (put-first : first ≡ set answer to (firstWord (lineSaid line))) where

@@ -10,25 +10,26 @@ use lib.ListN.{length, getD, set, take, replicate, length-append, length-set, le
 use lib.Seq.{length-take-le, getD-set-same, getD-set-other}
 use Rattle.words.specs.Rows.{concat, put}
 use Rattle.words.proofs.Puts.{put-nil, length-put, put-append}
-use Rattle.logic.specs.Formulas.{Line, lineIn, InBits}
+use Rattle.formulas.specs.Formulas.{Line, lineIn, InBits}
 use Rattle.logic.specs.Table.{verdicts, margins, valueAt}
-use Rattle.logic.specs.Counts.{count, sumBelow, mostBelow, roundsAt, greatestRounds, yesCount}
-use Rattle.logic.proofs.Tests.{below}
-use Rattle.logic.proofs.TableKeeps.{ConstantsIn}
-use Rattle.logic.proofs.Totals.{sum-more, sum-bound, table-yes-bound, most-more}
+use Rattle.counting.specs.Totals.{count, sumBelow, mostBelow}
+use Rattle.logic.specs.Counts.{roundsAt, greatestRounds, yesCount}
+use Rattle.counting.proofs.Tests.{below}
+use Rattle.formulas.specs.Formulas.{ConstantsIn}
+use Rattle.counting.proofs.Totals.{sum-more, sum-bound, table-yes-bound, most-more}
 use Rattle.sheet.specs.declared.check.Layout as Code
-use Rattle.sheet.specs.Limits.{mostPlaces, mostSamples, mostLines}
-use Rattle.sheet.specs.GoodLines.{lengthsOf}
+use Rattle.checks.specs.Limits.{mostPlaces, mostSamples, mostLines}
+use Rattle.lines.specs.GoodLines.{lengthsOf}
 use Rattle.sheet.specs.Layout.{Layout}
-use Rattle.sheet.specs.Roads.{network, recording}
-use Rattle.sheet.proofs.AcceptedLines.{good-length, good-constants}
+use Rattle.sheet.specs.Recording.{network, recording}
+use Rattle.lines.proofs.AcceptedLines.{good-length, good-constants}
 use Rattle.values.specs.Chain.{chains, Valid}
 use Rattle.values.proofs.ChainTable.{chains-valid}
 use Rattle.verdicts.specs.declared.tally.Tally.{Tally}
 use Rattle.verdicts.specs.Tally.{together}
-use Rattle.verdicts.specs.Answer.{lineIndex, firstWord, lineWords}
+use Rattle.answers.specs.Answer.{lineIndex, firstWord, lineWords}
 use Rattle.verdicts.specs.Writing.{sheetNetwork, sheetRecording, earlier, lineValue, lineRounds}
-use Rattle.verdicts.proofs.AnswerWords.{lines-size, sizes-below}
+use Rattle.answers.proofs.AnswerWords.{lines-size, sizes-below}
 use Rattle.verdicts.proofs.Points.{sheet-bits}
 use Rattle.engine.specs.Line.{LineReady, LineWritten, wordsUpTo, valueHere, roundsHere}
 use Rattle.engine.specs.Lines.{found, Accepting, LinesWritten}

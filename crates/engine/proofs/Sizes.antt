@@ -5,16 +5,16 @@ use Prim.Native.Nat.{ℕ, _+_, _^_, _<_, _≤_}
 use native.Mathlib.Omega.{arith}
 use lib.ListN.{length}
 use Rattle.words.specs.Rows.{concat}
-use Rattle.logic.specs.Network.{Network}
-use Rattle.logic.specs.Formulas.{Line, Recording}
+use Rattle.network.specs.Network.{Network}
+use Rattle.formulas.specs.Formulas.{Line, Recording}
 use Rattle.sheet.specs.declared.check.Layout as Code
-use Rattle.sheet.specs.Limits.{mostPlaces, mostLines, mostSamples}
+use Rattle.checks.specs.Limits.{mostPlaces, mostLines, mostSamples}
 use Rattle.sheet.specs.Layout.{Layout}
 use Rattle.sheet.proofs.Whole.{accepted-sheet}
-use Rattle.verdicts.specs.Answer.{lineIndex, lineWords}
-use Rattle.verdicts.proofs.AnswerWords.{lines-size}
-use Rattle.verdicts.proofs.WholeAnswer.{InAnswer, index-bound}
-use Rattle.verdicts.proofs.Accepted.{sizes}
+use Rattle.answers.specs.Answer.{lineIndex, lineWords}
+use Rattle.answers.proofs.AnswerWords.{lines-size}
+use Rattle.answers.proofs.WholeAnswer.{InAnswer, index-bound}
+use Rattle.answers.proofs.Accepted.{sizes}
 use Rattle.engine.specs.Lines.{found, Accepting}
 
 -- behind the head, the words of the first k lines end where line k begins

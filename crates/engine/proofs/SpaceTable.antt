@@ -7,19 +7,19 @@ use Prim.Native.Nat.{ℕ, _<_, _^_}
 use lib.ListN.{getD}
 use Rattle.logic.specs.Lattice.{Lattice, verdictLattice}
 use Rattle.logic.specs.Margin.{marginLattice}
-use Rattle.logic.specs.Network.{joined, within}
+use Rattle.network.specs.Network.{joined, within}
 use Rattle.logic.specs.Surround.{holds, boundary, allowed, regionValue, surround}
 use Rattle.logic.specs.Iteration.{masked}
-use Rattle.logic.specs.Formulas.{Surrounded}
+use Rattle.formulas.specs.Formulas.{Surrounded}
 use Rattle.logic.specs.Table.{surroundAt, value}
 use Rattle.logic.specs.Counts.{roundsAt}
 use Rattle.logic.proofs.Keeps.{same-kept, least-kept, region-kept}
 use Rattle.logic.proofs.Rounds.{rounds-same}
 use Rattle.sheet.specs.declared.check.Layout.{Layout}
-use Rattle.sheet.specs.declared.operator.Bounds.{Bounds}
-use Rattle.sheet.specs.declared.operator.Operator.{Operator}
-use Rattle.sheet.specs.declared.operator.Operator.the-variants.{Somewhere, Everywhere}
-use Rattle.sheet.specs.Decoding.{operatorSaid}
+use Rattle.lines.specs.declared.operator.Bounds.{Bounds}
+use Rattle.lines.specs.declared.operator.Operator.{Operator}
+use Rattle.lines.specs.declared.operator.Operator.the-variants.{Somewhere, Everywhere}
+use Rattle.lines.specs.Decoding.{operatorSaid}
 use Rattle.values.specs.Chain.{chainLattice, chainMargin}
 use Rattle.values.specs.Signals.{inTable}
 use Rattle.spatial.specs.Lanes.{joinedBy, surroundValue, surroundRounds}

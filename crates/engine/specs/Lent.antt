@@ -4,8 +4,8 @@ use Prim.Native.Nat.{ℕ}
 use lib.ListN.{length}
 use Rattle.words.specs.Bytes.{wordsOf, numbersOf}
 use Rattle.sheet.specs.Layout.{Layout}
-use Rattle.verdicts.specs.Answer.{wordsNeeded}
-use Rattle.verdicts.specs.Judged.{Judged, answered, judged}
+use Rattle.answers.specs.Answer.{wordsNeeded}
+use Rattle.answers.specs.Judged.{Judged, answered, judged}
 use Rattle.engine.specs.Lines.{found}
 
 module _ (sheet distances : List ℕ) where

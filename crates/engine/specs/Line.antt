@@ -4,15 +4,15 @@ use mathlib.Core.List.{List, [], _∷_, _++_}
 use Prim.Native.Nat.{ℕ, _+_, _*_, _<_, _≤_}
 use lib.ListN.{length, getD, take}
 use Rattle.words.specs.Rows.{rows, put}
-use Rattle.logic.specs.Counts.{count, sumBelow, mostBelow}
-use Rattle.logic.specs.Formulas.{Line}
+use Rattle.counting.specs.Totals.{count, sumBelow, mostBelow}
+use Rattle.formulas.specs.Formulas.{Line}
 use Rattle.sheet.specs.declared.check.Layout.{Layout}
-use Rattle.sheet.specs.GoodLines.{GoodLine}
+use Rattle.lines.specs.GoodLines.{GoodLine}
 use Rattle.values.specs.Chain.{chainWord, chainVerdict, Valid}
 use Rattle.values.specs.Signals.{signalIn}
 use Rattle.spatial.specs.Steps.{RoadsIn}
 use Rattle.verdicts.specs.declared.tally.Tally.{Tally}
-use Rattle.verdicts.specs.Answer.{firstWord}
+use Rattle.answers.specs.Answer.{firstWord}
 use Rattle.verdicts.specs.Writing.{lineValue, lineRounds, Surveyed}
 
 -- the sheet is surveyed, and the signals of the earlier lines stand in the words, as chain numbers that can arise

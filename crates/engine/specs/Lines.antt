@@ -6,12 +6,13 @@ use lib.ListN.{length}
 use Rattle.words.specs.Rows.{concat, padded, put}
 use Rattle.logic.specs.Counts.{greatestRounds, yesCount}
 use Rattle.sheet.specs.declared.check.Layout as Code
-use Rattle.sheet.specs.Checked.{Checked, accepted, refused}
+use Rattle.checks.specs.Checked.{Checked, accepted, refused}
 use Rattle.sheet.specs.Layout.{Layout, checked}
-use Rattle.sheet.specs.Roads.{network, recording, distanceTable}
+use Rattle.roads.specs.Roads.{distanceTable}
+use Rattle.sheet.specs.Recording.{network, recording}
 use Rattle.sheet.specs.Checking.{layoutOf}
 use Rattle.verdicts.specs.declared.tally.Tally.{Tally}
-use Rattle.verdicts.specs.Answer.{lineIndex, lineWords, answerWords}
+use Rattle.answers.specs.Answer.{lineIndex, lineWords, answerWords}
 
 abbrev pub foundBy : Checked Layout → Layout
 foundBy (accepted L) = L

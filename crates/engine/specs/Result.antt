@@ -1,5 +1,5 @@
 -- The result's five numbers, as the engine hands them over.
-use Rattle.verdicts.specs.Judged as J
+use Rattle.answers.specs.Judged as J
 use Rattle.engine.specs.declared.Result.{Result}
 
 abbrev pub resultSaid : Result → J.Result

@@ -3,8 +3,8 @@ use mathlib.Core.Bool.{true, false}
 use mathlib.Core.List.{List}
 use Prim.Native.Nat.{ℕ, _<_}
 use lib.ListN.{length, getD}
-use Rattle.sheet.specs.declared.operator.Operator.{Operator}
-use Rattle.sheet.specs.declared.operator.Operator.the-variants.{True, AtLeast, AtMost, Not, And, Until, Somewhere, Surrounded, Or, Eventually, Always, Everywhere}
+use Rattle.lines.specs.declared.operator.Operator.{Operator}
+use Rattle.lines.specs.declared.operator.Operator.the-variants.{True, AtLeast, AtMost, Not, And, Until, Somewhere, Surrounded, Or, Eventually, Always, Everywhere}
 use Rattle.verdicts.specs.declared.around.Around.the-variants.{Surround, Range}
 use Rattle.engine.specs.declared.line.Way.{Way}
 use Rattle.engine.specs.declared.line.Way.the-variants.{Rows, Blocks}

@@ -7,7 +7,7 @@ ghost use Prim.Native.Nat.{_+_, _*_, _^_, _≤_};
 ghost use lib.ListN.{length, replicate};
 ghost use Rattle.words.specs.Bytes.{wordsOf, numbersOf, afterWords};
 ghost use Rattle.words.specs.Word.{wordOf};
-ghost use Rattle.sheet.specs.Limits.{mostPlaces, mostLines, mostSamples};
+ghost use Rattle.checks.specs.Limits.{mostPlaces, mostLines, mostSamples};
 ghost use Rattle.engine.specs.Lines.{Accepting, AnswerWritten};
 ghost use Rattle.engine.specs.Lent.{foundIn, neededIn};
 

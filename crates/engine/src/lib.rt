@@ -67,7 +67,7 @@ pub fn judge(sheet: &[u8], distances: &mut [u8], answer: &mut [u8]) -> Result
     match survey(sheet, distances) {
         Check::Refused(fault, place) => {
             words::fill_zero(answer);
-            refusal(sheet::fault::number(fault), place)
+            refusal(checks::fault::number(fault), place)
         }
         Check::Accepted(layout) => {
             if words::word_count(answer) < words_needed(sheet, layout, distances) {

@@ -1,7 +1,7 @@
 // One line of the answer: its first word, and its verdicts, sample by sample or, over space, in blocks of samples.
+use lines::line::Line;
+use lines::operator::Operator;
 use sheet::check::Layout;
-use sheet::line::Line;
-use sheet::operator::Operator;
 use verdicts::around::Around;
 use verdicts::around::write_around;
 use verdicts::row::write_rows;
@@ -10,7 +10,7 @@ ghost use mathlib.Core.Path.{_≡_};
 ghost use Prim.Native.Nat.{_+_, _*_, _≤_};
 ghost use lib.ListN.{length};
 ghost use Rattle.words.specs.Bytes.{wordsOf, numbersOf};
-ghost use Rattle.sheet.specs.Decoding.{lineSaid};
+ghost use Rattle.lines.specs.Decoding.{lineSaid};
 ghost use Rattle.engine.specs.Way.{Known, wayOf};
 ghost use Rattle.engine.specs.Line.{LineReady, LineWritten, wordsUpTo};
 

@@ -1,15 +1,15 @@
 // The lines of an accepted sheet, decoded again one after the other: how many words their answer needs, and their verdicts.
 use crate::line::write_line;
+use checks::limits::MOST_LINES;
+use lines::line::Decoded;
+use lines::line::decode_line;
 use sheet::check::Layout;
-use sheet::limits::MOST_LINES;
-use sheet::line::Decoded;
-use sheet::line::decode_line;
 use verdicts::tally::Tally;
 ghost use mathlib.Core.Path.{_≡_};
 ghost use Prim.Native.Nat.{_≤_};
 ghost use lib.ListN.{length};
 ghost use Rattle.words.specs.Bytes.{wordsOf, numbersOf};
-ghost use Rattle.verdicts.specs.Answer.{lineIndex};
+ghost use Rattle.answers.specs.Answer.{lineIndex};
 ghost use Rattle.engine.specs.Lines.{Accepting, LinesWritten};
 ghost use Rattle.engine.specs.Lent.{foundIn, neededIn};
 

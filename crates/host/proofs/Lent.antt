@@ -6,7 +6,7 @@ use mathlib.Core.List.{List}
 use lib.ListN.{length}
 use lib.Dec.{eqb}
 use borrow.Author.Tests.{eqb-true}
-use Rattle.sheet.proofs.Tests.{and-true}
+use Rattle.checks.proofs.Tests.{and-true}
 use Rattle.engine.specs.Lent.{judgedIn}
 use Rattle.host.specs.Host.{resultSize, lentWhole, inBytes, notWhole, hostJudged}
 

@@ -6,7 +6,7 @@ use mathlib.Core.List.{List, [], _∷_}
 use lib.Dec.{leb, eqb}
 use lib.ListN.{length, replicate}
 use Rattle.words.specs.Bytes.{wordsOf, bytesOf, halvesOf}
-use Rattle.verdicts.specs.Judged.{Result, Judged, refusal, judged}
+use Rattle.answers.specs.Judged.{Result, Judged, refusal, judged}
 use Rattle.lookup.specs.Lookup.{lookedUp}
 use Rattle.engine.specs.Lent.{judgedIn}
 

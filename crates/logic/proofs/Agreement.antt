@@ -11,14 +11,15 @@ use lib.IntN.{ℤ, pos, negsuc, _-ℤ_}
 use lib.Signed.{leZ}
 use Rattle.logic.specs.Lattice.{verdictLattice}
 use Rattle.logic.specs.Margin.{Margin, minusInfinity, finite, plusInfinity, atMost, negate, marginLattice}
-use Rattle.logic.specs.Network.{Network}
-use Rattle.logic.specs.Formulas.{Line, Recording}
+use Rattle.network.specs.Network.{Network}
+use Rattle.formulas.specs.Formulas.{Line, Recording}
 use Rattle.logic.specs.Table.{verdicts, margins, valueAt}
 use Rattle.logic.specs.Steadiness.{Near, Beyond, Agree}
 use Rattle.logic.proofs.Keeps.{Keeps}
 use Rattle.logic.proofs.Order.{Up, le→up, up→le, up-negate, atMost-trans, atMost-total, near}
 use Rattle.logic.proofs.TotalOrder.{meet-by, join-by}
-use Rattle.logic.proofs.TableKeeps.{any-constants, valueAt-kept}
+use Rattle.formulas.proofs.Constants.{any-constants}
+use Rattle.logic.proofs.TableKeeps.{valueAt-kept}
 
 abbrev zeroMargin : Margin
 zeroMargin = finite (pos 0)

@@ -2,11 +2,11 @@
 use mathlib.Core.List.{List}
 use Prim.Native.Nat.{ℕ, _≤_, zero-le}
 use lib.ListN.{length}
-use Rattle.logic.specs.Network.{Network, joined}
-use Rattle.logic.specs.Formulas.{Operator, True, AtLeast, AtMost, Not, And, Until, Somewhere, Surrounded, Or, Eventually, Always, Everywhere, Line, lineIn, Recording}
+use Rattle.network.specs.Network.{Network, joined}
+use Rattle.formulas.specs.Formulas.{Operator, True, AtLeast, AtMost, Not, And, Until, Somewhere, Surrounded, Or, Eventually, Always, Everywhere, Line, lineIn, Recording}
 use Rattle.logic.specs.Table.{Signal, margins, valueAt}
 use Rattle.logic.specs.Counts.{roundsAt, greatestRounds}
-use Rattle.logic.proofs.Totals.{most-le}
+use Rattle.counting.proofs.Totals.{most-le}
 use Rattle.logic.proofs.Rounds.{rounds-bound}
 
 rounds-at : (N : Network) → 1 ≤ N.places → (line : ℕ → Signal margins) (o : Operator) (t l : ℕ) → roundsAt N line o t l ≤ N.places

@@ -9,8 +9,8 @@ use lib.ListN.{getD}
 use lib.IntN.{ℤ, pos}
 use Rattle.logic.specs.Lattice.{leastOver, greatestOver}
 use Rattle.logic.specs.Margin.{finite}
-use Rattle.logic.specs.Distance.{dist, none, direct, distance}
-use Rattle.logic.specs.Network.{Network, joined, distanceIn, within}
+use Rattle.network.specs.Distance.{dist, none, direct, distance}
+use Rattle.network.specs.Network.{Network, joined, distanceIn, within}
 use Rattle.logic.specs.Surround.{greatestRegion, boundary, allowed, regionValue, surround}
 use Rattle.logic.specs.Table.{Signal, margins, surroundAt}
 

@@ -1,7 +1,5 @@
-pub mod Tests
+pub mod Quantifiers
 pub mod Regions
-pub mod Lists
-pub mod Totals
 pub mod Keeps
 pub mod Unbounded
 pub mod Resting
@@ -13,8 +11,6 @@ pub mod Order
 pub mod TotalOrder
 pub mod Margins
 pub mod Monotone
-pub mod Distances
-pub mod Reach
 pub mod Limit
 pub mod Rounds
 pub mod TableKeeps

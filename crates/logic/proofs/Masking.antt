@@ -5,7 +5,8 @@ use Prim.Native.Nat.{ℕ}
 use Rattle.logic.specs.Lattice.{Lattice, verdictLattice, leastOver}
 use Rattle.logic.specs.Surround.{holds, greatestRegion, allowed, regionValue, surround}
 use Rattle.logic.specs.Iteration.{masked}
-use Rattle.logic.proofs.Tests.{bool-ext, and-i, and-l, and-r, when-e, when-i, all-e, all-i}
+use Rattle.counting.proofs.Tests.{bool-ext, and-i, and-l, and-r, when-e, when-i}
+use Rattle.logic.proofs.Quantifiers.{all-e, all-i}
 use Rattle.logic.proofs.Keeps.{surround-kept, masked-kept}
 use Rattle.logic.proofs.Thresholds.{Apart, Reads}
 use Rattle.logic.proofs.Unbounded.{unboundedSurround, unbounded-kept}

@@ -8,7 +8,7 @@ use native.Mathlib.Nat.{not-suc-le-zero, le-of-suc-le-suc}
 use lib.Dec.{T}
 use Rattle.logic.specs.Lattice.{verdictLattice}
 use Rattle.logic.specs.Surround.{holds, greatestRegion}
-use Rattle.logic.proofs.Tests.{or-l, or-r, or-e}
+use Rattle.counting.proofs.Tests.{or-l, or-r, or-e}
 
 -- the region of the places that pass A
 abbrev pub region : ℕ → (ℕ → Bool) → List Bool

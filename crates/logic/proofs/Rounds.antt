@@ -8,7 +8,8 @@ use lib.Dec.{T, T-not}
 use Rattle.logic.specs.Margin.{Margin, atMost, marginLattice}
 use Rattle.logic.specs.Surround.{surround}
 use Rattle.logic.specs.Iteration.{iterate, masked, first, atRest, rounds}
-use Rattle.logic.proofs.Tests.{and-l, and-r, and-i, all-e, all-i}
+use Rattle.counting.proofs.Tests.{and-l, and-r, and-i}
+use Rattle.logic.proofs.Quantifiers.{all-e, all-i}
 use Rattle.logic.proofs.Keeps.{same-kept, iterate-kept}
 use Rattle.logic.proofs.Resting.{Rests, rests-on}
 use Rattle.logic.proofs.Order.{atMost-anti}

@@ -4,13 +4,14 @@ use Prim.Native.Nat.{ℕ, zero, suc, _-_, _<_, _≤_, _^_}
 use native.Mathlib.Omega.{arith}
 use lib.IntN.{ℤ, pos, negsuc, natAbs, _-ℤ_}
 use Rattle.logic.specs.Margin.{Margin, minusInfinity, finite, plusInfinity, atMost, negate, marginLattice}
-use Rattle.logic.specs.Network.{Network}
-use Rattle.logic.specs.Formulas.{Line, Recording, InBits}
+use Rattle.network.specs.Network.{Network}
+use Rattle.formulas.specs.Formulas.{Line, Recording, InBits}
 use Rattle.logic.specs.Table.{margins, valueAt}
 use Rattle.logic.proofs.Keeps.{Keeps}
 use Rattle.logic.proofs.Order.{UpZ, nearZ, atMost-trans, atMost-total}
 use Rattle.logic.proofs.TotalOrder.{each-kept}
-use Rattle.logic.proofs.TableKeeps.{ConstantsIn, valueAt-kept}
+use Rattle.formulas.specs.Formulas.{ConstantsIn}
+use Rattle.logic.proofs.TableKeeps.{valueAt-kept}
 
 abbrev pub Small : Margin → Type 0
 Small minusInfinity = Unit {0}

@@ -5,12 +5,13 @@ use mathlib.Core.List.{List}
 use Prim.Native.Nat.{ℕ, _≤_, _<_}
 use lib.IntN.{ℤ, negℤ, natAbs, _-ℤ_, negℤ-+ℤ, negℤ-negℤ, +ℤ-assoc, +ℤ-comm, +ℤ-invl, +ℤ-idl}
 use Rattle.logic.specs.Margin.{finite}
-use Rattle.logic.specs.Network.{Network}
-use Rattle.logic.specs.Formulas.{Line, Recording}
+use Rattle.network.specs.Network.{Network}
+use Rattle.formulas.specs.Formulas.{Line, Recording}
 use Rattle.logic.specs.Table.{verdicts, margins, valueAt}
 use Rattle.logic.specs.Steadiness.{Near, SteadyVerdicts}
 use Rattle.logic.proofs.Margins.{near-kept, near-negate}
-use Rattle.logic.proofs.TableKeeps.{any-constants, valueAt-kept}
+use Rattle.formulas.proofs.Constants.{any-constants}
+use Rattle.logic.proofs.TableKeeps.{valueAt-kept}
 use Rattle.logic.proofs.Agreement.{agreement, same-verdict}
 
 -- the two atoms: a constant taken away from both, or both from it, leaves them as far apart

@@ -4,48 +4,12 @@ use mathlib.Core.List.{List, [], _∷_}
 use Prim.Native.Nat.{ℕ, suc, _+_, _<_}
 use lib.Dec.{leb}
 use lib.IntN.{ℤ, _-ℤ_}
-use Rattle.logic.specs.Network.{Network, joined, within}
-use Rattle.logic.specs.Formulas.{Operator, True, AtLeast, AtMost, Not, And, Until, Somewhere, Surrounded, Or, Eventually, Always, Everywhere, Line, Recording}
+use Rattle.network.specs.Network.{Network, joined, within}
+use Rattle.formulas.specs.Formulas.{Operator, True, AtLeast, AtMost, Not, And, Until, Somewhere, Surrounded, Or, Eventually, Always, Everywhere, Line, Recording, ConstantIn, ConstantsIn}
 use Rattle.logic.specs.Table.{Reading, Signal, untilAt, somewhereAt, surroundAt, value, valuesAfter, valueAt}
-use Rattle.logic.proofs.Lists.{Each, All, none, more, each-append, each-at}
+use Rattle.counting.specs.Lists.{Each, none, more}
+use Rattle.counting.proofs.Lists.{each-append, each-at}
 use Rattle.logic.proofs.Keeps.{Keeps, least-kept, greatest-kept, surround-kept}
-
--- what is asked of the constant of an atom
-abbrev pub ConstantIn : (ℤ → Type 0) → Operator → Type 0
-ConstantIn Fit True = Unit {0}
-ConstantIn Fit (AtLeast s c) = Fit c
-ConstantIn Fit (AtMost s c) = Fit c
-ConstantIn Fit (Not i) = Unit {0}
-ConstantIn Fit (And i j) = Unit {0}
-ConstantIn Fit (Until i j lower upper) = Unit {0}
-ConstantIn Fit (Somewhere i lower upper) = Unit {0}
-ConstantIn Fit (Surrounded i j lower upper) = Unit {0}
-ConstantIn Fit (Or i j) = Unit {0}
-ConstantIn Fit (Eventually i lower upper) = Unit {0}
-ConstantIn Fit (Always i lower upper) = Unit {0}
-ConstantIn Fit (Everywhere i lower upper) = Unit {0}
-
-abbrev pub ConstantsIn : (ℤ → Type 0) → List Line → Type 0
-ConstantsIn Fit lines = All (λ (line : Line). ConstantIn Fit (line .operator)) lines
-
--- any constant is any constant
-any-constant : (o : Operator) → ConstantIn (λ _. Unit {0}) o
-any-constant True = tt
-any-constant (AtLeast s c) = tt
-any-constant (AtMost s c) = tt
-any-constant (Not i) = tt
-any-constant (And i j) = tt
-any-constant (Until i j lower upper) = tt
-any-constant (Somewhere i lower upper) = tt
-any-constant (Surrounded i j lower upper) = tt
-any-constant (Or i j) = tt
-any-constant (Eventually i lower upper) = tt
-any-constant (Always i lower upper) = tt
-any-constant (Everywhere i lower upper) = tt
-
-pub any-constants : (lines : List Line) → ConstantsIn (λ _. Unit {0}) lines
-any-constants [] = none
-any-constants (line ∷ lines) = more (any-constant (line .operator)) (any-constants lines)
 
 module _ (R M : Reading) (N : Network) (Rel : R.lattice.Value → M.lattice.Value → Type 0) (K : Keeps R.lattice M.lattice Rel) where
   -- two signals related at every sample and place

@@ -6,7 +6,7 @@ use Prim.Native.Nat.{ℕ, suc, _<_, _≤_}
 use lib.Dec.{T}
 use Rattle.logic.specs.Lattice.{Lattice, verdictLattice}
 use Rattle.logic.specs.Iteration.{iterate}
-use Rattle.logic.proofs.Tests.{bool-ext}
+use Rattle.counting.proofs.Tests.{bool-ext}
 use Rattle.logic.proofs.VerdictLimit.{limit, step-e}
 use Rattle.logic.proofs.Settling.{settles}
 use Rattle.logic.proofs.Keeps.{Keeps, iterate-kept}

@@ -4,7 +4,7 @@ use mathlib.Core.Logic.{_⊎_, ⊎-elim}
 use mathlib.Core.Bool.{Bool, true, false, not, cond, _&&_, _||_}
 use lib.Dec.{T, T-not}
 use Rattle.logic.specs.Lattice.{ordered}
-use Rattle.logic.proofs.Tests.{decT, bool-ext, and-i, and-l, and-r, or-l, or-r, or-e}
+use Rattle.counting.proofs.Tests.{decT, bool-ext, and-i, and-l, and-r, or-l, or-r, or-e}
 use Rattle.logic.proofs.Keeps.{Keeps}
 use Rattle.logic.proofs.Thresholds.{Threshold, Apart}
 

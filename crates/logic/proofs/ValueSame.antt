@@ -3,8 +3,8 @@ use mathlib.Core.Path.{_≡_, refl, ap, ap₂}
 use Prim.Native.Nat.{ℕ, suc, _+_, _-_, _<_, min}
 use native.Mathlib.Omega.{arith}
 use lib.Dec.{leb}
-use Rattle.logic.specs.Network.{Network, joined, within}
-use Rattle.logic.specs.Formulas.{Operator, True, AtLeast, AtMost, Not, And, Until, Somewhere, Surrounded, Or, Eventually, Always, Everywhere, lengthOf, Recording}
+use Rattle.network.specs.Network.{Network, joined, within}
+use Rattle.formulas.specs.Formulas.{Operator, True, AtLeast, AtMost, Not, And, Until, Somewhere, Surrounded, Or, Eventually, Always, Everywhere, lengthOf, Recording}
 use Rattle.logic.specs.Table.{Reading, Signal, untilAt, somewhereAt, surroundAt, opposite, value}
 use Rattle.logic.proofs.Keeps.{same-kept, least-kept, greatest-kept, surround-kept}
 

@@ -8,7 +8,8 @@ use lib.Dec.{T, T-not}
 use Rattle.logic.specs.Lattice.{verdictLattice, leastOver}
 use Rattle.logic.specs.Surround.{holds, boundary, regionValue}
 use Rattle.logic.specs.Iteration.{iterate}
-use Rattle.logic.proofs.Tests.{and-i, and-l, and-r, or-l, or-r, or-e, decT, bool-ext, when-e, when-i, all-e, all-i, some-e, some-i}
+use Rattle.counting.proofs.Tests.{and-i, and-l, and-r, or-l, or-r, or-e, decT, bool-ext, when-e, when-i}
+use Rattle.logic.proofs.Quantifiers.{all-e, all-i, some-e, some-i}
 use Rattle.logic.proofs.Regions.{region, holds-region, region-e, region-i}
 use Rattle.logic.proofs.Unbounded.{unboundedSurround}
 

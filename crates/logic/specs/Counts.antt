@@ -1,26 +1,13 @@
 -- The two counts of a result ("The answer" of document 01): the rounds of the surrounds and the yes verdicts.
-use mathlib.Core.Bool.{Bool, true, false}
 use mathlib.Core.List.{List}
-use Prim.Native.Nat.{ℕ, zero, suc, _+_, max}
+use Prim.Native.Nat.{ℕ}
 use lib.ListN.{length}
+use Rattle.counting.specs.Totals.{mostBelow, sumBelow, count}
 use Rattle.logic.specs.Margin.{marginLattice}
-use Rattle.logic.specs.Network.{Network, joined, within}
+use Rattle.network.specs.Network.{Network, joined, within}
 use Rattle.logic.specs.Iteration.{masked, rounds}
-use Rattle.logic.specs.Formulas.{Operator, True, AtLeast, AtMost, Not, And, Until, Somewhere, Surrounded, Or, Eventually, Always, Everywhere, Line, lineIn, Recording}
+use Rattle.formulas.specs.Formulas.{Operator, True, AtLeast, AtMost, Not, And, Until, Somewhere, Surrounded, Or, Eventually, Always, Everywhere, Line, lineIn, Recording}
 use Rattle.logic.specs.Table.{Signal, verdicts, margins, valueAt}
-
--- the greatest of f below n, 0 for none; and the sum
-unfoldable pub mostBelow : (ℕ → ℕ) → ℕ → ℕ
-mostBelow f zero = 0
-mostBelow f (suc n) = max (mostBelow f n) (f n)
-
-unfoldable pub sumBelow : (ℕ → ℕ) → ℕ → ℕ
-sumBelow f zero = 0
-sumBelow f (suc n) = sumBelow f n + f n
-
-abbrev pub count : Bool → ℕ
-count true = 1
-count false = 0
 
 -- the rounds of one line at one sample and centre: those of the iteration on the masked margins for a surround, 0 for any other line
 unfoldable pub roundsAt : Network → (ℕ → Signal margins) → Operator → ℕ → ℕ → ℕ

@@ -1,10 +1,7 @@
 pub mod Lattice
 pub mod Margin
-pub mod Distance
-pub mod Network
 pub mod Surround
 pub mod Iteration
-pub mod Formulas
 pub mod Table
 pub mod Counts
 pub mod Steadiness

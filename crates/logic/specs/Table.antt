@@ -7,10 +7,10 @@ use lib.Dec.{leb}
 use lib.ListN.{getD}
 use lib.IntN.{ℤ, pos, _-ℤ_}
 use lib.Signed.{leZ}
-use Rattle.logic.specs.Formulas.{Operator, True, AtLeast, AtMost, Not, And, Until, Somewhere, Surrounded, Or, Eventually, Always, Everywhere, Line, Recording}
+use Rattle.formulas.specs.Formulas.{Operator, True, AtLeast, AtMost, Not, And, Until, Somewhere, Surrounded, Or, Eventually, Always, Everywhere, Line, Recording}
 use Rattle.logic.specs.Lattice.{Lattice, verdictLattice, leastOver, greatestOver}
 use Rattle.logic.specs.Margin.{finite, negate, marginLattice}
-use Rattle.logic.specs.Network.{Network, joined, within}
+use Rattle.network.specs.Network.{Network, joined, within}
 use Rattle.logic.specs.Surround.{surround}
 
 pub record Reading : Type 1 where

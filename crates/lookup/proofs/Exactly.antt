@@ -10,8 +10,9 @@ use lib.Dec.{T, ltb, eqb}
 use borrow.Author.Tests.{lt-ltb, le-ltb}
 use Rattle.words.specs.Word.{bits}
 use Rattle.words.proofs.Rows.{in-table}
-use Rattle.logic.proofs.Tests.{and-l, and-r, decT, all-e}
-use Rattle.sheet.specs.Checked.{between, wordAt, isKind}
+use Rattle.counting.proofs.Tests.{and-l, and-r, decT}
+use Rattle.logic.proofs.Quantifiers.{all-e}
+use Rattle.checks.specs.Checked.{between, wordAt, isKind}
 use Rattle.values.specs.Said.{Said, says, nothing, saidBy}
 use Rattle.values.proofs.Naturals.{le-or-lt}
 use Rattle.lookup.specs.Lookup.{isSaid, verdictNumber, all, headPlaces, headLines, headSamples, lineStart, lineLength, wholeHead, wholeLineAt, wholeLine, wholeAnswer, saidAt, lookedUp}

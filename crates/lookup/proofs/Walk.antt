@@ -9,7 +9,8 @@ use native.Mathlib.Numerals.{add-one}
 use native.Mathlib.Omega.{arith}
 use lib.Dec.{T}
 use Rattle.logic.specs.Lattice.{verdictLattice, leastOver}
-use Rattle.logic.proofs.Tests.{bool-ext, all-e, all-i}
+use Rattle.counting.proofs.Tests.{bool-ext}
+use Rattle.logic.proofs.Quantifiers.{all-e, all-i}
 use Rattle.values.specs.Said.{Said, says, nothing}
 use Rattle.lookup.specs.Lookup.{isSaid, verdictNumber, headPlaces, lengthAt, lineStart}
 

@@ -6,8 +6,8 @@ use lib.Dec.{ltb, eqb}
 use lib.ListN.{length}
 use Rattle.words.specs.Word.{bits, payloadOf}
 use Rattle.logic.specs.Lattice.{verdictLattice, leastOver}
-use Rattle.sheet.specs.Limits.{mostPlaces, mostSamples, mostLines}
-use Rattle.sheet.specs.Checked.{between, wordAt, isKind}
+use Rattle.checks.specs.Limits.{mostPlaces, mostSamples, mostLines}
+use Rattle.checks.specs.Checked.{between, wordAt, isKind}
 use Rattle.values.specs.Said.{Said, says, nothing, saidBy}
 
 abbrev pub isSaid : Said → Bool

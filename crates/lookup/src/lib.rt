@@ -1,19 +1,19 @@
 // The lookup: whether bytes hold a whole answer, and the verdict that it has at a line, sample and place. Every slice of bytes is taken: a word
 // that is missing is read as 0, which is no word of an answer up to its end. Lengths and counts are fields of 12 and 8 bits, so even by words
 // that are no answer the index of a line stays below 2^28, and none wraps.
-use sheet::limits::MOST_LINES;
-use sheet::limits::MOST_PLACES;
-use sheet::limits::MOST_SAMPLES;
-use sheet::limits::within;
-use sheet::word::is_end;
-use sheet::word::is_kind;
+use checks::limits::MOST_LINES;
+use checks::limits::MOST_PLACES;
+use checks::limits::MOST_SAMPLES;
+use checks::limits::within;
+use checks::word::is_end;
+use checks::word::is_kind;
 ghost use mathlib.Core.Path.{_≡_};
 ghost use Prim.Native.Nat.{_+_, _*_, _<_, _^_};
 ghost use lib.Dec.{ltb, eqb};
 ghost use lib.ListN.{length};
 ghost use Rattle.words.specs.Bytes.{wordsOf};
 ghost use Rattle.logic.specs.Lattice.{verdictLattice, leastOver};
-ghost use Rattle.sheet.specs.Checked.{wordAt};
+ghost use Rattle.checks.specs.Checked.{wordAt};
 ghost use Rattle.values.specs.Said.{saidBy};
 ghost use Rattle.lookup.specs.Lookup.{isSaid, verdictNumber, all, headPlaces, headLines, headSamples, lengthAt, lineStart, wholeHead, wholeLineAt, wholeLine, wholeEnd, wholeAnswer, saidAt, lookedUp};
 

@@ -4,7 +4,7 @@ ghost use Prim.Native.Nat.{_+_, _*_, _≤_, _<_};
 ghost use lib.ListN.{length, getD};
 ghost use Rattle.words.specs.Word.{sampleOf};
 ghost use Rattle.words.specs.Bytes.{wordsOf};
-ghost use Rattle.logic.specs.Formulas.{InBits};
+ghost use Rattle.formulas.specs.Formulas.{InBits};
 ghost use Rattle.operators.specs.Rows.{RowLeft, atomValue};
 
 // The value of sample i, given the part of a sheet that begins with its samples.

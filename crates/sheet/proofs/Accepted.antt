@@ -9,12 +9,12 @@ use lib.Dec.{leb, eqb}
 use lib.ListN.{length}
 use borrow.Author.Tests.{leb-true, eqb-true}
 use Rattle.words.specs.Word.{bits, payloadOf}
-use Rattle.sheet.specs.Limits.{mostPlaces, mostSignals, mostSamples}
-use Rattle.sheet.specs.Checked.{accepted, require, between, wordAt, isKind}
+use Rattle.checks.specs.Limits.{mostPlaces, mostSignals, mostSamples}
+use Rattle.checks.specs.Checked.{accepted, require, between, wordAt, isKind}
 use Rattle.sheet.specs.Layout.{Sizes, sampleCount, sizesOf, headChecked, samplesFrom, endChecked}
-use Rattle.sheet.specs.Checking.{mapped}
-use Rattle.sheet.proofs.Checks.{same-accepted, require-accepted}
-use Rattle.sheet.proofs.Tests.{and-true}
+use Rattle.checks.specs.Checked.{mapped}
+use Rattle.checks.proofs.Checks.{same-accepted, require-accepted}
+use Rattle.checks.proofs.Tests.{and-true}
 
 -- ---- head
 

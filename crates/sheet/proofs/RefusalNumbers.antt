@@ -4,11 +4,12 @@ use mathlib.Core.List.{List, [], _∷_, _++_}
 use Prim.Native.Nat.{ℕ, zero, suc, _+_}
 use lib.Dec.{T}
 use lib.ListN.{length}
-use Rattle.logic.specs.Formulas.{Line, lineIn}
-use Rattle.sheet.specs.Checked.{Checked, accepted, refused, _>>=_, require, between, isKind}
-use Rattle.sheet.specs.Codes.{Code, constant, atom, unary, binary, unaryBounded, binaryBounded, unknown}
-use Rattle.sheet.specs.Lines.{constantAt, boundsAt, operatorBy, operatorAt, lineAt, linesFrom}
-use Rattle.sheet.specs.Layout.{Layout, headChecked, roadAt, roadChecked, roadsFrom, samplesFrom, endChecked, checked}
+use Rattle.formulas.specs.Formulas.{Line, lineIn}
+use Rattle.checks.specs.Checked.{Checked, accepted, refused, _>>=_, require, between, isKind}
+use Rattle.lines.specs.Codes.{Code, constant, atom, unary, binary, unaryBounded, binaryBounded, unknown}
+use Rattle.lines.specs.Lines.{constantAt, boundsAt, operatorBy, operatorAt, lineAt, linesFrom}
+use Rattle.sheet.specs.Layout.{Layout, headChecked, samplesFrom, endChecked, checked}
+use Rattle.roads.specs.Roads.{roadAt, roadChecked, roadsFrom}
 
 abbrev Number : ℕ → Type 0
 Number k = T (between 1 14 k)

@@ -4,10 +4,11 @@ use mathlib.Core.Path.{_≡_, refl}
 use mathlib.Core.List.{List, [], _∷_, _++_}
 use Prim.Native.Nat.{ℕ}
 use lib.ListN.{replicate}
-use Rattle.sheet.specs.Checked.{Checked, refused, isKind}
-use Rattle.sheet.specs.Codes.{codes}
-use Rattle.sheet.specs.Lines.{constantAt, boundsAt, operatorAt, lineAt, linesFrom}
-use Rattle.sheet.specs.Layout.{Layout, sizesOf, headChecked, roadChecked, roadsFrom, samplesFrom, endChecked, checked}
+use Rattle.checks.specs.Checked.{Checked, refused, isKind}
+use Rattle.lines.specs.Codes.{codes}
+use Rattle.lines.specs.Lines.{constantAt, boundsAt, operatorAt, lineAt, linesFrom}
+use Rattle.sheet.specs.Layout.{Layout, sizesOf, headChecked, samplesFrom, endChecked, checked}
+use Rattle.roads.specs.Roads.{roadChecked, roadsFrom}
 
 -- the check with enough distances lent
 outcome : List ℕ → Checked Layout

@@ -8,14 +8,15 @@ use Prim.Native.Nat.{ℕ, zero, suc, _+_}
 use lib.Dec.{T, eqb, ltb}
 use lib.ListN.{length}
 use Rattle.words.specs.Word.{kindOf, payloadOf}
-use Rattle.logic.specs.Formulas.{Operator, Line, lineIn}
-use Rattle.sheet.specs.Limits.{mostLines}
-use Rattle.sheet.specs.Checked.{Checked, accepted, _>>=_, require, wordAt, isKind}
-use Rattle.sheet.specs.Codes.{Code, constant, atom, unary, binary, unaryBounded, binaryBounded, unknown, codeOf}
-use Rattle.sheet.specs.Lines.{codeField, leftField, rightField, constantAt, boundsAt, operatorBy, operatorAt, lineAt, linesFrom}
-use Rattle.sheet.specs.Layout.{Sizes, Layout, headChecked, roadAt, roadChecked, roadsFrom, sampleCount}
+use Rattle.formulas.specs.Formulas.{Operator, Line, lineIn}
+use Rattle.checks.specs.Limits.{mostLines}
+use Rattle.checks.specs.Checked.{Checked, accepted, _>>=_, require, wordAt, isKind}
+use Rattle.lines.specs.Codes.{Code, constant, atom, unary, binary, unaryBounded, binaryBounded, unknown, codeOf}
+use Rattle.lines.specs.Lines.{codeField, leftField, rightField, constantAt, boundsAt, operatorBy, operatorAt, lineAt, linesFrom}
+use Rattle.sheet.specs.Layout.{Sizes, Layout, headChecked, sampleCount}
+use Rattle.roads.specs.Roads.{roadAt, roadChecked, roadsFrom}
 use Rattle.sheet.specs.Apart.{SamplesApart}
-use Rattle.sheet.proofs.Checks.{same-accepted}
+use Rattle.checks.proofs.Checks.{same-accepted}
 use Rattle.sheet.specs.Checking.{layoutOf}
 use Rattle.sheet.proofs.Whole.{AcceptedSheet}
 

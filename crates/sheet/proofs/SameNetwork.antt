@@ -8,21 +8,21 @@ use native.Mathlib.Nat.{le-of-lt}
 use native.Mathlib.Omega.{arith}
 use lib.Dec.{eqb}
 use lib.ListN.{length}
-use lib.IntN.{ℤ, pos, negsuc, natAbs, _-ℤ_}
+use lib.IntN.{ℤ, natAbs, _-ℤ_, +ℤ-invr}
 use Rattle.words.specs.Word.{payloadOf, sampleOf}
-use Rattle.logic.specs.Distance.{Distance, dist}
-use Rattle.logic.proofs.Order.{nearZ}
-use Rattle.sheet.specs.Checked.{wordAt}
-use Rattle.sheet.specs.Layout.{Layout, roadAt, weightAt, firstPlace, secondPlace}
-use Rattle.sheet.specs.Roads.{GoodRoad, joins, weightAmong, network, recording}
+use Rattle.network.specs.Distance.{Distance, dist}
+use Rattle.checks.specs.Checked.{wordAt}
+use Rattle.sheet.specs.Layout.{Layout}
+use Rattle.roads.specs.Roads.{roadAt, weightAt, firstPlace, secondPlace}
+use Rattle.roads.specs.Roads.{GoodRoad, joins, weightAmong}
+use Rattle.sheet.specs.Recording.{network, recording}
 use Rattle.sheet.specs.Apart.{SamplesApart}
 use Rattle.sheet.proofs.Whole.{AcceptedSheet}
-use Rattle.sheet.proofs.AcceptedRoads.{road-good}
+use Rattle.roads.proofs.AcceptedRoads.{road-good}
 use Rattle.sheet.proofs.SameLayout.{word-same}
 
 itself-near : (d : ℕ) (z : ℤ) → natAbs (z -ℤ z) ≤ d
-itself-near d (pos x) = nearZ d (pos x) (pos x) .1 (omega arith, omega arith)
-itself-near d (negsuc x) = nearZ d (negsuc x) (negsuc x) .1 (omega arith, omega arith)
+itself-near d z = rw (+ℤ-invr z) zero-le
 
 -- the weight of a road, given its two words, where it joins a and b, else what the roads before it say
 abbrev weightOr : ℕ → ℕ → ℕ → ℕ → Distance → Distance

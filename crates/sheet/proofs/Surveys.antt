@@ -1,17 +1,29 @@
--- What a survey leaves, by the outcome of the check.
+-- What an accepted sheet gives the distances, and what a survey leaves, by the outcome of the check.
 use mathlib.Core.Path.{_≡_, ap, subst}
 use mathlib.Core.List.{List}
-use Prim.Native.Nat.{ℕ, _*_, _<_, _≤_}
-use lib.ListN.{replicate}
+use Prim.Native.Nat.{ℕ, _*_, _<_, _≤_, zero-le}
+use native.Mathlib.Nat.{mul-le-mul}
+use native.Mathlib.Omega.{arith}
+use lib.ListN.{length, replicate}
 use Rattle.words.specs.Rows.{padded}
 use Rattle.sheet.specs.declared.check.Layout as F
-use Rattle.sheet.specs.Checked.{accepted, refused}
+use Rattle.checks.specs.Checked.{accepted, refused, mapped}
 use Rattle.sheet.specs.Layout.{Layout, checked}
-use Rattle.sheet.specs.Roads.{GoodRoad, networkOf, network, distanceTable}
-use Rattle.sheet.specs.Checking.{mapped, layoutOf}
+use Rattle.roads.specs.Roads.{GoodRoad, networkOf, distanceTable}
+use Rattle.sheet.specs.Recording.{network}
+use Rattle.sheet.specs.Checking.{layoutOf}
 use Rattle.sheet.specs.Survey.{surveyedBy, surveyed}
-use Rattle.sheet.proofs.Checks.{mapped-accepted, mapped-refused}
-use Rattle.sheet.proofs.AcceptedRoads.{accepted-roads}
+use Rattle.checks.proofs.Checks.{mapped-accepted, mapped-refused}
+use Rattle.roads.proofs.AcceptedRoads.{road-good}
+use Rattle.sheet.proofs.Whole.{accepted-sheet}
+
+-- what an accepted sheet gives the distances: good roads, and room for the distances of all places
+pub accepted-roads : (s : List ℕ) (distances : ℕ) (L : Layout) → checked s distances ≡ accepted L
+    → ((r : ℕ) → r < L.roads → GoodRoad s (L.sizes.places) r) × (L.sizes.places * L.sizes.places ≤ distances)
+accepted-roads s distances L e =
+    let sheet = accepted-sheet s distances L e in
+    let few = sheet .sizes .places-most in
+    (λ r h. road-good s (L.sizes.places) (length s) 0 0 (L.roads) (sheet .roads) r zero-le h, omega (arith, mul-le-mul few few, sheet .distances))
 
 pub record Accepting (s : List ℕ) (room : ℕ) (layout : F.Layout) : Type 0 where
   pub roads : ((r : ℕ) → r < layout .roads → GoodRoad s (layout .places) r) × (layout .places * layout .places ≤ room)

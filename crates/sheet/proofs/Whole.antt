@@ -7,16 +7,19 @@ use native.Mathlib.Omega.{arith}
 use lib.Dec.{leb}
 use lib.ListN.{length}
 use borrow.Author.Tests.{leb-true}
-use Rattle.logic.specs.Formulas.{Line}
+use Rattle.formulas.specs.Formulas.{Line}
 use Rattle.sheet.specs.declared.check.Layout as Code
-use Rattle.sheet.specs.Limits.{mostLines, leastDistances}
-use Rattle.sheet.specs.Checked.{Checked, accepted, refused, _>>=_}
-use Rattle.sheet.specs.Lines.{linesFrom}
-use Rattle.sheet.specs.Layout.{Sizes, Layout, roadAt, sampleCount, headChecked, roadsFrom, samplesFrom, endChecked, checked}
-use Rattle.sheet.specs.Checking.{mapped, lineCount, layoutOf}
-use Rattle.sheet.proofs.Checks.{require-accepted, bind-accepted, mapped-accepted, mapped-refused}
+use Rattle.checks.specs.Limits.{mostLines, leastDistances}
+use Rattle.checks.specs.Checked.{Checked, accepted, refused, _>>=_}
+use Rattle.lines.specs.Lines.{linesFrom}
+use Rattle.sheet.specs.Layout.{Sizes, Layout, sampleCount, headChecked, samplesFrom, endChecked, checked}
+use Rattle.roads.specs.Roads.{roadAt, roadsFrom}
+use Rattle.checks.specs.Checked.{mapped}
+use Rattle.lines.specs.Decoding.{lineCount}
+use Rattle.sheet.specs.Checking.{layoutOf}
+use Rattle.checks.proofs.Checks.{require-accepted, bind-accepted, mapped-accepted, mapped-refused}
 use Rattle.sheet.proofs.Accepted.{SizesWithin, head-accepted, samples-end, end-accepted, end-mapped}
-use Rattle.sheet.proofs.Walk.{first-inside}
+use Rattle.lines.proofs.Walk.{first-inside}
 
 -- ---- the lines and the end, where what stands before them has passed
 

@@ -6,7 +6,7 @@ use mathlib.Core.List.{List}
 use lib.ListN.{length}
 use lib.IntN.{natAbs, _-ℤ_}
 use Rattle.words.specs.Word.{kindOf, sampleOf}
-use Rattle.sheet.specs.Checked.{wordAt}
+use Rattle.checks.specs.Checked.{wordAt}
 
 -- v and w, the words of X and Y at one index: samples at most d apart
 pub record SamplesNear (d v w : ℕ) : Type 0 where

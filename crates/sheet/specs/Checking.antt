@@ -1,25 +1,18 @@
 -- For contracts alone, with nothing of document 01: what the code's answers of the check say, in the terms of `Layout`.
-use Prim.Native.Nat.{ℕ, _+_}
-use mathlib.Core.List.{List}
+use Prim.Native.Nat.{_+_}
 use lib.ListN.{length}
-use Rattle.logic.specs.Formulas.{Line}
 use Rattle.sheet.specs.declared.stages.Sizes as S
 use Rattle.sheet.specs.declared.stages.Head.{Head}
 use Rattle.sheet.specs.declared.stages.Head.the-variants as H
-use Rattle.sheet.specs.declared.stages.Stage.{Stage}
-use Rattle.sheet.specs.declared.stages.Stage.the-variants as P
-use Rattle.sheet.specs.declared.stages.Table.{Table}
-use Rattle.sheet.specs.declared.stages.Table.the-variants as T
+use Rattle.checks.specs.declared.stage.Stage.the-variants as P
+use Rattle.lines.specs.declared.table.Table.the-variants as T
 use Rattle.sheet.specs.declared.check.Layout as F
 use Rattle.sheet.specs.declared.check.Check.{Check}
 use Rattle.sheet.specs.declared.check.Check.the-variants as C
-use Rattle.sheet.specs.Faults.{faultNumber}
-use Rattle.sheet.specs.Checked.{Checked, accepted, refused, _>>=_}
-use Rattle.sheet.specs.Layout.{Sizes, Layout, roadAt, sampleCount}
-
--- what is made of what was accepted
-abbrev pub mapped : {A B : Type 0} → (A → B) → Checked A → Checked B
-mapped f checked = checked >>= λ found. accepted (f found)
+use Rattle.checks.specs.Faults.{faultNumber}
+use Rattle.checks.specs.Checked.{Checked, accepted, refused}
+use Rattle.sheet.specs.Layout.{Sizes, Layout, sampleCount}
+use Rattle.roads.specs.Roads.{roadAt}
 
 -- ---- the parts of a sheet
 
@@ -29,18 +22,6 @@ sizesSaid z = record { places = z .places; signals = z .signals; samples = z .sa
 abbrev pub headSaid : Head → Checked Sizes
 headSaid (H.Sizes z) = accepted (sizesSaid z)
 headSaid (H.Refused fault place) = refused (faultNumber fault) place
-
-abbrev pub stageSaid : Stage → Checked ℕ
-stageSaid (P.Passed x) = accepted x
-stageSaid (P.Refused fault place) = refused (faultNumber fault) place
-
-abbrev pub tableSaid : Table → Checked (ℕ × ℕ)
-tableSaid (T.Lines lines next) = accepted (lines, next)
-tableSaid (T.Refused fault place) = refused (faultNumber fault) place
-
--- of the lines that were read the code keeps their count
-abbrev pub lineCount : List Line × ℕ → ℕ × ℕ
-lineCount found = (length (found .0), found .1)
 
 -- ---- the whole sheet
 

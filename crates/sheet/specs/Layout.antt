@@ -1,14 +1,14 @@
 -- The check of a whole sheet, front to back: head, roads, samples, lines, end ("The sheet" and "Where a sheet is turned back").
 use Prim.Native.Nat.{ℕ, zero, suc, _+_, _*_}
-use mathlib.Core.Bool.{true, false, _&&_}
+use mathlib.Core.Bool.{_&&_}
 use mathlib.Core.List.{List, []}
-use lib.Dec.{ltb, leb, eqb}
+use lib.Dec.{leb, eqb}
 use lib.ListN.{length}
 use Rattle.words.specs.Word.{bits, payloadOf}
-use Rattle.logic.specs.Formulas.{Line}
-use Rattle.sheet.specs.Limits.{mostPlaces, mostSignals, mostSamples, mostLines, leastDistances}
-use Rattle.sheet.specs.Checked.{Checked, accepted, _>>=_, require, between, wordAt, isKind}
-use Rattle.sheet.specs.Lines.{linesFrom}
+use Rattle.formulas.specs.Formulas.{Line}
+use Rattle.checks.specs.Limits.{mostPlaces, mostSignals, mostSamples, mostLines, leastDistances}
+use Rattle.checks.specs.Checked.{Checked, accepted, _>>=_, require, between, wordAt, isKind}
+use Rattle.lines.specs.Lines.{linesFrom}
 
 -- places n, signals v, samples T
 pub record Sizes : Type 0 where
@@ -22,26 +22,12 @@ pub record Layout : Type 0 where
   pub roads : ℕ
   pub lines : List Line
 
--- the two words of a road, given how many roads stand before it; after the last the samples begin
-abbrev pub roadAt : ℕ → ℕ
-roadAt r = 1 + 2 * r
-
-abbrev pub weightAt : ℕ → ℕ
-weightAt r = roadAt r + 1
-
 abbrev pub sampleCount : Sizes → ℕ
 sampleCount z = z .signals * z .places * z .samples
 
 -- the head: bits 27..20 places, 19..12 signals, 11..0 samples
 unfoldable pub sizesOf : ℕ → Sizes
 sizesOf w = record { places = bits 20 8 w; signals = bits 12 8 w; samples = bits 0 12 w }
-
--- a road's first word: bits 15..8 the first place, 7..0 the second
-abbrev pub firstPlace : ℕ → ℕ
-firstPlace w = bits 8 8 w
-
-abbrev pub secondPlace : ℕ → ℕ
-secondPlace w = bits 0 8 w
 
 module _ (s : List ℕ) where
   -- kind 1, each size in its limits
@@ -51,25 +37,6 @@ module _ (s : List ℕ) where
       require (isKind 1 s 0) 2 0
       (require (between 1 mostPlaces (sizes .places) && (between 1 mostSignals (sizes .signals) && between 1 mostSamples (sizes .samples))) 3 0
       (accepted sizes))
-
-  -- The road at an index, after one with the payload `last` (0 before the first): its payload. With bits 27..16 zero, the order of pairs is the
-  -- order of payloads.
-  unfoldable pub roadChecked : ℕ → ℕ → ℕ → Checked ℕ
-  roadChecked n at last =
-      let w : ℕ = wordAt s at in
-      require (eqb (bits 16 12 w) 0) 4 at
-      (require (ltb (firstPlace w) (secondPlace w) && ltb (secondPlace w) n) 5 at
-      (require (ltb last (payloadOf w)) 6 at
-      (require (isKind 3 s (at + 1) && ltb 0 (payloadOf (wordAt s (at + 1)))) 7 (at + 1)
-      (accepted (payloadOf w)))))
-
-  -- how many roads there are, r of them read: the first word that is not of kind 2 ends them. `words` bounds the roads that may come.
-  unfoldable pub roadsFrom : ℕ → ℕ → ℕ → ℕ → Checked ℕ
-  roadsFrom n zero r last = accepted r
-  roadsFrom n (suc words) r last = elim (isKind 2 s (roadAt r)) [
-    | true ↦ roadChecked n (roadAt r) last >>= λ payload. roadsFrom n words (suc r) payload
-    | false ↦ accepted r
-  ]
 
   -- `count` samples from an index on, and the index after them: kind 4, bit 27 zero
   unfoldable pub samplesFrom : ℕ → ℕ → Checked ℕ

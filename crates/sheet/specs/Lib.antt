@@ -1,13 +1,5 @@
-pub mod Limits
-pub mod Checked
-pub mod Codes
-pub mod Lines
-pub mod GoodLines
 pub mod Layout
-pub mod Roads
-pub mod DistanceStages
+pub mod Recording
 pub mod Apart
-pub mod Faults
-pub mod Decoding
 pub mod Checking
 pub mod Survey

@@ -4,9 +4,10 @@ use mathlib.Core.List.{List}
 use Prim.Native.Nat.{ℕ}
 use lib.ListN.{replicate}
 use Rattle.words.specs.Rows.{padded}
-use Rattle.sheet.specs.Checked.{Checked, accepted, refused}
+use Rattle.checks.specs.Checked.{Checked, accepted, refused}
 use Rattle.sheet.specs.Layout.{Layout, checked}
-use Rattle.sheet.specs.Roads.{network, distanceTable}
+use Rattle.roads.specs.Roads.{distanceTable}
+use Rattle.sheet.specs.Recording.{network}
 
 abbrev pub surveyedBy : List ℕ → ℕ → Checked Layout → List ℕ
 surveyedBy s room (accepted L) = padded (distanceTable (network s L)) room

@@ -1,18 +1,19 @@
 // The check of a whole sheet.
-use crate::fault::Fault;
-use crate::limits::LEAST_DISTANCES;
 use crate::stages::Head;
-use crate::stages::Stage;
-use crate::stages::Table;
 use crate::stages::check_head;
-use crate::stages::check_lines;
-use crate::stages::check_roads;
 use crate::stages::check_samples;
-use crate::word::is_end;
+use checks::fault::Fault;
+use checks::limits::LEAST_DISTANCES;
+use checks::stage::Stage;
+use checks::word::is_end;
+use lines::table::Table;
+use lines::table::check_lines;
+use roads::check::check_roads;
 ghost use mathlib.Core.Path.{_≡_};
 ghost use Rattle.words.specs.Bytes.{wordsOf};
 ghost use Rattle.sheet.specs.Layout.{endChecked, checked};
-ghost use Rattle.sheet.specs.Checking.{checkSaid, mapped, layoutOf};
+ghost use Rattle.checks.specs.Checked.{mapped};
+ghost use Rattle.sheet.specs.Checking.{checkSaid, layoutOf};
 
 // What stands where: the sizes of the head, how many roads and lines there are, and the indices at which the recording (the samples) and the
 // table (the lines) begin.

@@ -1,12 +1,13 @@
 // The survey of a sheet: its check, and the distances of its network in the lent table.
 use crate::check::Check;
 use crate::check::check_sheet;
-use crate::distances::fill_distances;
+use roads::distances::fill_distances;
 ghost use mathlib.Core.Path.{_≡_};
 ghost use lib.ListN.{length, replicate};
 ghost use Rattle.words.specs.Bytes.{wordsOf, numbersOf, afterNumbers};
 ghost use Rattle.sheet.specs.Layout.{checked};
-ghost use Rattle.sheet.specs.Checking.{checkSaid, mapped, layoutOf};
+ghost use Rattle.checks.specs.Checked.{mapped};
+ghost use Rattle.sheet.specs.Checking.{checkSaid, layoutOf};
 ghost use Rattle.sheet.specs.Survey.{surveyed};
 
 // On a refusal the whole table is zero, whatever it held.

@@ -17,7 +17,7 @@ use Rattle.values.proofs.Valid.{valid-kept}
 use Rattle.spatial.specs.Lanes.{lanes, laneOf, joinedBy, surroundValue, surroundRounds, blockRounds}
 use Rattle.spatial.specs.Steps.{ValidRow}
 use Rattle.spatial.specs.Blocks.{RowOf, laneSignal, laneSurround, laneRounds, CentresDone, BlockReady, BlockDone}
-use Rattle.logic.proofs.Totals.{most-same, most-front}
+use Rattle.counting.proofs.Totals.{most-same, most-front}
 use Rattle.spatial.proofs.Lowest.{surround-low}
 
 -- ---- one row

@@ -7,10 +7,10 @@ use native.Mathlib.Numerals.{add-one}
 use lib.ListN.{length}
 use Rattle.logic.specs.Margin.{marginLattice}
 use Rattle.logic.specs.Iteration.{iterate, masked}
-use Rattle.logic.specs.Counts.{mostBelow}
+use Rattle.counting.specs.Totals.{mostBelow}
 use Rattle.logic.proofs.Keeps.{same-kept, masked-kept, iterate-kept}
 use Rattle.logic.proofs.Rounds.{rounds-same}
-use Rattle.logic.proofs.Totals.{most-same}
+use Rattle.counting.proofs.Totals.{most-same}
 use Rattle.values.specs.Chain.{chainLattice, chainMargin, Valid}
 use Rattle.values.specs.Signals.{inTable}
 use Rattle.values.proofs.Valid.{valid-kept}

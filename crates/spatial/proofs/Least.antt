@@ -11,13 +11,13 @@ use native.Mathlib.Omega.{arith}
 use lib.Dec.{T, eqb, eqb→eq, eqb-refl}
 use Rattle.words.specs.Word.{payloadOf}
 use Rattle.logic.specs.Lattice.{leastOver}
-use Rattle.logic.specs.Distance.{Distance, dist}
-use Rattle.logic.specs.Network.{isRoad}
+use Rattle.network.specs.Distance.{Distance, dist}
+use Rattle.network.specs.Network.{isRoad}
 use Rattle.logic.proofs.Keeps.{same-kept, least-kept}
-use Rattle.logic.proofs.Tests.{below, and-i, and-l, and-r, or-l, or-r, or-e}
-use Rattle.sheet.specs.Checked.{wordAt}
-use Rattle.sheet.specs.Layout.{roadAt, weightAt, firstPlace, secondPlace}
-use Rattle.sheet.specs.Roads.{joins, weightAmong}
+use Rattle.counting.proofs.Tests.{below, and-i, and-l, and-r, or-l, or-r, or-e}
+use Rattle.checks.specs.Checked.{wordAt}
+use Rattle.roads.specs.Roads.{roadAt, weightAt, firstPlace, secondPlace}
+use Rattle.roads.specs.Roads.{joins, weightAmong}
 use Rattle.values.specs.Chain.{chainLattice, highest}
 use Rattle.values.proofs.Naturals.{meet-min}
 use Rattle.spatial.specs.Lanes.{lanes, laneOf, joinedBy}

@@ -8,9 +8,9 @@ use Prim.Native.Nat.{ℕ, suc, _+_, _*_, _/_, _<_, _≤_}
 use native.Mathlib.Nat.{le-antisymm}
 use native.Mathlib.Omega.{arith}
 use Rattle.logic.specs.Iteration.{iterate, masked, rounds}
-use Rattle.logic.specs.Counts.{mostBelow, sumBelow}
+use Rattle.counting.specs.Totals.{mostBelow, sumBelow}
 use Rattle.logic.proofs.Keeps.{same-kept, least-kept}
-use Rattle.logic.proofs.Totals.{sum-le, sum-lt, sum-bound, most-le, le-most}
+use Rattle.counting.proofs.Totals.{sum-le, sum-lt, sum-bound, most-le, le-most}
 use Rattle.values.specs.Chain.{chainLattice, highest}
 use Rattle.values.proofs.ChainSurround.{halves-rest-after, rounds-of-halves}
 use Rattle.spatial.specs.Lanes.{lanes, laneOf, joinedBy}

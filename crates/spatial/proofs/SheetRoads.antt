@@ -1,9 +1,9 @@
 -- The roads of an accepted sheet are what the iteration asks of its roads.
 use mathlib.Core.List.{List}
 use Prim.Native.Nat.{ℕ, _<_}
-use Rattle.sheet.specs.Layout.{roadAt}
-use Rattle.sheet.specs.Roads.{GoodRoad}
-use Rattle.sheet.proofs.Checks.{kind-inside}
+use Rattle.roads.specs.Roads.{roadAt}
+use Rattle.roads.specs.Roads.{GoodRoad}
+use Rattle.checks.proofs.Checks.{kind-inside}
 use Rattle.spatial.specs.Steps.{RoadsIn}
 
 pub good-roads : (sheet : List ℕ) (roads n : ℕ) → ((r : ℕ) → r < roads → GoodRoad sheet n r) → RoadsIn sheet roads n

@@ -6,8 +6,8 @@ use mathlib.Core.List.{List}
 use Prim.Native.Nat.{ℕ, _+_, _*_, _<_, _≤_}
 use lib.Dec.{ltb}
 use lib.ListN.{length}
-use Rattle.logic.specs.Counts.{mostBelow}
-use Rattle.sheet.specs.Limits.{mostPlaces}
+use Rattle.counting.specs.Totals.{mostBelow}
+use Rattle.checks.specs.Limits.{mostPlaces}
 use Rattle.values.specs.Chain.{Valid}
 use Rattle.values.specs.Signals.{signalIn}
 use Rattle.spatial.specs.Lanes.{lanes, laneOf, surroundBy, roundsBy, surroundValue, blockRounds}

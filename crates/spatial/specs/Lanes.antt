@@ -5,11 +5,11 @@ use mathlib.Core.List.{List}
 use Prim.Native.Nat.{ℕ, _+_, _*_}
 use lib.ListN.{getD}
 use Rattle.logic.specs.Margin.{marginLattice}
-use Rattle.logic.specs.Network.{isRoad}
+use Rattle.network.specs.Network.{isRoad}
 use Rattle.logic.specs.Surround.{surround}
 use Rattle.logic.specs.Iteration.{masked, rounds}
-use Rattle.logic.specs.Counts.{mostBelow}
-use Rattle.sheet.specs.Roads.{weightAmong}
+use Rattle.counting.specs.Totals.{mostBelow}
+use Rattle.roads.specs.Roads.{weightAmong}
 use Rattle.values.specs.Chain.{chainLattice, chainMargin}
 use Rattle.values.specs.Signals.{signalIn, inTable}
 

@@ -7,7 +7,7 @@ use Prim.Native.Nat.{ℕ, _+_, _*_, _<_, _≤_}
 use lib.ListN.{length}
 use Rattle.logic.specs.Lattice.{leastOver, greatestOver}
 use Rattle.logic.specs.Table.{Signal}
-use Rattle.sheet.specs.Limits.{mostPlaces}
+use Rattle.checks.specs.Limits.{mostPlaces}
 use Rattle.values.specs.Chain.{chains, chainLattice, highest}
 use Rattle.values.specs.Signals.{signalIn, turned, inTable}
 use Rattle.spatial.specs.Lanes.{lanes, laneOf}

@@ -8,9 +8,9 @@ use lib.Dec.{T}
 use lib.ListN.{length, getD}
 use Rattle.logic.specs.Lattice.{leastOver}
 use Rattle.logic.specs.Iteration.{iterate, rounds}
-use Rattle.logic.specs.Counts.{mostBelow}
-use Rattle.sheet.specs.Checked.{wordAt}
-use Rattle.sheet.specs.Layout.{roadAt, firstPlace, secondPlace}
+use Rattle.counting.specs.Totals.{mostBelow}
+use Rattle.checks.specs.Checked.{wordAt}
+use Rattle.roads.specs.Roads.{roadAt, firstPlace, secondPlace}
 use Rattle.values.specs.Chain.{chainLattice, chainMargin, highest, Valid}
 use Rattle.spatial.specs.Lanes.{lanes, laneOf, joinedBy}
 

@@ -2,7 +2,7 @@
 ghost use Prim.Native.Nat.{_*_, _/_, _≤_, _<_};
 ghost use lib.ListN.{length};
 ghost use Rattle.words.specs.Bytes.{wordsOf};
-ghost use Rattle.sheet.specs.Limits.{mostPlaces};
+ghost use Rattle.checks.specs.Limits.{mostPlaces};
 ghost use Rattle.spatial.specs.Lanes.{lanes};
 ghost use Rattle.spatial.specs.Strips.{RowsApart};
 ghost use Rattle.spatial.specs.Steps.{RoadsIn, Bounded, ValidRow, Rooms, LowOutside, LowRows, Joined, RoadPulled, Stepped, Round, Settled};
@@ -10,9 +10,9 @@ use crate::strips::copy_strip;
 use crate::strips::greater_strip;
 use crate::strips::pull_strip;
 use crate::strips::strip_changed;
-use sheet::road::first_place;
-use sheet::road::road_word;
-use sheet::road::second_place;
+use roads::road::first_place;
+use roads::road::road_word;
+use roads::road::second_place;
 
 // So many chain numbers share a margin: one says no, one says yes.
 const MARGIN: u32 = 2;

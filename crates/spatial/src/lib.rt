@@ -5,7 +5,7 @@ pub mod somewhere;
 mod strips;
 pub mod surround;
 
-use sheet::limits::MOST_PLACES;
+use checks::limits::MOST_PLACES;
 
 // Samples side by side.
 pub const LANES: usize = 16;

@@ -13,7 +13,7 @@ use crate::rows::load;
 use crate::rows::mark_ball;
 use crate::rows::mask;
 use crate::strips::copy_strip;
-use sheet::limits::MOST_PLACES;
+use checks::limits::MOST_PLACES;
 
 fn greater_of(a: u64, b: u64) -> u64
     ensures { λ r. ⌜ r ≡ max a b ⌝ }

@@ -8,11 +8,11 @@
 //     accepted PLACES SIGNALS SAMPLES ROADS LINES    then a row for each place: its distances to all places, `none` where no path is
 //     refused NUMBER PLACE                           then `table not zero` if the survey left anything in the lent table
 //     cut off                                        the input ends within a count or a sheet; nothing is read after it
+use checks::fault::Fault;
 use libc::STDIN_FILENO;
 use libc::STDOUT_FILENO;
 use sheet::check::Check;
 use sheet::check::Layout;
-use sheet::fault::Fault;
 ghost use Prim.Native.Nat.{_+_, _*_, _≤_};
 ghost use lib.ListN.{length};
 ghost use Rattle.words.specs.Bytes.{wordsOf, numbersOf};
@@ -65,7 +65,7 @@ fn print_accepted(layout: Layout) {
 
 fn print_refused(fault: Fault, place: usize) {
     io::write_all(STDOUT_FILENO, b"refused ");
-    io::print_decimal(STDOUT_FILENO, sheet::fault::number(fault));
+    io::print_decimal(STDOUT_FILENO, checks::fault::number(fault));
     print_size(place);
     io::write_all(STDOUT_FILENO, b"\n");
 }

@@ -5,10 +5,11 @@ use mathlib.Core.List.{List}
 use Prim.Native.Nat.{ℕ, _<_}
 use lib.IntN.{_-ℤ_}
 use Rattle.logic.specs.Margin.{negate}
-use Rattle.logic.specs.Network.{Network}
-use Rattle.logic.specs.Formulas.{Line, Recording, InBits}
+use Rattle.network.specs.Network.{Network}
+use Rattle.formulas.specs.Formulas.{Line, Recording, InBits}
 use Rattle.logic.specs.Table.{verdicts, margins, valueAt}
-use Rattle.logic.proofs.TableKeeps.{ConstantsIn, valueAt-kept}
+use Rattle.formulas.specs.Formulas.{ConstantsIn}
+use Rattle.logic.proofs.TableKeeps.{valueAt-kept}
 use Rattle.logic.proofs.Small.{difference-small}
 use Rattle.values.specs.Chain.{chainMargin, chainVerdict, chains, Valid}
 use Rattle.values.proofs.Valid.{valid-kept, valid-opposite, valid-difference}

@@ -12,7 +12,7 @@ use lib.IntN.{ℤ, subℕ}
 use lib.ListN.{getD}
 use borrow.Author.Tests.{lt-ltb, le-ltb, ne-eqb}
 use Rattle.words.specs.Word.{kindOf, payloadOf, wordOf, unsigned}
-use Rattle.logic.specs.Counts.{count}
+use Rattle.counting.specs.Totals.{count}
 use Rattle.logic.specs.Margin.{finite}
 use Rattle.values.specs.Chain.{marginAt, highest, chainMargin, chainVerdict, chainWord, wordChain, Valid}
 use Rattle.values.specs.Said.{verdictWord}

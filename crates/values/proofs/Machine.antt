@@ -7,7 +7,7 @@ use lib.IntN.{ℤ, pos, negsuc, natAbs, _+ℤ_}
 use mir.Syntax.{w32}
 use mir.Val.{SFits, boolByte}
 use borrow.Author.Tests.{le-ltb}
-use Rattle.logic.specs.Counts.{count}
+use Rattle.counting.specs.Totals.{count}
 use Rattle.logic.specs.Margin.{finite}
 use Rattle.values.specs.Chain.{marginCode}
 

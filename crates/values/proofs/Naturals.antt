@@ -6,7 +6,7 @@ use native.Mathlib.Nat.{le-trans}
 use native.Mathlib.Omega.{arith}
 use lib.Dec.{T, leb, le→leb, leb→le, nleb→lt}
 use Rattle.logic.proofs.TotalOrder.{meet-by, join-by}
-use Rattle.logic.proofs.Tests.{decT}
+use Rattle.counting.proofs.Tests.{decT}
 use Rattle.values.specs.Chain.{chainLattice, highest}
 
 pub le-or-lt : (a b : ℕ) → (a ≤ b) ⊎ (b < a)

@@ -12,7 +12,7 @@ use Rattle.words.specs.Word.{kindOf, payloadOf, wordOf}
 use Rattle.logic.specs.Lattice.{Lattice, ordered}
 use Rattle.logic.specs.Margin.{Margin, minusInfinity, finite, plusInfinity}
 use Rattle.logic.specs.Table.{Reading}
-use Rattle.logic.specs.Counts.{count}
+use Rattle.counting.specs.Totals.{count}
 
 -- a margin's place in the order: 0 for minus infinity, 2^28 for plus infinity
 abbrev pub marginCode : Margin → ℕ

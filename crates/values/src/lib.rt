@@ -5,7 +5,7 @@ ghost use lib.IntN.{_-ℤ_, natAbs};
 ghost use lib.ListN.{length};
 ghost use Rattle.words.specs.Bytes.{wordsOf};
 ghost use Rattle.logic.specs.Margin.{finite, negate};
-ghost use Rattle.logic.specs.Formulas.{InBits};
+ghost use Rattle.formulas.specs.Formulas.{InBits};
 ghost use Rattle.values.specs.Chain.{marginCode, marginAt, highest, chainOf, chainVerdict, chainLattice, chainOpposite, chainDifference, chainWord, wordChain};
 ghost use Rattle.values.specs.Signals.{signalIn};
 

@@ -9,11 +9,11 @@ use lib.ListN.{length}
 use Rattle.words.specs.Rows.{concat, rows, put}
 use Rattle.words.proofs.Puts.{put-nil, put-append}
 use Rattle.words.proofs.Rows.{length-rows, rows-ext}
-use Rattle.logic.specs.Counts.{count, sumBelow, mostBelow}
-use Rattle.logic.proofs.Totals.{sum-parts, sum-same, table-yes-bound, most-parts, most-swap, most-none}
+use Rattle.counting.specs.Totals.{count, sumBelow, mostBelow}
+use Rattle.counting.proofs.Totals.{sum-parts, sum-same, table-yes-bound, most-parts, most-swap, most-none}
 use Rattle.sheet.specs.declared.check.Layout.{Layout}
-use Rattle.sheet.specs.declared.operator.Bounds.{Bounds}
-use Rattle.sheet.specs.Limits.{mostPlaces}
+use Rattle.lines.specs.declared.operator.Bounds.{Bounds}
+use Rattle.checks.specs.Limits.{mostPlaces}
 use Rattle.values.specs.Chain.{highest, chainWord, chainVerdict}
 use Rattle.values.proofs.ChainWords.{signal-bound}
 use Rattle.operators.proofs.Bounds.{greatest-bound}

@@ -1,10 +1,3 @@
-pub mod Computing
-pub mod Examples
-pub mod AnswerWords
-pub mod AnswerSays
-pub mod WholeAnswer
-pub mod Accepted
-pub mod Steadiness
 pub mod LineValues
 pub mod Points
 pub mod LineRows

@@ -8,13 +8,13 @@ use native.Mathlib.Omega.{arith}
 use lib.Dec.{ltb, ltb→lt, T}
 use lib.ListN.{length, getD}
 use borrow.Author.Tests.{lt-ltb}
-use Rattle.logic.specs.Network.{Network}
-use Rattle.logic.specs.Formulas.{Operator, Line, lineIn, lengthOf, Recording}
+use Rattle.network.specs.Network.{Network}
+use Rattle.formulas.specs.Formulas.{Operator, Line, lineIn, lengthOf, Recording}
 use Rattle.logic.specs.Table.{Reading, Signal, everTrue, value, valuesAfter, valueAt}
 use Rattle.logic.proofs.TableSteps.{before}
 use Rattle.logic.proofs.ValueSame.{value-same}
-use Rattle.sheet.specs.GoodLines.{lengthsOf, GoodLine, GoodTable}
-use Rattle.sheet.proofs.AcceptedLines.{length-same}
+use Rattle.lines.specs.GoodLines.{lengthsOf, GoodLine, GoodTable}
+use Rattle.lines.proofs.AcceptedLines.{length-same}
 
 -- lengths cut to the lines before line k
 abbrev cut : ℕ → (ℕ → ℕ) → ℕ → ℕ

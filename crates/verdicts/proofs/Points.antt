@@ -16,17 +16,18 @@ use borrow.Author.Tests.{lt-leb}
 use Rattle.words.specs.Bytes.{wordsOf}
 use Rattle.words.proofs.Parts.{tail-list}
 use Rattle.words.proofs.Words.{words-drop}
-use Rattle.logic.specs.Distance.{Distance, dist, none, inRange}
+use Rattle.network.specs.Distance.{Distance, dist, none, inRange}
 use Rattle.logic.specs.Lattice.{greatestOver}
-use Rattle.logic.specs.Network.{distanceIn, within}
-use Rattle.logic.specs.Formulas.{Operator, True, AtLeast, AtMost, Not, And, Until, Somewhere, Surrounded, Or, Eventually, Always, Everywhere, InBits}
+use Rattle.network.specs.Network.{distanceIn, within}
+use Rattle.formulas.specs.Formulas.{Operator, True, AtLeast, AtMost, Not, And, Until, Somewhere, Surrounded, Or, Eventually, Always, Everywhere, InBits}
 use Rattle.logic.specs.Table.{Signal, somewhereAt}
 use Rattle.logic.proofs.Keeps.{surround-kept}
 use Rattle.logic.proofs.Small.{difference-small}
-use Rattle.logic.proofs.TableKeeps.{ConstantIn, value-kept}
+use Rattle.formulas.specs.Formulas.{ConstantIn}
+use Rattle.logic.proofs.TableKeeps.{value-kept}
 use Rattle.sheet.specs.declared.check.Layout.{Layout}
-use Rattle.sheet.specs.Roads.{distanceNumber}
-use Rattle.sheet.proofs.AcceptedLines.{recording-bits}
+use Rattle.roads.specs.Roads.{distanceNumber}
+use Rattle.sheet.proofs.Samples.{recording-bits}
 use Rattle.values.specs.Chain.{chains, chainLattice, chainOpposite, highest}
 use Rattle.values.specs.Signals.{signalIn, turned, inTable}
 use Rattle.values.proofs.Machine.{small-fits}

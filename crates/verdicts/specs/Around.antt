@@ -4,9 +4,9 @@ use mathlib.Core.List.{List}
 use Prim.Native.Nat.{ℕ, _+_, _*_, _<_, _≤_}
 use lib.ListN.{length}
 use Rattle.words.specs.Rows.{rows, put}
-use Rattle.logic.specs.Counts.{count, sumBelow, mostBelow}
+use Rattle.counting.specs.Totals.{count, sumBelow, mostBelow}
 use Rattle.sheet.specs.declared.check.Layout as Code
-use Rattle.sheet.specs.Limits.{mostPlaces, mostSamples}
+use Rattle.checks.specs.Limits.{mostPlaces, mostSamples}
 use Rattle.values.specs.Chain.{highest, chainWord, chainVerdict, Valid}
 use Rattle.values.specs.Signals.{signalIn}
 use Rattle.spatial.specs.Lanes.{lanes, laneOf, surroundValue, surroundRounds}

@@ -1,7 +1,3 @@
-pub mod Meant
-pub mod Answer
-pub mod Judged
-pub mod Steady
 pub mod Writing
 pub mod Sample
 pub mod Tally

@@ -2,7 +2,7 @@
 use mathlib.Core.List.{List}
 use Prim.Native.Nat.{ℕ, _+_, _*_, _<_, _≤_}
 use lib.ListN.{length, getD}
-use Rattle.sheet.specs.Limits.{mostPlaces}
+use Rattle.checks.specs.Limits.{mostPlaces}
 use Rattle.values.specs.Chain.{highest}
 
 abbrev pub entry : List ℕ → ℕ → ℕ → ℕ → ℕ

@@ -5,13 +5,14 @@ use mathlib.Core.List.{List}
 use Prim.Native.Nat.{ℕ, _+_, _*_, _≤_, _<_}
 use mathlib.Core.Path.{_≡_}
 use lib.ListN.{length, getD}
-use Rattle.logic.specs.Network.{Network, distanceIn}
-use Rattle.logic.specs.Formulas.{Operator, True, AtLeast, AtMost, Not, And, Until, Somewhere, Surrounded, Or, Eventually, Always, Everywhere, Recording, InBits}
+use Rattle.network.specs.Network.{Network, distanceIn}
+use Rattle.formulas.specs.Formulas.{Operator, True, AtLeast, AtMost, Not, And, Until, Somewhere, Surrounded, Or, Eventually, Always, Everywhere, Recording, InBits}
 use Rattle.logic.specs.Table.{Signal, value}
 use Rattle.logic.specs.Counts.{roundsAt}
 use Rattle.sheet.specs.declared.check.Layout as Code
-use Rattle.sheet.specs.Limits.{mostPlaces, mostSignals, mostSamples}
-use Rattle.sheet.specs.Roads.{networkOf, recordingOf, distanceNumber}
+use Rattle.checks.specs.Limits.{mostPlaces, mostSignals, mostSamples}
+use Rattle.roads.specs.Roads.{networkOf, distanceNumber}
+use Rattle.sheet.specs.Recording.{recordingOf}
 use Rattle.values.specs.Chain.{chains, chainMargin}
 use Rattle.values.specs.Signals.{signalIn}
 

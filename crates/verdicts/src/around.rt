@@ -2,8 +2,8 @@
 // and then written sample by sample.
 use crate::sample::write_sample;
 use crate::tally::Tally;
+use lines::operator::Bounds;
 use sheet::check::Layout;
-use sheet::operator::Bounds;
 use spatial::LANES;
 use spatial::ROW;
 use spatial::somewhere::somewhere_block;
@@ -13,7 +13,7 @@ ghost use Prim.Native.Nat.{_+_, _*_, _≤_};
 ghost use lib.ListN.{length, take};
 ghost use Rattle.words.specs.Bytes.{wordsOf, numbersOf};
 ghost use Rattle.words.specs.Rows.{rows, put};
-ghost use Rattle.logic.specs.Counts.{count, sumBelow};
+ghost use Rattle.counting.specs.Totals.{count, sumBelow};
 ghost use Rattle.values.specs.Chain.{chainWord, chainVerdict};
 ghost use Rattle.spatial.specs.Lanes.{lanes, laneOf};
 ghost use Rattle.verdicts.specs.Around.{LanesBounded, AroundReady, BlockFilled, BlockWritten, AroundWritten};

@@ -1,4 +1,6 @@
 // The values of a line for all places at one sample, for every operator but those over space.
+use lines::operator::Bounds;
+use lines::operator::Operator;
 use operators::atoms::atom_row;
 use operators::connectives::and_row;
 use operators::connectives::true_row;
@@ -6,15 +8,13 @@ use operators::connectives::turned_row;
 use operators::eventually::eventually_row;
 use operators::until::until_row;
 use sheet::check::Layout;
-use sheet::operator::Bounds;
-use sheet::operator::Operator;
 ghost use mathlib.Core.Path.{_≡_};
 ghost use Prim.Native.Nat.{ℕ, suc, _+_, _*_, _≤_, _<_};
 ghost use lib.ListN.{length};
 ghost use Rattle.words.specs.Bytes.{wordsOf};
 ghost use Rattle.logic.specs.Table.{untilAt, opposite};
-ghost use Rattle.logic.specs.Formulas.{InBits};
-ghost use Rattle.sheet.specs.Decoding.{operatorSaid};
+ghost use Rattle.formulas.specs.Formulas.{InBits};
+ghost use Rattle.lines.specs.Decoding.{operatorSaid};
 ghost use Rattle.values.specs.Chain.{chains};
 ghost use Rattle.operators.specs.Rows.{Filled, RowLeft, atomValue, andAt, eventuallyAt};
 ghost use Rattle.verdicts.specs.Writing.{earlier, sheetRecording, lineValue, Recorded, Written, Readable};

@@ -1,17 +1,17 @@
 // The verdicts of a line, sample by sample, for every operator but those over space.
 use crate::evaluation::value_row;
 use crate::sample::write_sample;
+use checks::limits::MOST_PLACES;
+use lines::operator::Operator;
 use sheet::check::Layout;
-use sheet::limits::MOST_PLACES;
-use sheet::operator::Operator;
 ghost use mathlib.Core.Path.{_≡_};
 ghost use Prim.Native.Nat.{ℕ, suc, _+_, _*_, _≤_, _<_};
 ghost use lib.ListN.{length, take};
 ghost use Rattle.words.specs.Bytes.{wordsOf};
 ghost use Rattle.words.specs.Rows.{row, rows, put};
-ghost use Rattle.logic.specs.Counts.{count, sumBelow};
-ghost use Rattle.sheet.specs.Decoding.{operatorSaid};
-ghost use Rattle.sheet.specs.Limits.{mostSamples};
+ghost use Rattle.counting.specs.Totals.{count, sumBelow};
+ghost use Rattle.lines.specs.Decoding.{operatorSaid};
+ghost use Rattle.checks.specs.Limits.{mostSamples};
 ghost use Rattle.values.specs.Chain.{chainWord, chainVerdict};
 ghost use Rattle.operators.specs.Rows.{Filled};
 ghost use Rattle.verdicts.specs.Writing.{lineValue, Recorded, Readable};

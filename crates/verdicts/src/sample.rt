@@ -4,7 +4,7 @@ ghost use Prim.Native.Nat.{_+_, _≤_};
 ghost use lib.ListN.{length};
 ghost use Rattle.words.specs.Bytes.{wordsOf};
 ghost use Rattle.words.specs.Rows.{row, put};
-ghost use Rattle.logic.specs.Counts.{count, sumBelow};
+ghost use Rattle.counting.specs.Totals.{count, sumBelow};
 ghost use Rattle.values.specs.Chain.{chainWord, chainVerdict};
 ghost use Rattle.verdicts.specs.Sample.{entry, SampleThere};
 

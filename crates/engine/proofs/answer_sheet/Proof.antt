@@ -4,9 +4,9 @@ use Prim.Native.Nat.{ℕ, _+_}
 use native.Mathlib.Nat.{add-comm}
 use native.Mathlib.Omega.{arith}
 use borrow.Author.Needs.{needs}
-use Rattle.sheet.specs.Roads.{network}
-use Rattle.verdicts.specs.Answer.{wordsNeeded}
-use Rattle.verdicts.specs.Judged.{Result, answered}
+use Rattle.sheet.specs.Recording.{network}
+use Rattle.answers.specs.Answer.{wordsNeeded}
+use Rattle.answers.specs.Judged.{Result, answered}
 use Rattle.engine.proofs.Sizes.{end-bound}
 use Rattle.engine.proofs.answer_sheet.Statement.{statement}
 use Rattle.engine.proofs.answer_sheet.Tie as tie

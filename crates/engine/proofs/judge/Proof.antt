@@ -7,10 +7,10 @@ use borrow.Author.Needs.{needs}
 use Rattle.words.specs.Bytes.{wordsOf, numbersOf}
 use Rattle.words.proofs.Numbers.{same-count}
 use Rattle.words.proofs.Zeros.{zero-words, zero-numbers, zero-words-tail, zero-numbers-tail}
-use Rattle.sheet.specs.Faults.{faultNumber}
+use Rattle.checks.specs.Faults.{faultNumber}
 use Rattle.sheet.specs.Checking.{checkSaid}
 use Rattle.sheet.proofs.Surveys.{refusing}
-use Rattle.verdicts.specs.Judged.{Result, Judged, answered, judged}
+use Rattle.answers.specs.Judged.{Result, Judged, answered, judged}
 use Rattle.engine.specs.Lines.{Accepting}
 use Rattle.engine.specs.Lent.{neededIn}
 use Rattle.engine.specs.Result.{resultSaid}

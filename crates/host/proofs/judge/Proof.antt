@@ -9,7 +9,7 @@ use lib.ListN.{length}
 use borrow.Author.Tests.{not-true, not-false}
 use Rattle.words.specs.Bytes.{bytesOf, halvesOf}
 use Rattle.words.proofs.RoundTrips.{words-bytes, numbers-bytes}
-use Rattle.verdicts.specs.Judged.{Result}
+use Rattle.answers.specs.Judged.{Result}
 use Rattle.host.specs.Host.{lentWhole, resultBytes}
 use Rattle.host.proofs.Lent.{whole-lengths, judged-whole, refused-lengths}
 use borrow.Author.Needs.{needs}

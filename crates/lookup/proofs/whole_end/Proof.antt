@@ -5,8 +5,8 @@ use lib.Dec.{eqb}
 use borrow.Author.Tests.{not-true, not-false}
 use Rattle.words.specs.Word.{payloadOf}
 use Rattle.words.specs.Bytes.{wordsOf}
-use Rattle.sheet.specs.Checked.{wordAt, isKind}
-use Rattle.sheet.proofs.Tests.{and-true, kind-told}
+use Rattle.checks.specs.Checked.{wordAt, isKind}
+use Rattle.checks.proofs.Tests.{and-true, kind-told}
 use Rattle.lookup.specs.Lookup.{wholeEnd}
 use borrow.Author.Needs.{needs}
 use Rattle.lookup.proofs.whole_end.Statement.{statement}

@@ -3,8 +3,8 @@ use mathlib.Core.Path.{_≡_, refl, sym, ap, _∙_}
 use mathlib.Core.Bool.{Bool, true, _&&_}
 use borrow.Author.Tests.{not-true, not-false}
 use Rattle.words.specs.Bytes.{wordsOf}
-use Rattle.sheet.specs.Limits.{mostPlaces, mostSamples, mostLines}
-use Rattle.sheet.specs.Checked.{between, isKind}
+use Rattle.checks.specs.Limits.{mostPlaces, mostSamples, mostLines}
+use Rattle.checks.specs.Checked.{between, isKind}
 use Rattle.lookup.specs.Lookup.{headPlaces, wholeHead}
 use borrow.Author.Needs.{needs}
 use Rattle.lookup.proofs.whole_head.Statement.{statement}

@@ -7,7 +7,7 @@ use lib.Dec.{eqb}
 use borrow.Author.Tests.{eq-eqb, ne-eqb, not-true, not-false}
 use Rattle.words.specs.Word.{bits}
 use Rattle.words.specs.Bytes.{wordsOf}
-use Rattle.sheet.specs.Checked.{between, wordAt, isKind}
+use Rattle.checks.specs.Checked.{between, wordAt, isKind}
 use Rattle.values.specs.Said.{saidBy}
 use Rattle.lookup.specs.Lookup.{isSaid, all, headSamples, lengthAt, wholeLineAt}
 use Rattle.lookup.proofs.Walk.{line-size}

@@ -5,7 +5,7 @@ use Prim.Native.Nat.{ℕ, _+_, _-_, _≤_, _<_}
 use native.Mathlib.Omega.{arith}
 use borrow.Author.Count.{below-more}
 use Rattle.words.specs.Bytes.{wordsOf}
-use Rattle.sheet.specs.Checked.{wordAt}
+use Rattle.checks.specs.Checked.{wordAt}
 use Rattle.values.specs.Said.{Said, saidBy}
 use Rattle.lookup.specs.Lookup.{isSaid, verdictNumber}
 use Rattle.lookup.proofs.Walk.{one-fails, none-fails, says-something, says-nothing}

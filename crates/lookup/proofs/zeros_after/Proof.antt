@@ -9,7 +9,7 @@ use borrow.Author.Count.{below-more}
 use borrow.Author.Tests.{eq-eqb, ne-eqb}
 use Rattle.words.specs.Bytes.{wordsOf}
 use Rattle.words.proofs.Words.{words-count}
-use Rattle.sheet.specs.Checked.{wordAt}
+use Rattle.checks.specs.Checked.{wordAt}
 use Rattle.lookup.proofs.Walk.{one-fails, none-fails}
 use borrow.Author.Needs.{needs}
 use Rattle.lookup.proofs.zeros_after.Statement.{statement}

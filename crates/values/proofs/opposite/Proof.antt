@@ -6,7 +6,7 @@ use native.Mathlib.Omega.{arith}
 use lib.Dec.{eqb}
 use borrow.Author.Needs.{needs}
 use borrow.Author.Tests.{eqb-true, eqb-false}
-use Rattle.logic.specs.Counts.{count}
+use Rattle.counting.specs.Totals.{count}
 use Rattle.values.specs.Chain.{highest}
 use Rattle.values.proofs.Codes.{code-at, code-opposite}
 use Rattle.values.proofs.opposite.Statement.{statement}

@@ -12,8 +12,8 @@ use Rattle.words.proofs.Parts.{tail-list, tail-back}
 use Rattle.words.proofs.Words.{words-count}
 use Rattle.words.proofs.Zeros.{cleared-words-tail}
 use Rattle.sheet.specs.Layout.{Layout}
-use Rattle.sheet.specs.Roads.{network, recording}
-use Rattle.verdicts.specs.Answer.{lineIndex, wordsNeeded, lineWords, headWord, answerWords}
+use Rattle.sheet.specs.Recording.{network, recording}
+use Rattle.answers.specs.Answer.{lineIndex, wordsNeeded, lineWords, headWord, answerWords}
 use Rattle.engine.specs.Lent.{foundIn}
 use Rattle.engine.proofs.Sizes.{lines-end, limits, end-bound}
 use Rattle.engine.proofs.WholeWriting.{three-parts, zeros-behind}

@@ -6,8 +6,8 @@ use native.Mathlib.Omega.{arith}
 use borrow.Author.Needs.{needs}
 use denote.Enum.Declared.{tagOf}
 use types.Run.{OneOf, miss}
-use Rattle.sheet.specs.declared.operator.Operator.{Operator}
-use Rattle.sheet.specs.declared.operator.Operator.the-variants.{True, AtLeast, AtMost, Not, And, Until, Somewhere, Surrounded, Or, Eventually, Always, Everywhere}
+use Rattle.lines.specs.declared.operator.Operator.{Operator}
+use Rattle.lines.specs.declared.operator.Operator.the-variants.{True, AtLeast, AtMost, Not, And, Until, Somewhere, Surrounded, Or, Eventually, Always, Everywhere}
 use Rattle.sheet.proofs.operator.Operator as sheet-operator
 use Rattle.engine.specs.declared.line.Way.the-variants.{Rows}
 use Rattle.engine.specs.Way.{Known, wayOf}

@@ -7,11 +7,11 @@ use lib.ListN.{length, take, set}
 use borrow.Author.Needs.{needs}
 use Rattle.words.specs.Bytes.{wordsOf, numbersOf}
 use Rattle.words.proofs.Words.{words-count}
-use Rattle.sheet.specs.Decoding.{operatorSaid, lineSaid}
+use Rattle.lines.specs.Decoding.{operatorSaid, lineSaid}
 use Rattle.verdicts.specs.Writing.{Readable}
 use Rattle.verdicts.specs.Around.{AroundReady}
 use Rattle.engine.specs.declared.line.Way.{Way}
-use Rattle.verdicts.specs.Answer.{firstWord}
+use Rattle.answers.specs.Answer.{firstWord}
 use Rattle.engine.specs.Line.{wordsUpTo}
 use Rattle.engine.proofs.LineReads.{Reads, line-reads, operands-known}
 use Rattle.engine.proofs.LineWords.{length-kept, before-verdicts, rows-written, blocks-written}

@@ -6,12 +6,12 @@ use native.Mathlib.Omega.{arith}
 use lib.ListN.{length}
 use borrow.Author.Needs.{needs}
 use Rattle.words.specs.Bytes.{wordsOf, numbersOf}
-use Rattle.logic.specs.Formulas.{Line}
-use Rattle.logic.specs.Counts.{sumBelow}
+use Rattle.formulas.specs.Formulas.{Line}
+use Rattle.counting.specs.Totals.{sumBelow}
 use Rattle.sheet.specs.declared.check.Layout.{Layout}
-use Rattle.sheet.specs.Limits.{mostLines}
-use Rattle.sheet.proofs.Walk.{Walk, walk-step}
-use Rattle.verdicts.specs.Answer.{lineIndex, wordsNeeded}
+use Rattle.checks.specs.Limits.{mostLines}
+use Rattle.lines.proofs.Walk.{Walk, walk-step}
+use Rattle.answers.specs.Answer.{lineIndex, wordsNeeded}
 use Rattle.engine.proofs.AcceptedTable.{linesOf, Table, accepted-table, Passed, never-refused, line-passed, Ends, line-ends}
 use Rattle.engine.proofs.lines.words_needed.Statement.{statement}
 use Rattle.engine.proofs.lines.words_needed.Tie as tie

@@ -6,9 +6,9 @@ use native.Mathlib.Omega.{arith}
 use lib.ListN.{length, set}
 use borrow.Author.Needs.{needs}
 use Rattle.words.specs.Bytes.{wordsOf, numbersOf}
-use Rattle.logic.specs.Formulas.{Line}
-use Rattle.sheet.specs.Limits.{mostLines}
-use Rattle.sheet.proofs.Walk.{Walk, walk-step}
+use Rattle.formulas.specs.Formulas.{Line}
+use Rattle.checks.specs.Limits.{mostLines}
+use Rattle.lines.proofs.Walk.{Walk, walk-step}
 use Rattle.verdicts.specs.Tally.{together}
 use Rattle.engine.proofs.AcceptedTable.{linesOf, Table, accepted-table, Passed, never-refused, line-passed, Ends, line-ends}
 use Rattle.engine.proofs.LinesDone.{LinesDone, none-done, all-done, yes-few, line-fits, line-ready, line-done}

@@ -9,8 +9,8 @@ use mir.Facts.{toZ-ofZ}
 use borrow.Author.Needs.{needs}
 use Rattle.words.specs.Word.{sampleOf}
 use Rattle.words.specs.Bytes.{wordsOf}
-use Rattle.logic.specs.Formulas.{InBits}
-use Rattle.sheet.proofs.AcceptedLines.{sample-bits}
+use Rattle.formulas.specs.Formulas.{InBits}
+use Rattle.lines.proofs.AcceptedLines.{sample-bits}
 use Rattle.values.specs.Chain.{chainDifference}
 use Rattle.operators.proofs.atoms.atom_at.Statement.{statement}
 use Rattle.operators.proofs.atoms.atom_at.Tie as tie

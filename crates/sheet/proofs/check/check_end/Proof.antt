@@ -7,9 +7,9 @@ use borrow.Author.Tests.{eq-eqb, ne-eqb, not-true, not-false}
 use Rattle.words.specs.Bytes.{wordsOf}
 use Rattle.words.specs.Word.{payloadOf}
 use Rattle.words.proofs.Words.{words-count}
-use Rattle.sheet.specs.Checked.{wordAt, isKind}
+use Rattle.checks.specs.Checked.{wordAt, isKind}
 use Rattle.sheet.specs.Layout.{endChecked}
-use Rattle.sheet.proofs.Tests.{and-true, kind-told}
+use Rattle.checks.proofs.Tests.{and-true, kind-told}
 use borrow.Author.Needs.{needs}
 use Rattle.sheet.proofs.check.check_end.Statement.{statement}
 use Rattle.sheet.proofs.check.check_end.Tie as tie

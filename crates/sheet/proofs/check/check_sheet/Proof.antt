@@ -10,13 +10,17 @@ use borrow.Author.Tests.{le-leb, lt-leb}
 use Rattle.words.specs.Bytes.{wordsOf}
 use Rattle.sheet.specs.declared.check.Layout as Code
 use Rattle.sheet.specs.declared.stages.Sizes.{Sizes}
-use Rattle.sheet.specs.Limits.{mostLines, leastDistances}
-use Rattle.sheet.specs.Checked.{accepted}
-use Rattle.sheet.specs.Lines.{linesFrom}
-use Rattle.sheet.specs.Layout.{roadAt, sampleCount, headChecked, roadsFrom, samplesFrom, endChecked, checked}
-use Rattle.sheet.specs.Checking.{sizesSaid, headSaid, stageSaid, tableSaid, mapped, lineCount, layoutOf}
+use Rattle.checks.specs.Limits.{mostLines, leastDistances}
+use Rattle.checks.specs.Checked.{accepted}
+use Rattle.lines.specs.Lines.{linesFrom}
+use Rattle.sheet.specs.Layout.{sampleCount, headChecked, samplesFrom, endChecked, checked}
+use Rattle.roads.specs.Roads.{roadAt, roadsFrom}
+use Rattle.checks.specs.Checked.{mapped}
+use Rattle.checks.specs.Stages.{stageSaid}
+use Rattle.lines.specs.Decoding.{tableSaid, lineCount}
+use Rattle.sheet.specs.Checking.{sizesSaid, headSaid, layoutOf}
 use Rattle.sheet.proofs.Accepted.{SizesWithin, head-accepted, sample-count}
-use Rattle.sheet.proofs.Checks.{mapped-accepted, mapped-refused}
+use Rattle.checks.proofs.Checks.{mapped-accepted, mapped-refused}
 use Rattle.sheet.proofs.Whole.{lines-refused, end-next}
 use borrow.Author.Needs.{needs}
 use Rattle.sheet.proofs.check.check_sheet.Statement.{statement}

@@ -5,8 +5,8 @@ use mathlib.Core.List.{List}
 use Prim.Native.Nat.{ℕ}
 use borrow.Author.Tests.{not-true, not-false}
 use Rattle.words.specs.Bytes.{wordsOf}
-use Rattle.sheet.specs.Limits.{mostPlaces, mostSignals, mostSamples}
-use Rattle.sheet.specs.Checked.{accepted, require, between, wordAt}
+use Rattle.checks.specs.Limits.{mostPlaces, mostSignals, mostSamples}
+use Rattle.checks.specs.Checked.{accepted, require, between, wordAt}
 use Rattle.sheet.specs.Layout.{Sizes, sizesOf, headChecked}
 use Rattle.sheet.specs.Checking.{sizesSaid}
 use borrow.Author.Needs.{needs}

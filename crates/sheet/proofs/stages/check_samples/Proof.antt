@@ -9,10 +9,10 @@ use borrow.Author.Tests.{not-true, not-false}
 use Rattle.words.specs.Bytes.{wordsOf}
 use Rattle.words.specs.Word.{bits}
 use Rattle.words.proofs.Words.{words-count}
-use Rattle.sheet.specs.Checked.{require, wordAt, isKind}
+use Rattle.checks.specs.Checked.{require, wordAt, isKind}
 use Rattle.sheet.specs.Layout.{samplesFrom}
-use Rattle.sheet.proofs.Tests.{kind-told}
-use Rattle.sheet.proofs.Parts.{sample-more}
+use Rattle.checks.proofs.Tests.{kind-told}
+use Rattle.sheet.proofs.Samples.{sample-more}
 use borrow.Author.Needs.{needs}
 use Rattle.sheet.proofs.stages.check_samples.Statement.{statement}
 use Rattle.sheet.proofs.stages.check_samples.Tie as tie

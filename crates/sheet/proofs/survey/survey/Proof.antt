@@ -6,9 +6,10 @@ use lib.ListN.{length}
 use borrow.Author.Needs.{needs}
 use Rattle.words.specs.Bytes.{wordsOf, numbersOf}
 use Rattle.words.proofs.Zeros.{zero-numbers, numbers-tail, zero-numbers-tail}
-use Rattle.sheet.specs.Faults.{faultNumber}
+use Rattle.checks.specs.Faults.{faultNumber}
 use Rattle.sheet.specs.Layout.{checked}
-use Rattle.sheet.specs.Checking.{checkSaid, mapped, layoutOf}
+use Rattle.checks.specs.Checked.{mapped}
+use Rattle.sheet.specs.Checking.{checkSaid, layoutOf}
 use Rattle.sheet.proofs.Surveys.{accepting, refusing}
 use Rattle.sheet.proofs.survey.survey.Statement.{statement}
 use Rattle.sheet.proofs.survey.survey.Tie as tie

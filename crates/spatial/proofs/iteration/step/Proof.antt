@@ -4,8 +4,8 @@ use mathlib.Core.Path.{_≡_, ap, subst, _∙_}
 use native.Mathlib.Omega.{arith}
 use lib.ListN.{length}
 use Rattle.words.specs.Bytes.{wordsOf}
-use Rattle.sheet.specs.Checked.{wordAt}
-use Rattle.sheet.specs.Layout.{roadAt, firstPlace, secondPlace}
+use Rattle.checks.specs.Checked.{wordAt}
+use Rattle.roads.specs.Roads.{roadAt, firstPlace, secondPlace}
 use Rattle.spatial.specs.Steps.{Stepped, RoadPulled}
 use Rattle.spatial.proofs.Outside.{stepped-low}
 use Rattle.spatial.proofs.Least.{stepped-none, road-more}

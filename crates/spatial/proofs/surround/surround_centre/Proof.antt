@@ -4,7 +4,7 @@ use Prim.Native.Nat.{ℕ, _*_, _≤_}
 use native.Mathlib.Omega.{arith}
 use lib.ListN.{length}
 use Rattle.words.specs.Bytes.{wordsOf, numbersOf}
-use Rattle.sheet.specs.Limits.{mostPlaces}
+use Rattle.checks.specs.Limits.{mostPlaces}
 use Rattle.values.specs.Signals.{inTable}
 use Rattle.spatial.specs.Lanes.{lanes}
 use Rattle.spatial.specs.Steps.{RoadsIn, ValidRow, Marked, LowOutside, Rooms, LowRows, Settled}

@@ -5,7 +5,7 @@ use native.Mathlib.Omega.{arith}
 use lib.ListN.{length}
 use lib.Seq.{length-take-le, length-front}
 use Rattle.words.specs.Bytes.{wordsOf, numbersOf}
-use Rattle.sheet.specs.Limits.{mostPlaces}
+use Rattle.checks.specs.Limits.{mostPlaces}
 use Rattle.spatial.specs.Lanes.{lanes}
 use Rattle.spatial.specs.Blocks.{CentresDone}
 use Rattle.spatial.proofs.Centres.{centres-none, centres-more}

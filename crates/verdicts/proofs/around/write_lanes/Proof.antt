@@ -9,8 +9,8 @@ use Rattle.words.specs.Bytes.{wordsOf}
 use Rattle.words.specs.Rows.{row, concat, rows, put}
 use Rattle.words.proofs.Puts.{put-nil}
 use Rattle.words.proofs.Words.{words-count}
-use Rattle.logic.specs.Counts.{count, sumBelow}
-use Rattle.logic.proofs.Totals.{sum-more, table-yes-bound}
+use Rattle.counting.specs.Totals.{count, sumBelow}
+use Rattle.counting.proofs.Totals.{sum-more, table-yes-bound}
 use Rattle.values.specs.Chain.{chainWord, chainVerdict}
 use Rattle.spatial.specs.Lanes.{laneOf}
 use Rattle.verdicts.proofs.LineRows.{put-row}

@@ -10,9 +10,9 @@ use mir.Val.{toZ, ofZ}
 use borrow.Author.Needs.{needs}
 use Rattle.words.specs.Bytes.{wordsOf}
 use Rattle.logic.specs.Table.{value}
-use Rattle.logic.specs.Formulas.{InBits}
-use Rattle.sheet.specs.declared.operator.Operator.{Operator}
-use Rattle.sheet.specs.Decoding.{operatorSaid}
+use Rattle.formulas.specs.Formulas.{InBits}
+use Rattle.lines.specs.declared.operator.Operator.{Operator}
+use Rattle.lines.specs.Decoding.{operatorSaid}
 use Rattle.values.specs.Chain.{chains}
 use Rattle.operators.specs.Rows.{Filled, RowLeft}
 use Rattle.operators.proofs.RowLaws.{left-same}

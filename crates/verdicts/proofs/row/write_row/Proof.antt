@@ -10,9 +10,9 @@ use Rattle.words.specs.Bytes.{wordsOf}
 use Rattle.words.specs.Rows.{put}
 use Rattle.words.proofs.Rows.{row-ext}
 use Rattle.words.proofs.Words.{words-count, words-take}
-use Rattle.logic.specs.Counts.{count}
-use Rattle.logic.proofs.Totals.{sum-same}
-use Rattle.sheet.specs.Decoding.{operatorSaid}
+use Rattle.counting.specs.Totals.{count}
+use Rattle.counting.proofs.Totals.{sum-same}
+use Rattle.lines.specs.Decoding.{operatorSaid}
 use Rattle.values.specs.Chain.{chainWord, chainVerdict}
 use Rattle.operators.specs.Rows.{Filled}
 use Rattle.verdicts.specs.Sample.{entry}

@@ -11,10 +11,10 @@ use Rattle.words.specs.Bytes.{wordsOf}
 use Rattle.words.specs.Rows.{row, concat, rows, put}
 use Rattle.words.proofs.Puts.{put-nil, take-put}
 use Rattle.words.proofs.Words.{words-count}
-use Rattle.logic.specs.Counts.{count, sumBelow}
-use Rattle.logic.proofs.Totals.{sum-more, sum-bound, yes-bound}
-use Rattle.sheet.specs.Decoding.{operatorSaid}
-use Rattle.sheet.specs.Limits.{mostPlaces}
+use Rattle.counting.specs.Totals.{count, sumBelow}
+use Rattle.counting.proofs.Totals.{sum-more, sum-bound, yes-bound}
+use Rattle.lines.specs.Decoding.{operatorSaid}
+use Rattle.checks.specs.Limits.{mostPlaces}
 use Rattle.values.specs.Chain.{chainWord, chainVerdict}
 use Rattle.operators.specs.Rows.{Filled}
 use Rattle.verdicts.specs.Writing.{lineValue, Readable}

@@ -8,8 +8,8 @@ use Rattle.words.specs.Bytes.{wordsOf}
 use Rattle.words.specs.Rows.{row, put}
 use Rattle.words.proofs.Puts.{put-nil, put-more}
 use Rattle.words.proofs.Words.{words-count}
-use Rattle.logic.specs.Counts.{count, sumBelow}
-use Rattle.logic.proofs.Totals.{sum-more, yes-bound}
+use Rattle.counting.specs.Totals.{count, sumBelow}
+use Rattle.counting.proofs.Totals.{sum-more, yes-bound}
 use Rattle.values.specs.Chain.{chainWord, chainVerdict}
 use Rattle.values.proofs.Machine.{byte-count}
 use Rattle.verdicts.specs.Sample.{entry}

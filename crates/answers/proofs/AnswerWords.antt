@@ -1,0 +1,166 @@
+-- Where the words of an answer stand: the head's fields, line i's words from `lineIndex i` on, and the walk over the lines' lengths that finds
+-- them again (`lineStart`).
+use mathlib.Core.Path.{_≡_, refl, sym, ap, ap₂, _∙_}
+use mathlib.Core.List.{List, [], _∷_, _++_, append-assoc}
+use Prim.Native.Nat.{ℕ, zero, suc, _+_, _-_, _*_, _^_, _<_, _≤_}
+use native.Mathlib.Omega.{arith}
+use lib.ListN.{length, getD, replicate, length-append, List·getD-append}
+use lib.Seq.{getD-append-add, getD-append-seam}
+use Rattle.words.specs.Word.{bits, wordOf}
+use Rattle.words.specs.Rows.{concat, padded}
+use Rattle.words.proofs.Rows.{length-rows, getD-rows, in-table}
+use Rattle.words.proofs.Concat.{concat-length, start-below, concat-at}
+use Rattle.words.proofs.Zeros.{zero-at}
+use Rattle.network.specs.Network.{Network}
+use Rattle.formulas.specs.Formulas.{Line, lineIn, Recording}
+use Rattle.counting.specs.Totals.{sumBelow}
+use Rattle.checks.specs.Checked.{wordAt}
+use Rattle.answers.specs.Answer.{lineIndex, wordFor, lineWords, headWord, answerWords}
+use Rattle.lookup.specs.Lookup.{headPlaces, headLines, headSamples, lineStart, lineLength}
+
+-- a word of the part between the head and the end
+behind-head : (m e z : List ℕ) (h k : ℕ) → k < length m → getD (h ∷ ((m ++ e) ++ z)) (1 + k) 0 ≡ getD m k 0
+behind-head m e z h k l =
+    let s : 1 + k ≡ suc k = omega arith in
+    rw s (List·getD-append (m ++ e) z 0 k (omega (arith, length-append m e)) ∙ List·getD-append m e 0 k l)
+
+-- the end, and the zeros after it
+at-end : (m z : List ℕ) (h e : ℕ) → getD (h ∷ ((m ++ (e ∷ [])) ++ z)) (1 + length m) 0 ≡ e
+at-end m z h e =
+    let s : 1 + length m ≡ suc (length m) = omega arith in
+    rw (s, append-assoc m (e ∷ []) z) (getD-append-seam m e z 0)
+
+after-end : (m : List ℕ) (h e k j : ℕ) → 1 + length m < j → getD (h ∷ ((m ++ (e ∷ [])) ++ replicate k 0)) j 0 ≡ 0
+after-end m h e k j b =
+    let i : ℕ = j - suc (suc (length m)) in
+    let l : length (m ++ (e ∷ [])) ≡ length m + 1 = length-append m (e ∷ []) in
+    let index : j ≡ suc (length (m ++ (e ∷ [])) + i) = omega arith in
+    ap (λ (a : ℕ). getD (h ∷ ((m ++ (e ∷ [])) ++ replicate k 0)) a 0) index ∙ getD-append-add (m ++ (e ∷ [])) (replicate k 0) i 0 ∙ zero-at k i
+
+end-below : (m : List ℕ) (e : ℕ) (z : List ℕ) (h : ℕ) → 1 + length m < length (h ∷ ((m ++ (e ∷ [])) ++ z))
+end-below m e z h = omega (arith, length-append (m ++ (e ∷ [])) z, length-append m (e ∷ []))
+
+-- what the fields of an answer have to hold
+pub record InFields (n T : ℕ) (lines : List Line) : Type 0 where
+  pub places : n < 2 ^ 8
+  pub count : length lines < 2 ^ 8
+  pub samples : T < 2 ^ 12
+  pub lengths : (i : ℕ) → lineIn lines i .length < 2 ^ 12
+
+-- ---- the lines alone, one after the other: how long they are, and where the words of line i stand among those of the first k
+module _ (N : Network) (T : ℕ) (x : Recording) (lines : List Line) where
+  line-size : (i : ℕ) → length (lineWords N T x lines i) ≡ 1 + lineIn lines i .length * N.places
+  unfolding lineWords
+  line-size i = ap suc (length-rows (wordFor N T x lines i) (lineIn lines i .length) (N.places)) ∙ omega arith
+
+  abbrev pub sizes : ℕ → ℕ
+  sizes i = sumBelow (λ k. 1 + lineIn lines k .length * N.places) i
+
+  sizes-next : (i : ℕ) → sizes (suc i) ≡ sizes i + length (lineWords N T x lines i)
+  unfolding sumBelow
+  sizes-next i = ap (λ m. sizes i + m) (sym (line-size i))
+
+  sizes-first : sizes 0 ≡ 0
+  unfolding sumBelow
+  sizes-first = refl
+
+  pub lines-size : (k : ℕ) → length (concat (lineWords N T x lines) k) ≡ sizes k
+  lines-size = concat-length (lineWords N T x lines) sizes sizes-first sizes-next
+
+  pub sizes-below : (i k : ℕ) → i < k → sizes i + (1 + lineIn lines i .length * N.places) ≤ sizes k
+  sizes-below i k h = omega (arith, start-below (lineWords N T x lines) sizes sizes-first sizes-next i k h, line-size i)
+
+  line-among : (k i j : ℕ) → i < k → j < 1 + lineIn lines i .length * N.places → getD (concat (lineWords N T x lines) k) (sizes i + j) 0 ≡ getD (lineWords N T x lines i) j 0
+  line-among k i j h b = concat-at (lineWords N T x lines) sizes sizes-first sizes-next k i j 0 h (rw (line-size i) b)
+
+  pub verdict-among : (k i t l : ℕ) → i < k → t < lineIn lines i .length → l < N.places
+      → getD (concat (lineWords N T x lines) k) (sizes i + suc (t * N.places + l)) 0 ≡ wordFor N T x lines i t l
+  unfolding lineWords
+  verdict-among k i t l h u b =
+      line-among k i (suc (t * N.places + l)) h (omega (arith, in-table u b))
+      ∙ getD-rows (wordFor N T x lines i) (lineIn lines i .length) (N.places) t l 0 u b
+
+module _ (N : Network) (T : ℕ) (x : Recording) (lines : List Line) (room : ℕ) (fits : InFields (N.places) T lines) where
+  abbrev pub answer : List ℕ
+  answer = padded (answerWords N T x lines) room
+
+  -- ---- the head
+  pub places-read : headPlaces answer ≡ N.places
+  unfolding answerWords headWord
+  places-read = omega (arith, fits .places, fits .count, fits .samples)
+
+  pub lines-read : headLines answer ≡ length lines
+  unfolding answerWords headWord
+  lines-read = omega (arith, fits .places, fits .count, fits .samples)
+
+  pub samples-read : headSamples answer ≡ T
+  unfolding answerWords headWord
+  samples-read = omega (arith, fits .places, fits .count, fits .samples)
+
+  -- ---- a line's words
+  pub line-word : (i j : ℕ) → i < length lines → j < 1 + lineIn lines i .length * N.places → wordAt answer (lineIndex (N.places) lines i + j) ≡ getD (lineWords N T x lines i) j 0
+  unfolding answerWords lineIndex
+  line-word i j h k =
+      let below = sizes-below N T x lines i (length lines) h in
+      let all = lines-size N T x lines (length lines) in
+      let index : lineIndex (N.places) lines i + j ≡ 1 + (sizes N T x lines i + j) = omega arith in
+      rw index (behind-head (concat (lineWords N T x lines) (length lines)) _ _ _ (sizes N T x lines i + j) (omega arith))
+      ∙ line-among N T x lines (length lines) i j h k
+
+  -- ---- the walk
+  length-field : (i : ℕ) → i < length lines → bits 0 12 (wordAt answer (lineIndex (N.places) lines i)) ≡ lineIn lines i .length
+  unfolding lineWords
+  length-field i h =
+      let z : lineIndex (N.places) lines i ≡ lineIndex (N.places) lines i + 0 = omega arith in
+      let word : wordAt answer (lineIndex (N.places) lines i) ≡ wordOf 14 (lineIn lines i .length) = ap (wordAt answer) z ∙ line-word i 0 h (omega arith) in
+      ap (bits 0 12) word ∙ omega (arith, fits .lengths i)
+
+  pub start-read : (i : ℕ) → i ≤ length lines → lineStart answer i ≡ lineIndex (N.places) lines i
+  unfolding lineStart lineIndex sumBelow
+  start-read zero h = refl
+  start-read (suc i) h =
+      ap (λ at. at + 1 + bits 0 12 (wordAt answer at) * headPlaces answer) (start-read i (omega arith))
+      ∙ ap₂ (λ m p. lineIndex (N.places) lines i + 1 + m * p) (length-field i h) places-read
+      ∙ omega arith
+
+  pub length-read : (i : ℕ) → i < length lines → lineLength answer i ≡ lineIn lines i .length
+  length-read i h = ap (λ at. bits 0 12 (wordAt answer at)) (start-read i (omega arith)) ∙ length-field i h
+
+  -- the word of line i at sample t and place l
+  pub verdict-word : (i t l : ℕ) → i < length lines → t < lineIn lines i .length → l < N.places
+      → wordAt answer (lineIndex (N.places) lines i + 1 + (t * N.places + l)) ≡ wordFor N T x lines i t l
+  unfolding lineWords
+  verdict-word i t l h k b =
+      let index : lineIndex (N.places) lines i + 1 + (t * N.places + l) ≡ lineIndex (N.places) lines i + suc (t * N.places + l) = omega arith in
+      let inside : suc (t * N.places + l) < 1 + lineIn lines i .length * N.places = omega (arith, in-table k b) in
+      ap (wordAt answer) index
+      ∙ line-word i (suc (t * N.places + l)) h inside
+      ∙ getD-rows (wordFor N T x lines i) (lineIn lines i .length) (N.places) t l 0 k b
+
+  -- ---- the end
+  abbrev middle : List ℕ
+  middle = concat (lineWords N T x lines) (length lines)
+
+  abbrev ending : ℕ
+  ending = wordOf 15 (lineIndex (N.places) lines (length lines))
+
+  -- how many words are left over
+  abbrev spare : ℕ
+  spare = room - length (headWord N T x lines ∷ (middle ++ (ending ∷ [])))
+
+  middle-length : length middle ≡ sizes N T x lines (length lines)
+  middle-length = lines-size N T x lines (length lines)
+
+  pub end-word : wordAt answer (lineIndex (N.places) lines (length lines)) ≡ ending
+  unfolding answerWords lineIndex
+  end-word =
+      let index : lineIndex (N.places) lines (length lines) ≡ 1 + length middle = omega (arith, middle-length) in
+      ap (wordAt answer) index ∙ at-end middle (replicate spare 0) (headWord N T x lines) ending
+
+  pub zeros-after : (j : ℕ) → lineIndex (N.places) lines (length lines) < j → wordAt answer j ≡ 0
+  unfolding answerWords lineIndex
+  zeros-after j b = after-end middle (headWord N T x lines) ending spare j (omega (arith, middle-length))
+
+  pub end-inside : lineIndex (N.places) lines (length lines) < length answer
+  unfolding answerWords lineIndex
+  end-inside = omega (arith, middle-length, end-below middle ending (replicate spare 0) (headWord N T x lines))

@@ -1,0 +1,137 @@
+-- The answer to an accepted sheet is a whole answer, so the lookup gives what the answer says.
+use mathlib.Core.Path.{_≡_, refl, sym, ap, _∙_}
+use mathlib.Core.Bool.{true}
+use mathlib.Core.List.{List}
+use Prim.Native.Nat.{ℕ, zero, suc, _+_, _*_, _/_, _%_, _^_, _<_, _≤_}
+use native.Mathlib.Nat.{le-of-lt, mod-lt, div-add-mod', div-lt-iff-lt-mul, mul-le-mul}
+use native.Mathlib.Omega.{arith}
+use lib.Dec.{T, leb, ltb, eqb, le→leb, lt→ltb, eqb-refl, ltb→lt}
+use lib.ListN.{length}
+use Rattle.words.specs.Word.{bits, kindOf, payloadOf, wordOf}
+use Rattle.logic.specs.Lattice.{verdictLattice, leastOver}
+use Rattle.network.specs.Network.{Network}
+use Rattle.formulas.specs.Formulas.{Line, lineIn, Recording, InBits}
+use Rattle.counting.specs.Totals.{sumBelow}
+use Rattle.counting.proofs.Tests.{and-i}
+use Rattle.logic.proofs.Quantifiers.{all-i}
+use Rattle.formulas.specs.Formulas.{ConstantsIn}
+use Rattle.counting.proofs.Totals.{sum-below}
+use Rattle.checks.specs.Limits.{mostPlaces, mostSamples, mostLines}
+use Rattle.checks.specs.Checked.{between, wordAt, isKind}
+use Rattle.values.specs.Said.{saidBy}
+use Rattle.answers.specs.Answer.{lineIndex, wordFor, lineWords, headWord, answerWords}
+use Rattle.lookup.specs.Lookup.{isSaid, headPlaces, headLines, headSamples, lineStart, lineLength, wholeHead, wholeLineAt, wholeLine, wholeEnd, wholeAnswer}
+use Rattle.answers.proofs.AnswerWords.{InFields, answer, places-read, lines-read, samples-read, line-word, start-read, length-read, verdict-word, end-word, zeros-after, end-inside}
+use Rattle.answers.proofs.AnswerSays.{word-says}
+
+equal : (a b : ℕ) → a ≡ b → T (eqb a b)
+equal a b e = rw e (eqb-refl b)
+
+within : (low high x : ℕ) → low ≤ x → x ≤ high → T (between low high x)
+within low high x h k = and-i (leb low x) (leb x high) (le→leb low x h) (le→leb x high k)
+
+-- a word of a kind and a payload stands at an index
+kind-there : (a : List ℕ) (kind payload at : ℕ) → at < length a → wordAt a at ≡ wordOf kind payload → payload < 2 ^ 28 → T (isKind kind a at)
+unfolding isKind
+kind-there a kind payload at h e p =
+    let k : kindOf (wordAt a at) ≡ kind = ap kindOf e ∙ omega arith in
+    and-i (ltb at (length a)) (eqb (kindOf (wordAt a at)) kind) (lt→ltb at (length a) h) (equal (kindOf (wordAt a at)) kind k)
+
+-- sizes of an accepted sheet
+pub record InAnswer (n horizon : ℕ) (lines : List Line) : Type 0 where
+  pub places : (1 ≤ n) × (n ≤ mostPlaces)
+  pub samples : (1 ≤ horizon) × (horizon ≤ mostSamples)
+  pub count : (1 ≤ length lines) × (length lines ≤ mostLines)
+  pub lengths : (i : ℕ) → i < length lines → (1 ≤ lineIn lines i .length) × (lineIn lines i .length ≤ horizon)
+
+-- a line's first word and its verdicts
+abbrev mostLineWords : ℕ
+mostLineWords = 1 + mostSamples * mostPlaces
+
+pub index-bound : (n horizon : ℕ) (lines : List Line) → InAnswer n horizon lines → (i : ℕ) → i ≤ length lines → lineIndex n lines i ≤ 1 + i * mostLineWords
+unfolding lineIndex sumBelow
+index-bound n horizon lines sizes zero h = omega arith
+index-bound n horizon lines sizes (suc i) h =
+    let size : lineIn lines i .length * n ≤ mostSamples * mostPlaces = mul-le-mul {n₂ = mostSamples} (omega (arith, sizes .lengths i h, sizes .samples)) (sizes .places .1) in
+    omega (arith, index-bound n horizon lines sizes i (le-of-lt h))
+
+module _ (N : Network) (horizon : ℕ) (x : Recording) (lines : List Line) (room : ℕ) (fits : InFields (N.places) horizon lines)
+    (samples : (s t l : ℕ) → InBits 27 (x s t l)) (constants : ConstantsIn (InBits 27) lines) (sizes : InAnswer (N.places) horizon lines) where
+  abbrev a : List ℕ
+  a = answer N horizon x lines room fits
+
+  -- every index of a line, and the end, stands in the answer and fits a payload
+  end-bound : lineIndex (N.places) lines (length lines) < 2 ^ 28
+  end-bound = omega (arith, index-bound (N.places) horizon lines sizes (length lines) (omega arith), sizes .count)
+
+  index-below : (i : ℕ) → i < length lines → lineIndex (N.places) lines i < lineIndex (N.places) lines (length lines)
+  unfolding lineIndex
+  index-below i h = omega (arith, sum-below (λ k. 1 + lineIn lines k .length * N.places) i (length lines) h)
+
+  -- line i's first word
+  line-first : (i : ℕ) → i < length lines → wordAt a (lineIndex (N.places) lines i) ≡ wordOf 14 (lineIn lines i .length)
+  unfolding lineWords
+  line-first i h =
+      let z : lineIndex (N.places) lines i ≡ lineIndex (N.places) lines i + 0 = omega arith in
+      ap (wordAt a) z ∙ line-word N horizon x lines room fits i 0 h (omega arith)
+
+  -- a verdict stands at every sample and place
+  verdict-there : (i : ℕ) → i < length lines → (j : ℕ) → j < lineIn lines i .length * N.places → T (isSaid (saidBy (wordAt a (lineIndex (N.places) lines i + 1 + j))))
+  verdict-there i h j k =
+      let n : ℕ = N.places in
+      let t : j / n < lineIn lines i .length = div-lt-iff-lt-mul (sizes .places .0) .1 k in
+      let l : j % n < n = mod-lt j (sizes .places .0) in
+      let word : wordAt a (lineIndex n lines i + 1 + j) ≡ wordFor N horizon x lines i (j / n) (j % n)
+      = ap (λ m. wordAt a (lineIndex n lines i + 1 + m)) (sym (div-add-mod' j n)) ∙ verdict-word N horizon x lines room fits i (j / n) (j % n) h t l in
+      rw (word, word-says N horizon x lines room fits samples constants i (j / n) (j % n) l) tt
+
+  line-whole : (i : ℕ) → i < length lines → T (wholeLine a i)
+  unfolding wholeLineAt
+  line-whole i h =
+      let at : lineStart a i ≡ lineIndex (N.places) lines i = start-read N horizon x lines room fits i (le-of-lt h) in
+      let first : wordAt a (lineStart a i) ≡ wordOf 14 (lineIn lines i .length) = ap (wordAt a) at ∙ line-first i h in
+      let len = fits .lengths i in
+      let spare : bits 12 16 (wordAt a (lineStart a i)) ≡ 0 = ap (bits 12 16) first ∙ omega arith in
+      let field : lineLength a i ≡ lineIn lines i .length = length-read N horizon x lines room fits i h in
+      let inside : lineStart a i < length a = omega (arith, end-inside N horizon x lines room fits, index-below i h) in
+      and-i (isKind 14 a (lineStart a i)) _ (kind-there a 14 (lineIn lines i .length) (lineStart a i) inside first (omega arith))
+      (and-i (eqb (bits 12 16 (wordAt a (lineStart a i))) 0) _ (equal _ 0 spare)
+      (and-i (between 1 (headSamples a) (lineLength a i)) _
+      (rw (field, samples-read N horizon x lines room fits) (within 1 horizon (lineIn lines i .length) (sizes .lengths i h .0) (sizes .lengths i h .1)))
+      (rw (field, places-read N horizon x lines room fits, at) (all-i (λ _. true) (λ j. isSaid (saidBy (wordAt a (lineIndex (N.places) lines i + 1 + j)))) (lineIn lines i .length * N.places)
+      (λ j k _. verdict-there i h j k)))))
+
+  end-whole : T (wholeEnd a (lineStart a (headLines a)))
+  unfolding wholeEnd
+  end-whole =
+      let at : lineStart a (headLines a) ≡ lineIndex (N.places) lines (length lines)
+      = ap (lineStart a) (lines-read N horizon x lines room fits) ∙ start-read N horizon x lines room fits (length lines) (omega arith) in
+      let word = end-word N horizon x lines room fits in
+      let payload : payloadOf (wordAt a (lineIndex (N.places) lines (length lines))) ≡ lineIndex (N.places) lines (length lines) = ap payloadOf word ∙ omega (arith, end-bound) in
+      rw at (and-i (isKind 15 a (lineIndex (N.places) lines (length lines))) _
+      (kind-there a 15 (lineIndex (N.places) lines (length lines)) (lineIndex (N.places) lines (length lines)) (end-inside N horizon x lines room fits) word end-bound)
+      (and-i (eqb (payloadOf (wordAt a (lineIndex (N.places) lines (length lines)))) (lineIndex (N.places) lines (length lines))) _ (equal _ _ payload)
+      (all-i (ltb (lineIndex (N.places) lines (length lines))) (λ j. eqb (wordAt a j) 0) (length a)
+      (λ j _ b. equal (wordAt a j) 0 (zeros-after N horizon x lines room fits j (ltb→lt (lineIndex (N.places) lines (length lines)) j b))))))
+
+  kind-13 : T (isKind 13 a 0)
+  unfolding answerWords headWord
+  kind-13 =
+      let payload : ℕ = N.places * 2 ^ 20 + length lines * 2 ^ 12 + horizon in
+      kind-there a 13 payload 0 (omega arith) refl (omega (arith, fits .places, fits .count, fits .samples))
+
+  head-whole : T (wholeHead a)
+  unfolding wholeHead
+  head-whole =
+      and-i (isKind 13 a 0) _ kind-13
+      (and-i (between 1 mostPlaces (headPlaces a)) _ (rw (places-read N horizon x lines room fits) (within 1 mostPlaces (N.places) (sizes .places .0) (sizes .places .1)))
+      (and-i (between 1 mostLines (headLines a)) _ (rw (lines-read N horizon x lines room fits) (within 1 mostLines (length lines) (sizes .count .0) (sizes .count .1)))
+      (rw (samples-read N horizon x lines room fits) (within 1 mostSamples horizon (sizes .samples .0) (sizes .samples .1)))))
+
+  pub answer-whole : T (wholeAnswer a)
+  unfolding wholeAnswer
+  answer-whole =
+      and-i (wholeHead a) _ head-whole
+      (and-i (leastOver verdictLattice (λ _. true) (wholeLine a) (headLines a)) _
+      (rw (lines-read N horizon x lines room fits) (all-i (λ _. true) (wholeLine a) (length lines) (λ i h _. line-whole i h)))
+      end-whole)

@@ -1,0 +1,62 @@
+-- Document 01, "The answer" and "Where a sheet is turned back": from the sheet's words and the lent lengths to everything that the engine
+-- leaves, the result's five numbers, every word of the answer and every distance. The contract of the engine is equations to `judged`.
+use Prim.Native.Nat.{ℕ}
+use mathlib.Core.Bool.{cond}
+use mathlib.Core.List.{List}
+use lib.Dec.{leb}
+use lib.ListN.{length, replicate}
+use Rattle.words.specs.Rows.{padded}
+use Rattle.network.specs.Network.{Network}
+use Rattle.formulas.specs.Formulas.{Recording}
+use Rattle.logic.specs.Counts.{greatestRounds, yesCount}
+use Rattle.checks.specs.Checked.{Checked, accepted, refused}
+use Rattle.sheet.specs.Layout.{Layout, checked}
+use Rattle.roads.specs.Roads.{distanceTable}
+use Rattle.sheet.specs.Recording.{network, recording}
+use Rattle.answers.specs.Answer.{wordsNeeded, answerWords}
+
+pub record Result : Type 0 where
+  pub number : ℕ
+  pub place : ℕ
+  pub words : ℕ
+  pub rounds : ℕ
+  pub yes : ℕ
+
+pub record Judged : Type 0 where
+  pub result : Result
+  pub answer : List ℕ
+  pub distances : List ℕ
+
+-- a refusal leaves zeros
+abbrev pub refusal : ℕ → ℕ → ℕ → ℕ → Judged
+refusal distances answer number place = record {
+  result = record { number = number; place = place; words = 0; rounds = 0; yes = 0 };
+  answer = replicate answer 0;
+  distances = replicate distances 0;
+}
+
+module _ (s : List ℕ) (distances answer : ℕ) where
+  unfoldable pub answered : Layout → Judged
+  answered L =
+      let N : Network = network s L in
+      let x : Recording = recording s L in
+      record {
+        result = record {
+          number = 0;
+          place = 0;
+          words = wordsNeeded N.places L.lines;
+          rounds = greatestRounds N x L.lines;
+          yes = yesCount N x L.lines;
+        };
+        answer = padded (answerWords N L.sizes.samples x L.lines) answer;
+        distances = padded (distanceTable N) distances;
+      }
+
+  -- 15 comes last: fewer words than needed, told at the sheet's length
+  abbrev pub judgedBy : Checked Layout → Judged
+  judgedBy (refused number place) = refusal distances answer number place
+  judgedBy (accepted L) = cond (leb (wordsNeeded (L.sizes.places) L.lines) answer) (answered L) (refusal distances answer 15 (length s))
+
+  -- `distances` and `answer` are how many distances and answer words are lent
+  unfoldable pub judged : Judged
+  judged = judgedBy (checked s distances)

@@ -1,0 +1,4 @@
+pub mod Limits
+pub mod Checked
+pub mod Faults
+pub mod Stages

@@ -1,0 +1,4 @@
+pub mod Operators
+pub mod Lines
+pub mod AcceptedLines
+pub mod Walk

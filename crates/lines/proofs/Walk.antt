@@ -1,0 +1,171 @@
+-- A walk over the lines of an accepted sheet: line k is read at an index, from the lengths of the lines before it, and leads to line k + 1.
+use Prim.Native.Nat.{ℕ, zero, suc, _+_, _-_, _<_, _≤_}
+use mathlib.Core.Bool.{Bool, true, false, not}
+use mathlib.Core.List.{List, [], _∷_, _++_}
+use mathlib.Core.Logic.{_⊎_, inl, inr, ⊎-elim}
+use mathlib.Core.Path.{_≡_, refl, sym, _∙_, ap, fun-ext, subst}
+use native.Mathlib.Omega.{arith}
+use lib.Dec.{ltb}
+use lib.ListN.{length, getD, set, take, replicate, length-append, length-set, length-replicate}
+use lib.Seq.{length-take-le, take-length, take-take, take-append-seam, getD-take, getD-at}
+use borrow.Author.Tests.{ltb-true}
+use Rattle.formulas.specs.Formulas.{Line, True, lineIn}
+use Rattle.checks.specs.Limits.{mostLines}
+use Rattle.checks.specs.Checked.{accepted, isKind}
+use Rattle.lines.specs.Lines.{lineAt, linesFrom}
+use Rattle.checks.proofs.Checks.{same-accepted, require-accepted, bind-accepted}
+use Rattle.checks.proofs.Tests.{kind-told}
+use Rattle.lines.proofs.Lines.{Lengths, lengths-none, lengths-more, lines-stop, line-more}
+
+module _ (s : List ℕ) (v T : ℕ) where
+  -- ---- one step: the lines end here, or one more is read
+
+  record Stopped (found lines : List Line) : Type 0 where
+    same : found ≡ lines
+    some : 0 < length lines
+
+  record LineRead (room : ℕ) (found : List Line) (at : ℕ) (lines : List Line) (end : ℕ) : Type 0 where
+    line : Line
+    next : ℕ
+    there : at < length s
+    reads : lineAt s v T (length found) (λ i. lineIn found i .length) at ≡ accepted (line, next)
+    rest : linesFrom s v T room (found ++ (line ∷ [])) next ≡ accepted (lines, end)
+
+  stop-or-read : (room : ℕ) (found : List Line) (at : ℕ) {lines : List Line} {end : ℕ} → linesFrom s v T (suc room) found at ≡ accepted (lines, end)
+      → Stopped found lines ⊎ LineRead room found at lines end
+  stop-or-read room found at {lines} {end} e = by (isKind 5 s at) refl
+    where
+      by : (kind-5 : Bool) → isKind 5 s at ≡ kind-5 → Stopped found lines ⊎ LineRead room found at lines end
+      by false other =
+          let told = require-accepted (ltb 0 (length found)) 10 at _ (sym (lines-stop s v T room found at other) ∙ e) in
+          let same : found ≡ lines = ap (λ (read : List Line × ℕ). read .0) (same-accepted (told .1)) in
+          inl (record { same = same; some = subst (λ (l : List Line). 0 < length l) same (ltb-true _ _ (told .0)) })
+      by true kind-5 =
+          let read = bind-accepted (lineAt s v T (length found) (λ i. lineIn found i .length) at) _ (sym (line-more s v T room found at kind-5) ∙ e) in
+          inr (record { line = read .0 .0; next = read .0 .1; there = kind-told 5 s at kind-5 .0; reads = read .1; rest = read .2 })
+
+  -- ---- what was found stands in front of what will be
+
+  record Front (room : ℕ) (found lines : List Line) : Type 0 where
+    kept : take (length found) lines ≡ found
+    least : length found ≤ length lines
+    most : length lines ≤ length found + room
+
+  found-front : (room : ℕ) (found lines : List Line) → found ≡ lines → Front room found lines
+  found-front room found lines same =
+      let count = ap length same in
+      record { kept = rw (← same) (take-length found); least = omega arith; most = omega arith }
+
+  lines-front : (room : ℕ) (found : List Line) (at : ℕ) {lines : List Line} {end : ℕ} → linesFrom s v T room found at ≡ accepted (lines, end)
+      → Front room found lines
+  unfolding linesFrom
+  lines-front zero found at {lines} e =
+      let told = require-accepted (not (isKind 5 s at)) 10 at _ e in
+      found-front zero found lines (ap (λ (read : List Line × ℕ). read .0) (same-accepted (told .1)))
+  lines-front (suc room) found at {lines} e =
+      ⊎-elim (λ stop. found-front (suc room) found lines (stop .same))
+      (λ read. one-less (read .line) (lines-front room (found ++ (read .line ∷ [])) (read .next) (read .rest)))
+      (stop-or-read room found at e)
+    where
+      one-less : (line : Line) → Front room (found ++ (line ∷ [])) lines → Front (suc room) found lines
+      one-less line front =
+          let more = length-append found (line ∷ []) in
+          let least = front .least in
+          let most = front .most in
+          record {
+            kept = sym (take-take (length found) (length (found ++ (line ∷ []))) lines (omega arith)) ∙ ap (take (length found)) (front .kept)
+                ∙ take-append-seam found (line ∷ []);
+            least = omega arith;
+            most = omega arith;
+          }
+
+-- ---- there is a first line
+
+pub first-inside : (s : List ℕ) (v T at : ℕ) {lines : List Line} {end : ℕ} → linesFrom s v T mostLines [] at ≡ accepted (lines, end) → at < length s
+first-inside s v T at {lines} e = ⊎-elim (λ stop. absurd (none stop)) (λ read. read .there) (stop-or-read s v T 63 [] at e)
+  where
+    none : Stopped s v T [] lines → ⊥
+    none stop = let same = ap length (stop .same) in let some = stop .some in omega arith
+
+-- ---- the walk
+
+-- before line k: its index, the lengths of the lines before it and zeros beyond, and that the lines from here on are those left
+pub record Walk (s : List ℕ) (v T : ℕ) (lines : List Line) (k at : ℕ) (lengths : List ℕ) : Type 0 where
+  pub passed : k ≤ length lines
+  pub room : length lengths ≡ mostLines
+  pub known : Lengths (take k lines) lengths
+  pub end : ℕ
+  pub rest : linesFrom s v T (mostLines - k) (take k lines) at ≡ accepted (lines, end)
+
+pub walk-start : (s : List ℕ) (v T start : ℕ) {lines : List Line} {end : ℕ} → linesFrom s v T mostLines [] start ≡ accepted (lines, end)
+    → Walk s v T lines 0 start (replicate mostLines 0)
+walk-start s v T start {lines} {end} e = record {
+  passed = omega arith;
+  room = length-replicate {A = ℕ} mostLines 0;
+  known = lengths-none mostLines;
+  end = end;
+  rest = e;
+}
+
+-- line k is read there, and the walk goes on
+pub record Step (s : List ℕ) (v T : ℕ) (lines : List Line) (k at : ℕ) (lengths : List ℕ) : Type 0 where
+  pub next : ℕ
+  pub there : at < length s
+  pub reads : lineAt s v T k (λ i. getD lengths i 0) at ≡ accepted (lineIn lines k, next)
+  pub walk : Walk s v T lines (k + 1) next (set lengths k (lineIn lines k .length))
+
+module _ (s : List ℕ) (v T : ℕ) (lines : List Line) (k at : ℕ) (lengths : List ℕ) (walk : Walk s v T lines k at lengths) (more : k < length lines) where
+  before : length (take k lines) ≡ k
+  before = length-take-le k lines (walk .passed)
+
+  few : k < mostLines
+  few = let front = lines-front s v T (mostLines - k) (take k lines) at (walk .rest) .most in let count = before in omega arith
+
+  step-read : LineRead s v T (mostLines - (k + 1)) (take k lines) at lines (walk .end) → Step s v T lines k at lengths
+  step-read read = record {
+    next = read .next;
+    there = read .there;
+    reads = rw is-line reads;
+    walk = rw is-line (record {
+      passed = omega arith;
+      room = length-set lengths k (read .line .length) ∙ walk .room;
+      known = subst (λ (found : List Line). Lengths found (set lengths k (read .line .length))) (sym taken) known;
+      end = walk .end;
+      rest = subst (λ (found : List Line). linesFrom s v T (mostLines - (k + 1)) found (read .next) ≡ accepted (lines, walk .end)) (sym taken) (read .rest);
+    });
+  }
+    where
+      taken : take (k + 1) lines ≡ take k lines ++ (read .line ∷ [])
+      taken =
+          let count : length (take k lines ++ (read .line ∷ [])) ≡ k + 1 = length-append (take k lines) (read .line ∷ []) ∙ ap (λ (n : ℕ). n + 1) before in
+          rw (← count) (lines-front s v T (mostLines - (k + 1)) (take k lines ++ (read .line ∷ [])) (read .next) (read .rest) .kept)
+
+      is-line : lineIn lines k ≡ read .line
+      is-line =
+          let none : Line = record { operator = True; length = 0 } in
+          sym (getD-take (k + 1) lines k none (omega arith)) ∙ ap (λ (l : List Line). getD l k none) taken
+          ∙ getD-at (take k lines) (read .line) [] none k before
+
+      reads : lineAt s v T k (λ i. getD lengths i 0) at ≡ accepted (read .line, read .next)
+      reads =
+          ap (λ (f : ℕ → ℕ). lineAt s v T k f at) (fun-ext (walk .known))
+          ∙ ap (λ (n : ℕ). lineAt s v T n (λ i. lineIn (take k lines) i .length) at) (sym before) ∙ read .reads
+
+      known : Lengths (take k lines ++ (read .line ∷ [])) (set lengths k (read .line .length))
+      known =
+          let room = walk .room in
+          let count = before in
+          let below = few in
+          subst (λ (n : ℕ). Lengths (take k lines ++ (read .line ∷ [])) (set lengths n (read .line .length))) before
+          (lengths-more (take k lines) (read .line) lengths (omega arith) (walk .known))
+
+  pub walk-step : Step s v T lines k at lengths
+  walk-step =
+      let below = few in
+      let room : mostLines - k ≡ suc (mostLines - (k + 1)) = omega arith in
+      let rest : linesFrom s v T (suc (mostLines - (k + 1))) (take k lines) at ≡ accepted (lines, walk .end) =
+      ap (λ (m : ℕ). linesFrom s v T m (take k lines) at) (sym room) ∙ walk .rest in
+      ⊎-elim (λ stop. absurd (left-over stop)) step-read (stop-or-read s v T (mostLines - (k + 1)) (take k lines) at rest)
+    where
+      left-over : Stopped s v T (take k lines) lines → ⊥
+      left-over stop = let same = ap length (stop .same) in let count = before in omega arith

@@ -1,0 +1,39 @@
+-- The codes 0 to 11: which fields and parameters a line with the code has, and what it then says.
+use Prim.Native.Nat.{ℕ}
+use mathlib.Core.List.{List, [], _∷_}
+use lib.ListN.{getD}
+use lib.IntN.{ℤ}
+use Rattle.formulas.specs.Formulas.{Operator, True, AtLeast, AtMost, Not, And, Until, Somewhere, Surrounded, Or, Eventually, Always, Everywhere}
+
+pub data Code : Type 0 where
+  -- no field
+  constant : Operator → Code
+  -- left a signal, then a constant
+  atom : (ℕ → ℤ → Operator) → Code
+  -- left an earlier line; left and right earlier lines
+  unary : (ℕ → Operator) → Code
+  binary : (ℕ → ℕ → Operator) → Code
+  -- the same, then a lower and an upper bound
+  unaryBounded : (ℕ → ℕ → ℕ → Operator) → Code
+  binaryBounded : (ℕ → ℕ → ℕ → ℕ → Operator) → Code
+  unknown : Code
+
+-- the table "Codes" of document 01, code 0 first
+unfoldable pub codes : List Code
+codes =
+    constant True ∷
+    atom AtLeast ∷
+    atom AtMost ∷
+    unary Not ∷
+    binary And ∷
+    binaryBounded Until ∷
+    unaryBounded Somewhere ∷
+    binaryBounded Surrounded ∷
+    binary Or ∷
+    unaryBounded Eventually ∷
+    unaryBounded Always ∷
+    unaryBounded Everywhere ∷
+    []
+
+abbrev pub codeOf : ℕ → Code
+codeOf number = getD codes number unknown

@@ -1,0 +1,4 @@
+pub mod Codes
+pub mod Lines
+pub mod GoodLines
+pub mod Decoding

@@ -1,0 +1,4 @@
+pub mod Passing
+pub mod AcceptedRoads
+pub mod DistanceStages
+pub mod DistanceStart
