@@ -37,3 +37,7 @@ codes =
 
 abbrev pub codeOf : ℕ → Code
 codeOf number = getD codes number unknown
+
+-- a code above it says nothing (11)
+abbrev pub lastCode : ℕ
+lastCode = 11

@@ -9,6 +9,7 @@ ghost use lib.Dec.{ltb, leb};
 ghost use lib.ListN.{length};
 ghost use Rattle.words.specs.Bytes.{wordsOf};
 ghost use Rattle.checks.specs.Checked.{accepted, require};
+ghost use Rattle.lines.specs.Codes.{lastCode};
 ghost use Rattle.lines.specs.Lines.{constantAt, boundsAt, operatorAt};
 ghost use Rattle.lines.specs.Decoding.{operatorSaid, constantSaid, boundsSaid, readSaid, fieldsOf, operatorOf, plainRead, atomRead, boundedRead};
 
@@ -142,7 +143,7 @@ fn read_bounds(s: &[u8], at: usize) -> ReadBounds
 
 // The table of codes. A parameter that a code does not have counts for nothing.
 fn operator_of(fields: Fields, constant: i32, bounds: Bounds) -> Operator
-    requires { ⌜ fields .code ≤ 11 ⌝ }
+    requires { ⌜ fields .code ≤ lastCode ⌝ }
     ensures { λ r. ⌜ operatorSaid r ≡ operatorOf fields constant (bounds .lower) (bounds .upper) ⌝ }
 {
     let code = fields.code;
@@ -187,7 +188,7 @@ fn fields_below(fields: Fields, lefts: usize, rights: usize) -> bool
 
 // A code with no parameter.
 fn decode_plain(fields: Fields, lefts: usize, rights: usize, at: usize) -> ReadOperator
-    requires { ⌜ (fields .code ≤ 11) × (at + 1 < 2 ^ 64) ⌝ }
+    requires { ⌜ (fields .code ≤ lastCode) × (at + 1 < 2 ^ 64) ⌝ }
     ensures { λ r. ⌜ readSaid r ≡ plainRead fields lefts rights at ⌝ }
 {
     if !fields_below(fields, lefts, rights) {
@@ -199,7 +200,7 @@ fn decode_plain(fields: Fields, lefts: usize, rights: usize, at: usize) -> ReadO
 
 // A code with a constant.
 fn decode_atom(s: &[u8], fields: Fields, signals: usize, at: usize) -> ReadOperator
-    requires { ⌜ (fields .code ≤ 11) × (at < length (wordsOf (now s))) ⌝ }
+    requires { ⌜ (fields .code ≤ lastCode) × (at < length (wordsOf (now s))) ⌝ }
     ensures { λ r. ⌜ readSaid r ≡ atomRead (wordsOf (now (s .entry))) fields signals at ⌝ }
 {
     if !fields_below(fields, signals, 1) {
@@ -216,7 +217,7 @@ fn decode_atom(s: &[u8], fields: Fields, signals: usize, at: usize) -> ReadOpera
 
 // A code with bounds.
 fn decode_bounded(s: &[u8], fields: Fields, lefts: usize, rights: usize, at: usize) -> ReadOperator
-    requires { ⌜ (fields .code ≤ 11) × (at < length (wordsOf (now s))) ⌝ }
+    requires { ⌜ (fields .code ≤ lastCode) × (at < length (wordsOf (now s))) ⌝ }
     ensures { λ r. ⌜ readSaid r ≡ boundedRead (wordsOf (now (s .entry))) fields lefts rights at ⌝ }
 {
     if !fields_below(fields, lefts, rights) {

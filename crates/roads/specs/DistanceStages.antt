@@ -1,10 +1,12 @@
 -- For inner contracts alone: the distance table while it is computed within itself by relaxation. It follows the recursion of `distance`, one
 -- more place let in at a time.
+use mathlib.Core.Path.{_≡_}
 use Prim.Native.Nat.{ℕ, suc, _+_, _-_, _*_, _^_, min}
 use mathlib.Core.Bool.{cond}
 use mathlib.Core.List.{List}
 use lib.Dec.{ltb}
 use lib.ListN.{getD, set}
+use Rattle.words.specs.Bytes.{wordsOf, numbersOf}
 use Rattle.words.specs.Rows.{rows}
 use Rattle.network.specs.Distance.{Distance, distance}
 use Rattle.roads.specs.Roads.{distanceNumber}
@@ -25,3 +27,7 @@ module _ (weight : ℕ → ℕ → Distance) (n : ℕ) where
 -- one number of a table relaxed: x plus another number takes its place where that is less
 abbrev pub relaxed : ℕ → ℕ → ℕ → List ℕ → List ℕ
 relaxed x from to t = set t to (min (getD t to 0) (x + getD t from 0))
+
+-- whatever the weights are, the bytes of a table that was at one stage are those of the next
+abbrev pub Leads : ((ℕ → ℕ → Distance) → List ℕ) → ((ℕ → ℕ → Distance) → List ℕ) → List ℕ → List ℕ → Type 0
+Leads from to before after = (weight : ℕ → ℕ → Distance) → numbersOf (wordsOf before) ≡ from weight → numbersOf (wordsOf after) ≡ to weight

@@ -74,3 +74,7 @@ distanceNumber none = 2 ^ 64 - 1
 -- row by row
 unfoldable pub distanceTable : Network → List ℕ
 distanceTable N = rows (λ a b. distanceNumber (distanceIn N a b)) (N.places) (N.places)
+
+-- those of the network that the first roads of a sheet make
+abbrev pub distancesAlong : List ℕ → ℕ → ℕ → List ℕ
+distancesAlong s places roads = distanceTable (networkOf s places roads)

@@ -10,9 +10,9 @@ ghost use Prim.Native.Nat.{ℕ, _+_, _-_, _*_, _<_, _≤_, _^_, min};
 ghost use lib.ListN.{length, set, drop, replicate};
 ghost use Rattle.words.specs.Bytes.{wordsOf, numbersOf};
 ghost use Rattle.words.specs.Rows.{padded};
-ghost use Rattle.network.specs.Distance.{Distance, none};
-ghost use Rattle.roads.specs.Roads.{GoodRoad, weightAmong, networkOf, distanceTable};
-ghost use Rattle.roads.specs.DistanceStages.{stage, relaxing, relaxed};
+ghost use Rattle.network.specs.Distance.{none};
+ghost use Rattle.roads.specs.Roads.{GoodRoad, weightAmong, distancesAlong};
+ghost use Rattle.roads.specs.DistanceStages.{stage, relaxing, relaxed, Leads};
 
 const NONE: u64 = 18446744073709551615;
 
@@ -98,7 +98,7 @@ fn relax(x: u64, from: usize, to: usize, table: &mut [u8])
 // The distances from a, by way of k where that is less.
 fn relax_row(n: usize, k: usize, a: usize, table: &mut [u8])
     requires { ⌜ (k < n) × (a < n) × (length (numbersOf (wordsOf (now table))) ≡ n * n) ⌝ }
-    ensures { λ _. ⌜ ((weight : ℕ → ℕ → Distance) → numbersOf (wordsOf (now (table .entry))) ≡ relaxing weight n k (a * n) → numbersOf (wordsOf (now (table .exit))) ≡ relaxing weight n k (a * n + n)) ⌝ }
+    ensures { λ _. ⌜ Leads (λ weight. relaxing weight n k (a * n)) (λ weight. relaxing weight n k (a * n + n)) (now (table .entry)) (now (table .exit)) ⌝ }
 {
     let row = a * n;
     let via = k * n;
@@ -111,7 +111,7 @@ fn relax_row(n: usize, k: usize, a: usize, table: &mut [u8])
 // Paths may pass through k too.
 fn relax_through(n: usize, k: usize, table: &mut [u8])
     requires { ⌜ (k < n) × (length (numbersOf (wordsOf (now table))) ≡ n * n) ⌝ }
-    ensures { λ _. ⌜ ((weight : ℕ → ℕ → Distance) → numbersOf (wordsOf (now (table .entry))) ≡ stage weight n k → numbersOf (wordsOf (now (table .exit))) ≡ stage weight n (k + 1)) ⌝ }
+    ensures { λ _. ⌜ Leads (λ weight. stage weight n k) (λ weight. stage weight n (k + 1)) (now (table .entry)) (now (table .exit)) ⌝ }
 {
     for a in 0..n {
         relax_row(n, k, a, table);
@@ -121,7 +121,7 @@ fn relax_through(n: usize, k: usize, table: &mut [u8])
 // Paths may pass through every place.
 fn relax_all(n: usize, table: &mut [u8])
     requires { ⌜ length (numbersOf (wordsOf (now table))) ≡ n * n ⌝ }
-    ensures { λ _. ⌜ ((weight : ℕ → ℕ → Distance) → numbersOf (wordsOf (now (table .entry))) ≡ stage weight n 0 → numbersOf (wordsOf (now (table .exit))) ≡ stage weight n n) ⌝ }
+    ensures { λ _. ⌜ Leads (λ weight. stage weight n 0) (λ weight. stage weight n n) (now (table .entry)) (now (table .exit)) ⌝ }
 {
     for k in 0..n {
         relax_through(n, k, table);
@@ -131,7 +131,7 @@ fn relax_all(n: usize, table: &mut [u8])
 // The distances alone, in a table of just their size.
 fn find_distances(s: &[u8], places: usize, roads: usize, table: &mut [u8])
     requires { ⌜ ((r : ℕ) → r < roads → GoodRoad (wordsOf (now s)) places r) × (length (numbersOf (wordsOf (now table))) ≡ places * places) ⌝ }
-    ensures { λ _. ⌜ numbersOf (wordsOf (now (table .exit))) ≡ distanceTable (networkOf (wordsOf (now (s .entry))) places roads) ⌝ }
+    ensures { λ _. ⌜ numbersOf (wordsOf (now (table .exit))) ≡ distancesAlong (wordsOf (now (s .entry))) places roads ⌝ }
 {
     start(places, table);
     put_roads(s, places, roads, table);
@@ -141,7 +141,7 @@ fn find_distances(s: &[u8], places: usize, roads: usize, table: &mut [u8])
 // The distances of all places along a sheet's roads, row by row, and zeros in all the bytes after them, whatever these held.
 pub fn fill_distances(s: &[u8], places: usize, roads: usize, table: &mut [u8])
     requires { ⌜ ((r : ℕ) → r < roads → GoodRoad (wordsOf (now s)) places r) × (places * places ≤ length (numbersOf (wordsOf (now table)))) ⌝ }
-    ensures numbers { λ _. ⌜ numbersOf (wordsOf (now (table .exit))) ≡ padded (distanceTable (networkOf (wordsOf (now (s .entry))) places roads)) (length (numbersOf (wordsOf (now (table .entry))))) ⌝ }
+    ensures numbers { λ _. ⌜ numbersOf (wordsOf (now (table .exit))) ≡ padded (distancesAlong (wordsOf (now (s .entry))) places roads) (length (numbersOf (wordsOf (now (table .entry))))) ⌝ }
     ensures tail { λ _. ⌜ drop (places * places * 8) (now (table .exit)) ≡ replicate (length (now (table .entry)) - places * places * 8) 0 ⌝ }
 {
     let end = places * places * 8;

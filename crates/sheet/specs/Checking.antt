@@ -4,8 +4,6 @@ use lib.ListN.{length}
 use Rattle.sheet.specs.declared.stages.Sizes as S
 use Rattle.sheet.specs.declared.stages.Head.{Head}
 use Rattle.sheet.specs.declared.stages.Head.the-variants as H
-use Rattle.checks.specs.declared.stage.Stage.the-variants as P
-use Rattle.lines.specs.declared.table.Table.the-variants as T
 use Rattle.sheet.specs.declared.check.Layout as F
 use Rattle.sheet.specs.declared.check.Check.{Check}
 use Rattle.sheet.specs.declared.check.Check.the-variants as C

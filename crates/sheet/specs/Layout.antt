@@ -9,6 +9,7 @@ use Rattle.formulas.specs.Formulas.{Line}
 use Rattle.checks.specs.Limits.{mostPlaces, mostSignals, mostSamples, mostLines, leastDistances}
 use Rattle.checks.specs.Checked.{Checked, accepted, _>>=_, require, between, wordAt, isKind}
 use Rattle.lines.specs.Lines.{linesFrom}
+use Rattle.roads.specs.Roads.{roadAt, roadsFrom}
 
 -- places n, signals v, samples T
 pub record Sizes : Type 0 where
