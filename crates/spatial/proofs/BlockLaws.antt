@@ -14,9 +14,11 @@ use Rattle.logic.proofs.Rounds.{rounds-least, rounds-same}
 use Rattle.values.specs.Chain.{marginAt, chainLattice, chainMargin, Valid}
 use Rattle.values.specs.Signals.{signalIn, inTable}
 use Rattle.values.proofs.Valid.{valid-kept}
-use Rattle.spatial.specs.Lanes.{lanes, laneOf, joinedBy, surroundValue, surroundRounds, blockRounds}
+use Rattle.lanes.specs.Lanes.{lanes, laneOf}
+use Rattle.spatial.specs.Surround.{joinedBy, surroundValue, surroundRounds, blockRounds}
 use Rattle.spatial.specs.Steps.{ValidRow}
-use Rattle.spatial.specs.Blocks.{RowOf, laneSignal, laneSurround, laneRounds, CentresDone, BlockReady, BlockDone}
+use Rattle.lanes.specs.Rows.{RowOf, laneSignal}
+use Rattle.spatial.specs.Blocks.{laneSurround, laneRounds, CentresDone, BlockReady, BlockDone}
 use Rattle.counting.proofs.Totals.{most-same, most-front}
 use Rattle.spatial.proofs.Lowest.{surround-low}
 

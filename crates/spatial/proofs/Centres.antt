@@ -16,11 +16,13 @@ use Rattle.values.specs.Signals.{inTable}
 use Rattle.values.proofs.Valid.{valid-kept}
 use Rattle.values.proofs.Projections.{margin-kept}
 use Rattle.values.proofs.ChainSurround.{surround-rested}
-use Rattle.spatial.specs.Lanes.{lanes, laneOf, joinedBy}
+use Rattle.lanes.specs.Lanes.{lanes, laneOf}
+use Rattle.spatial.specs.Surround.{joinedBy}
 use Rattle.spatial.specs.Steps.{ValidRow, Settled, roundsIn}
-use Rattle.spatial.specs.Blocks.{RowOf, laneSurround, laneRounds, CentreDone, CentresDone}
-use Rattle.spatial.specs.Strips.{Written}
-use Rattle.spatial.proofs.RowLaws.{row-written-none, row-written-more}
+use Rattle.lanes.specs.Rows.{RowOf}
+use Rattle.spatial.specs.Blocks.{laneSurround, laneRounds, CentreDone, CentresDone}
+use Rattle.lanes.specs.Strips.{Written}
+use Rattle.lanes.proofs.RowLaws.{row-written-none, row-written-more}
 
 abbrev MaskedRow : (ℕ → Bool) → List ℕ → List ℕ → ℕ → Type 0
 MaskedRow test from to n = RowOf (λ lane. masked chainLattice test (laneOf from lane)) to n

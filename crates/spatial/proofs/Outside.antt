@@ -7,29 +7,17 @@ use native.Mathlib.Omega.{arith}
 use borrow.Author.Count.{below-more}
 use borrow.Author.Tests.{le-leb}
 use lib.Dec.{leb}
-use lib.ListN.{length, getD, set}
-use lib.Seq.{getD-set-same, getD-set-other}
+use lib.ListN.{length, getD}
 use Rattle.logic.specs.Iteration.{masked}
 use Rattle.values.specs.Chain.{chainLattice}
 use Rattle.values.specs.Signals.{inTable}
-use Rattle.spatial.specs.Lanes.{lanes, laneOf}
-use Rattle.spatial.specs.Strips.{Written, StripsApart}
-use Rattle.spatial.specs.Steps.{Marked, LowOutside, LowRows, Joined, RoadPulled, Stepped}
-use Rattle.spatial.specs.Blocks.{RowOf}
-use Rattle.spatial.proofs.StripLaws.{written-already}
+use Rattle.lanes.specs.Lanes.{lanes, laneOf}
+use Rattle.lanes.specs.Strips.{Written, StripsApart}
+use Rattle.lanes.specs.Rows.{Marked, LowOutside, RowOf}
+use Rattle.spatial.specs.Steps.{LowRows, Joined, RoadPulled, Stepped, RowsApart}
+use Rattle.lanes.proofs.StripLaws.{written-already}
 use Rattle.spatial.proofs.Lowest.{meet-low}
-use Rattle.spatial.proofs.RowLaws.{row-more}
-
--- ---- the flags
-pub marked-none : (test : ℕ → Bool) (flags : List Bool) → Marked test flags 0
-marked-none test flags = record { flag = λ p l. absurd (omega arith) }
-
-pub marked-more : (test : ℕ → Bool) (flags : List Bool) (k : ℕ) (t : Bool) → Marked test flags k → k < length flags → t ≡ test k → Marked test (set flags k t) (k + 1)
-marked-more test flags k t m b e = record {
-  flag = below-more (λ p. getD (set flags k t) p false ≡ test p) k
-      (λ p l. getD-set-other flags k p t false (λ q. absurd (omega arith)) ∙ m .flag p l)
-      (getD-set-same flags k t false b ∙ e);
-}
+use Rattle.lanes.proofs.RowLaws.{row-more}
 
 -- outside a ball nothing is in a range that ends with it
 outside-range : (distances : List ℕ) (n centre lower upper place : ℕ) → inTable distances n centre 0 upper place ≡ false → inTable distances n centre lower upper place ≡ false
@@ -46,6 +34,23 @@ masked-low distances n centre lower upper inside from to m w = record {
   low = λ place lane b l e. w .at place lane b l ∙ simp (outside-range distances n centre lower upper place (sym (m .flag place b) ∙ e));
 }
 
+-- ---- strip after strip
+module _ (h : ℕ → ℕ) (a b : List ℕ) where
+  pub rows-none : RowsApart false h a b 0
+  rows-none = record { alike = λ e p lane l. absurd (omega arith); apart = λ e. absurd (false≢true e) }
+
+  pub rows-more : (r : Bool) (k : ℕ) → RowsApart false h a b k → r ≡ false → StripsApart r h a b k lanes → RowsApart false h a b (k + 1)
+  rows-more r k w e s = record {
+    alike = λ z p lane l m. below-more (λ q. h (laneOf a lane q) ≡ h (laneOf b lane q)) k (λ q c. w .alike z q lane c m) (s .alike e lane m) p l;
+    apart = λ z. absurd (false≢true z);
+  }
+
+  pub rows-found : (r : Bool) (k n : ℕ) → k < n → r ≡ true → StripsApart r h a b k lanes → RowsApart true h a b n
+  rows-found r k n l e s = record {
+    alike = λ z. absurd (false≢true (sym z));
+    apart = λ _. let u = s .apart e in (k, u .0, l, u .1, u .2);
+  }
+
 -- ---- one strip
 pub strips-alike : (h : ℕ → ℕ) (a b : List ℕ) (place : ℕ) → ((lane : ℕ) → lane < lanes → laneOf a lane place ≡ laneOf b lane place) → StripsApart false h a b place lanes
 strips-alike h a b place e = record { alike = λ _ lane l. ap h (e lane l); apart = λ z. absurd (false≢true z) }
@@ -56,21 +61,6 @@ module _ {inside : List Bool} where
   low-kept i w s = record {
     low = λ p lane b l e. w .kept p lane l (λ q. absurd (false≢true (sym e ∙ ap (λ k. getD inside k false) q ∙ i))) ∙ s .low p lane b l e;
   }
-
-  pub low-none : {s : List ℕ} → LowOutside inside s 0
-  low-none = record { low = λ p lane b. absurd (omega arith) }
-
-  -- one strip more, which is lowest if it lies outside
-  pub low-more : {k : ℕ} {f : ℕ → ℕ} {s t : List ℕ} → Written k lanes f s t → (getD inside k false ≡ false → (lane : ℕ) → f lane ≡ 0) → LowOutside inside s k → LowOutside inside t (k + 1)
-  low-more {k} {f} {s} {t} w h o = record {
-    low = λ p lane b l. below-more (λ q. getD inside q false ≡ false → laneOf t lane q ≡ 0) k
-        (λ q c e. w .kept q lane l (λ r. absurd (omega arith)) ∙ o .low q lane c l e)
-        (λ e. w .written lane l ∙ h e lane)
-        p b;
-  }
-
-  pub low-inside : {k : ℕ} {s : List ℕ} → getD inside k false ≡ true → LowOutside inside s k → LowOutside inside s (k + 1)
-  low-inside i = low-more (written-already (λ _ _. refl)) (λ e. absurd (false≢true (sym e ∙ i)))
 
   -- numbers that fall stay lowest
   pub stepped-low : {n roads : ℕ} {sheet both x y : List ℕ} → Stepped sheet roads both x y → LowOutside inside x n → LowOutside inside y n

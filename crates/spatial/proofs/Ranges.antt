@@ -12,11 +12,11 @@ use Rattle.values.specs.Chain.{chains, chainLattice, chainOpposite, highest}
 use Rattle.values.specs.Signals.{signalIn, inTable}
 use Rattle.values.proofs.ChainWords.{signal-bound}
 use Rattle.values.proofs.Naturals.{meet-min, join-max}
-use Rattle.spatial.specs.Lanes.{lanes, laneOf}
-use Rattle.spatial.specs.Strips.{ofTwo, Written}
-use Rattle.spatial.specs.Blocks.{RowOf, RowWritten, laneSignal}
+use Rattle.lanes.specs.Lanes.{lanes, laneOf}
+use Rattle.lanes.specs.Strips.{ofTwo, Written}
+use Rattle.lanes.specs.Rows.{RowOf, RowWritten, laneSignal}
 use Rattle.spatial.specs.Ranges.{somewhereIn, ofNone, gathered, RangeReady, RangeDone}
-use Rattle.spatial.proofs.StripLaws.{written-over}
+use Rattle.lanes.proofs.StripLaws.{written-over}
 use Rattle.spatial.proofs.BlockLaws.{lane-signal, lane-zero}
 
 -- ---- the least or the greatest, one number more

@@ -1,5 +1,4 @@
-pub mod Lanes
-pub mod Strips
+pub mod Surround
 pub mod Steps
 pub mod Blocks
 pub mod Ranges

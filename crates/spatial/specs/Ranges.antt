@@ -10,7 +10,7 @@ use Rattle.logic.specs.Table.{Signal}
 use Rattle.checks.specs.Limits.{mostPlaces}
 use Rattle.values.specs.Chain.{chains, chainLattice, highest}
 use Rattle.values.specs.Signals.{signalIn, turned, inTable}
-use Rattle.spatial.specs.Lanes.{lanes, laneOf}
+use Rattle.lanes.specs.Lanes.{lanes, laneOf}
 
 -- somewhere, or its dual, everywhere: the opposite of somewhere of the opposite
 abbrev pub somewhereIn : Bool → List ℕ → ℕ → Signal chains → ℕ → ℕ → Signal chains

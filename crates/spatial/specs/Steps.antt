@@ -1,18 +1,20 @@
 -- What a round does, row by row: `both` holds what each place hands to its neighbours, and a pull takes it over where it is less. These are for
 -- contracts inside the engine: no promise to a host speaks of them.
 use mathlib.Core.Path.{_≡_}
-use mathlib.Core.Bool.{Bool, false}
+use mathlib.Core.Bool.{Bool, true, false}
 use mathlib.Core.List.{List}
 use Prim.Native.Nat.{ℕ, suc, _*_, _<_, _≤_}
 use lib.Dec.{T}
-use lib.ListN.{length, getD}
+use lib.ListN.{length}
 use Rattle.logic.specs.Lattice.{leastOver}
 use Rattle.logic.specs.Iteration.{iterate, rounds}
 use Rattle.counting.specs.Totals.{mostBelow}
 use Rattle.checks.specs.Checked.{wordAt}
 use Rattle.roads.specs.Roads.{roadAt, firstPlace, secondPlace}
 use Rattle.values.specs.Chain.{chainLattice, chainMargin, highest, Valid}
-use Rattle.spatial.specs.Lanes.{lanes, laneOf, joinedBy}
+use Rattle.lanes.specs.Lanes.{lanes, laneOf}
+use Rattle.lanes.specs.Rows.{LowOutside}
+use Rattle.spatial.specs.Surround.{joinedBy}
 
 -- the words of the roads are there, and each road joins two of the n places
 pub record RoadsIn (sheet : List ℕ) (roads n : ℕ) : Type 0 where
@@ -27,14 +29,6 @@ pub record Bounded (row : List ℕ) (n : ℕ) : Type 0 where
 -- the numbers of n places, all of them numbers that can arise
 pub record ValidRow (row : List ℕ) (n : ℕ) : Type 0 where
   pub valid : (place lane : ℕ) → place < n → lane < lanes → Valid (laneOf row lane place)
-
--- the flags of k places are a test's
-pub record Marked (test : ℕ → Bool) (flags : List Bool) (k : ℕ) : Type 0 where
-  pub flag : (place : ℕ) → place < k → getD flags place false ≡ test place
-
--- the numbers of the places without a flag are the lowest
-pub record LowOutside (inside : List Bool) (row : List ℕ) (n : ℕ) : Type 0 where
-  pub low : (place lane : ℕ) → place < n → lane < lanes → getD inside place false ≡ false → laneOf row lane place ≡ 0
 
 -- rows with room for n places, all of one length
 pub record Rooms (n : ℕ) (x right old both : List ℕ) : Type 0 where
@@ -76,6 +70,11 @@ pub record Round (sheet : List ℕ) (roads n : ℕ) (right before old after : Li
   pub former : (place lane : ℕ) → place < n → lane < lanes → laneOf old lane place ≡ laneOf before lane place
   pub stepped : (place lane : ℕ) → place < n → lane < lanes → laneOf after lane place
       ≡ chainLattice .meet (laneOf before lane place) (leastOver chainLattice (joinedBy sheet roads place) (λ k. chainLattice .join (laneOf before lane k) (laneOf right lane k)) n)
+
+-- whether a reading h tells two rows apart in one of the lanes of n places
+pub record RowsApart (r : Bool) (h : ℕ → ℕ) (a b : List ℕ) (n : ℕ) : Type 0 where
+  pub alike : r ≡ false → (place lane : ℕ) → place < n → lane < lanes → h (laneOf a lane place) ≡ h (laneOf b lane place)
+  pub apart : r ≡ true → (place : ℕ) × (lane : ℕ) × (place < n) × (lane < lanes) × (h (laneOf a lane place) ≡ h (laneOf b lane place) → ⊥)
 
 module _ (sheet : List ℕ) (roads n : ℕ) (right x : List ℕ) where
   -- Definition 4.4's iteration in one lane: what it has at step i

@@ -1,17 +1,17 @@
 // Somewhere and its dual, everywhere, for several samples side by side: the greatest, or the least, within range of every centre.
-use crate::ROW;
-use crate::rows::in_range;
-use crate::rows::load;
-use crate::strips::fill_strip;
-use crate::strips::pull_strip;
+use lanes::ROW;
+use lanes::rows::in_range;
+use lanes::rows::load;
+use lanes::strips::fill_strip;
+use lanes::strips::pull_strip;
 ghost use mathlib.Core.Path.{_≡_};
 ghost use Prim.Native.Nat.{_+_, _*_, _≤_, _<_};
 ghost use lib.ListN.{length};
 ghost use Rattle.words.specs.Bytes.{wordsOf, numbersOf};
 ghost use Rattle.values.specs.Signals.{inTable};
-ghost use Rattle.spatial.specs.Lanes.{lanes, laneOf};
-ghost use Rattle.spatial.specs.Strips.{Written};
-ghost use Rattle.spatial.specs.Blocks.{RowWritten};
+ghost use Rattle.lanes.specs.Lanes.{lanes, laneOf};
+ghost use Rattle.lanes.specs.Strips.{Written};
+ghost use Rattle.lanes.specs.Rows.{RowWritten};
 ghost use Rattle.spatial.specs.Ranges.{ofNone, gathered, RangeReady, RangeDone};
 
 // The least of nothing, or the greatest.

@@ -3,17 +3,17 @@ ghost use mathlib.Core.Path.{_≡_};
 ghost use Prim.Native.Nat.{_*_, _≤_, _<_, max};
 ghost use lib.ListN.{length};
 ghost use Rattle.words.specs.Bytes.{wordsOf, numbersOf};
-ghost use Rattle.spatial.specs.Lanes.{lanes};
+ghost use Rattle.lanes.specs.Lanes.{lanes};
 ghost use Rattle.spatial.specs.Steps.{Rooms};
 ghost use Rattle.spatial.specs.Blocks.{RowsReady, CentreDone, CentresDone, BlockReady, BlockDone};
-use crate::ROW;
 use crate::iteration::settle;
-use crate::rows::clear_outside;
-use crate::rows::load;
-use crate::rows::mark_ball;
-use crate::rows::mask;
-use crate::strips::copy_strip;
 use checks::limits::MOST_PLACES;
+use lanes::ROW;
+use lanes::rows::clear_outside;
+use lanes::rows::load;
+use lanes::rows::mark_ball;
+use lanes::rows::mask;
+use lanes::strips::copy_strip;
 
 fn greater_of(a: u64, b: u64) -> u64
     ensures { λ r. ⌜ r ≡ max a b ⌝ }

@@ -2,10 +2,10 @@
 // and then written sample by sample.
 use crate::sample::write_sample;
 use crate::tally::Tally;
+use lanes::LANES;
+use lanes::ROW;
 use lines::operator::Bounds;
 use sheet::check::Layout;
-use spatial::LANES;
-use spatial::ROW;
 use spatial::somewhere::somewhere_block;
 use spatial::surround::surround_block;
 ghost use mathlib.Core.Path.{_≡_};
@@ -15,7 +15,7 @@ ghost use Rattle.words.specs.Bytes.{wordsOf, numbersOf};
 ghost use Rattle.words.specs.Rows.{rows, put};
 ghost use Rattle.counting.specs.Totals.{count, sumBelow};
 ghost use Rattle.values.specs.Chain.{chainWord, chainVerdict};
-ghost use Rattle.spatial.specs.Lanes.{lanes, laneOf};
+ghost use Rattle.lanes.specs.Lanes.{lanes, laneOf};
 ghost use Rattle.verdicts.specs.Around.{LanesBounded, AroundReady, BlockFilled, BlockWritten, AroundWritten};
 
 // What is asked about every centre. Operands are the indices at which their signals begin.

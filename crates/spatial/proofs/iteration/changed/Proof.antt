@@ -5,9 +5,8 @@ use mathlib.Core.Bool.{false}
 use mathlib.Core.Logic.{⊎-elim}
 use native.Mathlib.Omega.{arith}
 use lib.ListN.{length}
-use Rattle.spatial.specs.Strips.{RowsApart}
-use Rattle.spatial.proofs.StripLaws.{rows-none, rows-more, rows-found}
-use Rattle.spatial.proofs.Outside.{strips-alike}
+use Rattle.spatial.specs.Steps.{RowsApart}
+use Rattle.spatial.proofs.Outside.{rows-none, rows-more, rows-found, strips-alike}
 use borrow.Author.Needs.{needs}
 use Rattle.spatial.proofs.iteration.changed.Statement.{statement}
 use Rattle.spatial.proofs.iteration.changed.Tie as tie

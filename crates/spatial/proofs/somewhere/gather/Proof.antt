@@ -7,11 +7,11 @@ use lib.ListN.{length}
 use borrow.Author.Needs.{needs}
 use Rattle.words.specs.Bytes.{wordsOf, numbersOf}
 use Rattle.values.specs.Signals.{inTable}
-use Rattle.spatial.specs.Lanes.{lanes, laneOf}
-use Rattle.spatial.specs.Strips.{Written}
+use Rattle.lanes.specs.Lanes.{lanes, laneOf}
+use Rattle.lanes.specs.Strips.{Written}
 use Rattle.spatial.specs.Ranges.{gathered}
-use Rattle.spatial.proofs.RowLaws.{DistanceThere, distance-there}
-use Rattle.spatial.proofs.StripLaws.{written-already, written-over}
+use Rattle.lanes.proofs.RowLaws.{DistanceThere, distance-there}
+use Rattle.lanes.proofs.StripLaws.{written-already, written-over}
 use Rattle.spatial.proofs.Ranges.{gathered-none, gathering-more, gathering-past}
 use Rattle.spatial.proofs.somewhere.gather.Statement.{statement}
 use Rattle.spatial.proofs.somewhere.gather.Tie as tie

@@ -5,10 +5,10 @@ use native.Mathlib.Omega.{arith}
 use borrow.Author.Needs.{needs}
 use Rattle.words.specs.Bytes.{wordsOf, numbersOf}
 use Rattle.values.specs.Signals.{inTable}
-use Rattle.spatial.specs.Lanes.{laneOf}
-use Rattle.spatial.specs.Blocks.{RowWritten}
+use Rattle.lanes.specs.Lanes.{laneOf}
+use Rattle.lanes.specs.Rows.{RowWritten}
 use Rattle.spatial.specs.Ranges.{gathered}
-use Rattle.spatial.proofs.RowLaws.{row-written-none, row-written-more, row-written-all}
+use Rattle.lanes.proofs.RowLaws.{row-written-none, row-written-more, row-written-all}
 use Rattle.spatial.proofs.somewhere.gather_all.Statement.{statement}
 use Rattle.spatial.proofs.somewhere.gather_all.Tie as tie
 

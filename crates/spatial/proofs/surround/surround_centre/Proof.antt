@@ -6,8 +6,9 @@ use lib.ListN.{length}
 use Rattle.words.specs.Bytes.{wordsOf, numbersOf}
 use Rattle.checks.specs.Limits.{mostPlaces}
 use Rattle.values.specs.Signals.{inTable}
-use Rattle.spatial.specs.Lanes.{lanes}
-use Rattle.spatial.specs.Steps.{RoadsIn, ValidRow, Marked, LowOutside, Rooms, LowRows, Settled}
+use Rattle.lanes.specs.Lanes.{lanes}
+use Rattle.lanes.specs.Rows.{Marked, LowOutside}
+use Rattle.spatial.specs.Steps.{RoadsIn, ValidRow, Rooms, LowRows, Settled}
 use Rattle.spatial.proofs.Outside.{masked-low}
 use Rattle.spatial.proofs.Centres.{masked-valid, centre-done}
 use borrow.Author.Needs.{needs}

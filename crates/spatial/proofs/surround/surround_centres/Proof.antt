@@ -6,7 +6,7 @@ use lib.ListN.{length}
 use lib.Seq.{length-take-le, length-front}
 use Rattle.words.specs.Bytes.{wordsOf, numbersOf}
 use Rattle.checks.specs.Limits.{mostPlaces}
-use Rattle.spatial.specs.Lanes.{lanes}
+use Rattle.lanes.specs.Lanes.{lanes}
 use Rattle.spatial.specs.Blocks.{CentresDone}
 use Rattle.spatial.proofs.Centres.{centres-none, centres-more}
 use borrow.Author.Needs.{needs}
