@@ -5,3 +5,4 @@ pub mod AnswerSays
 pub mod WholeAnswer
 pub mod Accepted
 pub mod Steadiness
+pub mod Points
