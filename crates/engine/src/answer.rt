@@ -1,6 +1,6 @@
 // The whole answer to an accepted sheet: head, lines, end, and zeros behind it.
-use crate::lines::Written;
-use crate::lines::write_lines;
+use crate::walk::Written;
+use crate::walk::write_lines;
 use sheet::check::Layout;
 ghost use mathlib.Core.Path.{_≡_};
 ghost use Prim.Native.Nat.{_+_, _*_, _^_, _≤_};

@@ -8,7 +8,7 @@ use denote.Enum.Declared.{tagOf}
 use types.Run.{OneOf, miss}
 use Rattle.lines.specs.declared.operator.Operator.{Operator}
 use Rattle.lines.specs.declared.operator.Operator.the-variants.{True, AtLeast, AtMost, Not, And, Until, Somewhere, Surrounded, Or, Eventually, Always, Everywhere}
-use Rattle.sheet.proofs.operator.Operator as sheet-operator
+use Rattle.lines.proofs.operator.Operator as sheet-operator
 use Rattle.engine.specs.declared.line.Way.the-variants.{Rows}
 use Rattle.engine.specs.Way.{Known, wayOf}
 use Rattle.engine.proofs.line.way_of.Statement.{statement}
