@@ -6,3 +6,4 @@ pub mod WholeAnswer
 pub mod Accepted
 pub mod Steadiness
 pub mod Points
+pub mod Fitting
