@@ -1,18 +1,19 @@
 -- Rows that are written strip by strip, and where the words of a signal and the distances of a centre stand.
-use mathlib.Core.Path.{_≡_, refl, sym, subst, _∙_}
-use mathlib.Core.Bool.{Bool, true, false, false≢true}
+use mathlib.Core.Path.{_≡_, refl, subst, _∙_}
+use mathlib.Core.Bool.{Bool, true, false}
 use mathlib.Core.List.{List}
 use Prim.Native.Nat.{ℕ, _+_, _*_, _<_, _≤_}
 use native.Mathlib.Nat.{le-mul-of-pos-right}
 use native.Mathlib.Omega.{arith}
 use borrow.Author.Count.{below-more}
-use lib.ListN.{length, getD, set}
+use lib.ListN.{length, set}
 use Rattle.words.specs.Bytes.{wordsOf, numbersOf}
 use Rattle.words.proofs.Numbers.{length-numbers}
 use Rattle.words.proofs.Rows.{in-table}
+use Rattle.logic.specs.Iteration.{masked}
 use Rattle.lanes.specs.Lanes.{lanes, laneOf}
 use Rattle.lanes.specs.Strips.{Written}
-use Rattle.lanes.specs.Rows.{RowOf, RowWritten, Marked, LowOutside}
+use Rattle.lanes.specs.Rows.{RowOf, RowWritten, flagged, Marked, maskedBy}
 use lib.Seq.{getD-set-same, getD-set-other}
 use Rattle.lanes.proofs.StripLaws.{written-already}
 
@@ -41,35 +42,31 @@ module _ {k : ℕ} {f : ℕ → ℕ → ℕ} {before row : List ℕ} (w : RowWri
     long = long ∙ w .long;
   }
 
+  -- a strip that holds already what would be written
+  pub row-written-already : ((lane : ℕ) → laneOf before lane k ≡ f lane k) → RowWritten (k + 1) f before row
+  row-written-already e = row-written-more (written-already (λ lane l. w .kept k lane (omega arith) l)) refl (λ lane _. e lane)
+
   pub row-written-all : {n : ℕ} → k ≡ n → RowWritten n f before row
   row-written-all e = subst (λ i. RowWritten i f before row) e w
 
--- ---- the flags
+-- ---- masks and flags
+pub masked-in : (test : ℕ → Bool) (row : List ℕ) (lane place : ℕ) → test place ≡ true → laneOf row lane place ≡ maskedBy test row lane place
+unfolding masked
+masked-in test row lane place e = rw e refl
+
+pub masked-out : (test : ℕ → Bool) (row : List ℕ) (lane place : ℕ) → test place ≡ false → 0 ≡ maskedBy test row lane place
+unfolding masked
+masked-out test row lane place e = rw e refl
+
 pub marked-none : (test : ℕ → Bool) (flags : List Bool) → Marked test flags 0
 marked-none test flags = record { flag = λ p l. absurd (omega arith) }
 
 pub marked-more : (test : ℕ → Bool) (flags : List Bool) (k : ℕ) (t : Bool) → Marked test flags k → k < length flags → t ≡ test k → Marked test (set flags k t) (k + 1)
 marked-more test flags k t m b e = record {
-  flag = below-more (λ p. getD (set flags k t) p false ≡ test p) k
+  flag = below-more (λ p. flagged (set flags k t) p ≡ test p) k
       (λ p l. getD-set-other flags k p t false (λ q. absurd (omega arith)) ∙ m .flag p l)
       (getD-set-same flags k t false b ∙ e);
 }
-
-module _ {inside : List Bool} where
-  pub low-none : {s : List ℕ} → LowOutside inside s 0
-  low-none = record { low = λ p lane b. absurd (omega arith) }
-
-  -- one strip more, which is lowest if it lies outside
-  pub low-more : {k : ℕ} {f : ℕ → ℕ} {s t : List ℕ} → Written k lanes f s t → (getD inside k false ≡ false → (lane : ℕ) → f lane ≡ 0) → LowOutside inside s k → LowOutside inside t (k + 1)
-  low-more {k} {f} {s} {t} w h o = record {
-    low = λ p lane b l. below-more (λ q. getD inside q false ≡ false → laneOf t lane q ≡ 0) k
-        (λ q c e. w .kept q lane l (λ r. absurd (omega arith)) ∙ o .low q lane c l e)
-        (λ e. w .written lane l ∙ h e lane)
-        p b;
-  }
-
-  pub low-inside : {k : ℕ} {s : List ℕ} → getD inside k false ≡ true → LowOutside inside s k → LowOutside inside s (k + 1)
-  low-inside i = low-more (written-already (λ _ _. refl)) (λ e. absurd (false≢true (sym e ∙ i)))
 
 -- ---- indices
 pub signal-index : (start first count n l lane room : ℕ) → start + (first + count) * n ≤ room → l < n → lane < count

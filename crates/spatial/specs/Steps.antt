@@ -9,11 +9,12 @@ use lib.ListN.{length}
 use Rattle.logic.specs.Lattice.{leastOver}
 use Rattle.logic.specs.Iteration.{iterate, rounds}
 use Rattle.counting.specs.Totals.{mostBelow}
+use Rattle.checks.specs.Limits.{mostPlaces}
 use Rattle.checks.specs.Checked.{wordAt}
 use Rattle.roads.specs.Roads.{roadAt, firstPlace, secondPlace}
 use Rattle.values.specs.Chain.{chainLattice, chainMargin, highest, Valid}
 use Rattle.lanes.specs.Lanes.{lanes, laneOf}
-use Rattle.lanes.specs.Rows.{LowOutside}
+use Rattle.lanes.specs.Rows.{flagged}
 use Rattle.spatial.specs.Surround.{joinedBy}
 
 -- the words of the roads are there, and each road joins two of the n places
@@ -30,19 +31,26 @@ pub record Bounded (row : List ℕ) (n : ℕ) : Type 0 where
 pub record ValidRow (row : List ℕ) (n : ℕ) : Type 0 where
   pub valid : (place lane : ℕ) → place < n → lane < lanes → Valid (laneOf row lane place)
 
--- rows with room for n places, all of one length
-pub record Rooms (n : ℕ) (x right old both : List ℕ) : Type 0 where
-  pub room : n * lanes ≤ length x
-  pub right-room : length right ≡ length x
-  pub old-room : length old ≡ length x
-  pub both-room : length both ≡ length x
+-- a row has room for the places that the flags are of, and is lowest at those without a flag
+pub record LowOutside (inside : List Bool) (row : List ℕ) : Type 0 where
+  pub room : length inside * lanes ≤ length row
+  pub low : (place lane : ℕ) → place < length inside → lane < lanes → flagged inside place ≡ false → laneOf row lane place ≡ 0
 
 -- the rows of an iteration are lowest outside: nothing there changes
-pub record LowRows (inside : List Bool) (n : ℕ) (x right old both : List ℕ) : Type 0 where
-  pub low : LowOutside inside x n
-  pub right-low : LowOutside inside right n
-  pub old-low : LowOutside inside old n
-  pub both-low : LowOutside inside both n
+pub record LowRows (inside : List Bool) (x right old both : List ℕ) : Type 0 where
+  pub low : LowOutside inside x
+  pub right-low : LowOutside inside right
+  pub old-low : LowOutside inside old
+  pub both-low : LowOutside inside both
+
+-- what an iteration starts from: roads, and rows of numbers that can arise
+pub record Start (sheet : List ℕ) (roads : ℕ) (inside : List Bool) (x right : List ℕ) : Type 0 where
+  pub few-places : length inside ≤ mostPlaces
+  pub roads-in : RoadsIn sheet roads (length inside)
+  pub valid : ValidRow x (length inside)
+  pub right-valid : ValidRow right (length inside)
+  pub low : LowOutside inside x
+  pub right-low : LowOutside inside right
 
 -- old is x, and both the greater of x and right
 pub record Joined (x right old both : List ℕ) (n : ℕ) : Type 0 where

@@ -4,9 +4,13 @@ use crate::sample::write_sample;
 use crate::tally::Tally;
 use lanes::LANES;
 use lanes::ROW;
+use lanes::rows::Block;
 use lines::operator::Bounds;
+use roads::road::Network;
 use sheet::check::Layout;
+use spatial::somewhere::Range;
 use spatial::somewhere::somewhere_block;
+use spatial::surround::Surround;
 use spatial::surround::surround_block;
 ghost use mathlib.Core.Path.{_≡_};
 ghost use Prim.Native.Nat.{_+_, _*_, _≤_};
@@ -68,29 +72,27 @@ fn fill_block(
             bounds,
         } => surround_block(
             words,
-            left,
-            right,
-            layout.places,
+            Surround {
+                left,
+                right,
+                bounds,
+            },
             sheet,
-            layout.roads,
+            Network {
+                places: layout.places,
+                roads: layout.roads,
+            },
             distances,
-            bounds.lower as u64,
-            bounds.upper as u64,
-            first,
-            size,
+            Block { first, count: size },
             out,
         ),
         Around::Range { left, bounds, dual } => {
             somewhere_block(
                 words,
-                left,
+                Range { left, bounds, dual },
                 layout.places,
                 distances,
-                bounds.lower as u64,
-                bounds.upper as u64,
-                dual,
-                first,
-                size,
+                Block { first, count: size },
                 out,
             );
             0

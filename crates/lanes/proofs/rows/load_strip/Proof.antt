@@ -10,10 +10,10 @@ use Rattle.lanes.proofs.rows.load_strip.Statement.{statement}
 use Rattle.lanes.proofs.rows.load_strip.Tie as tie
 
 abbrev Inv-loop : tie.InvT-loop
-Inv-loop words start places first count place row₀ lane₀ row lane = Writing place lane (λ l. laneSignal (wordsOf words) start places first count l place) row₀ row
+Inv-loop words start places block place row₀ lane₀ row lane = Writing place lane (λ l. laneSignal (wordsOf words) start places block l place) row₀ row
 
 abbrev μ-loop : tie.MeasureT-loop
-μ-loop words start places first count place row₀ lane₀ row lane = lanes - lane
+μ-loop words start places block place row₀ lane₀ row lane = lanes - lane
 
 loop-again : tie.Need-loop-again Inv-loop μ-loop
 loop-again c = writing-more (c .before .before .loop .inv) (omega arith) (omega arith) (c .lane-signal .ensures)

@@ -3,40 +3,25 @@ use Prim.Native.Nat.{_-_, _≤_}
 use mathlib.Core.Path.{_≡_, ap}
 use mathlib.Core.Bool.{Bool, cond}
 use native.Mathlib.Omega.{arith}
-use Rattle.words.specs.Bytes.{wordsOf, numbersOf}
 use Rattle.logic.specs.Iteration.{masked}
-use Rattle.values.specs.Chain.{chainLattice}
-use Rattle.values.specs.Signals.{inTable}
 use Rattle.lanes.specs.Lanes.{laneOf}
-use Rattle.lanes.specs.Rows.{RowWritten}
-use Rattle.lanes.proofs.RowLaws.{row-written-none, row-written-more, row-written-all, DistanceThere, distance-there}
+use Rattle.lanes.specs.Rows.{RowWritten, within, maskedBy}
+use Rattle.lanes.proofs.RowLaws.{row-written-none, row-written-more, row-written-all}
 use borrow.Author.Needs.{needs}
 use Rattle.lanes.proofs.rows.mask.Statement.{statement}
 use Rattle.lanes.proofs.rows.mask.Tie as tie
 
 abbrev Inv-loop : tie.InvT-loop
-Inv-loop from to₀ distances centre places lower upper place₀ to place = (place ≤ places) × RowWritten place (λ lane. masked chainLattice (inTable (numbersOf (wordsOf distances)) places centre lower upper) (laneOf from lane)) to₀ to
+Inv-loop from to₀ distances centre places bounds place₀ to place = (place ≤ places) × RowWritten place (maskedBy (within distances places centre bounds) from) to₀ to
 
 abbrev μ-loop : tie.MeasureT-loop
-μ-loop from to₀ distances centre places lower upper place₀ to place = places - place
+μ-loop from to₀ distances centre places bounds place₀ to place = places - place
 
 loop-holds : tie.Need-loop-holds Inv-loop μ-loop
 loop-holds c = (search needs, row-written-none _ _)
 
-there : (c : tie.In-loop Inv-loop μ-loop) → let g = c .before .before .before .before .before .args in DistanceThere (g .distances .now) (g .places) (g .centre) (c .before .loop .place)
-there c = let start = c .before .before .before .before .before in distance-there (start .args .distances .now) (start .pre .0) (c .loop-test .taken) (start .pre .1)
-
-mul-in-range : tie.Need-mul-in-range Inv-loop μ-loop
-mul-in-range c = omega (arith, there c)
-
-add-in-range : tie.Need-add-in-range Inv-loop μ-loop
-add-in-range c = omega (arith, there c)
-
-in-range-requires : tie.Need-in-range-requires Inv-loop μ-loop
-in-range-requires c κs = there c .0
-
 loop-again : tie.Need-loop-again Inv-loop μ-loop
-unfolding masked inTable
+unfolding masked
 loop-again c =
     let g = c .before .before .before .before .before .before .before .before .before .before .args in
     let h = c .before .before .before .before .before .before .loop in
@@ -56,9 +41,7 @@ mask-spec =
     Inv-loop
     μ-loop
     loop-holds
-    mul-in-range
-    add-in-range
-    in-range-requires
+    (λ c κs. search needs)
     (λ c κs. search needs)
     (λ c. search needs)
     (λ c. search needs)

@@ -36,7 +36,7 @@ loop-again c =
       ⊎-elim
           (λ w. rows-more (λ v. v / g .unit) (g .old .now) (g .x .now) (w .1 .result) (h .place) (h .inv .1) (w .2 .left) (w .1 .ensures))
           (λ w. rows-more (λ v. v / g .unit) (g .old .now) (g .x .now) false (h .place) (h .inv .1) refl
-          (strips-alike _ (g .old .now) (g .x .now) (h .place) (λ lane l. p .3 .low (h .place) lane b l (w .left) ∙ sym (p .4 .low (h .place) lane b l (w .left)))))
+          (strips-alike _ (g .old .now) (g .x .now) (h .place) (λ lane l. p .1 .low (h .place) lane b l (w .left) ∙ sym (p .2 .low (h .place) lane b l (w .left)))))
           (c .if1 .came),
     )
 
