@@ -22,7 +22,7 @@ use Rattle.lines.specs.declared.operator.Operator.the-variants.{Somewhere, Ever
 use Rattle.lines.specs.Decoding.{operatorSaid}
 use Rattle.values.specs.Chain.{chainLattice, chainMargin}
 use Rattle.values.specs.Signals.{inTable}
-use Rattle.spatial.specs.Lanes.{joinedBy, surroundValue, surroundRounds}
+use Rattle.spatial.specs.Surround.{joinedBy, surroundValue, surroundRounds}
 use Rattle.spatial.specs.Ranges.{somewhereIn}
 use Rattle.verdicts.specs.Writing.{sheetNetwork, earlier, lineValue, lineRounds, Surveyed}
 use Rattle.verdicts.proofs.Points.{range-at, somewhere-same}

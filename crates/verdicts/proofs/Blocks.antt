@@ -17,7 +17,8 @@ use Rattle.checks.specs.Limits.{mostPlaces}
 use Rattle.values.specs.Chain.{highest, chainWord, chainVerdict}
 use Rattle.values.proofs.ChainWords.{signal-bound}
 use Rattle.operators.proofs.Bounds.{greatest-bound}
-use Rattle.spatial.specs.Lanes.{lanes, laneOf, surroundRounds, blockRounds}
+use Rattle.lanes.specs.Lanes.{lanes, laneOf}
+use Rattle.spatial.specs.Surround.{surroundRounds, blockRounds}
 use Rattle.spatial.specs.Blocks.{BlockReady, BlockDone}
 use Rattle.spatial.specs.Ranges.{RangeReady, RangeDone}
 use Rattle.verdicts.specs.declared.tally.Tally.{Tally}

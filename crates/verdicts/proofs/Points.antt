@@ -34,7 +34,7 @@ use Rattle.values.proofs.Machine.{small-fits}
 use Rattle.values.proofs.Valid.{valid-difference}
 use Rattle.values.proofs.ChainWords.{signal-bound}
 use Rattle.operators.proofs.Bounds.{bounded-kept}
-use Rattle.spatial.specs.Lanes.{joinedBy, surroundValue}
+use Rattle.spatial.specs.Surround.{joinedBy, surroundValue}
 use Rattle.spatial.specs.Ranges.{somewhereIn}
 use Rattle.verdicts.specs.Writing.{sheetNetwork, sheetRecording, earlier, lineValue, Surveyed, Readable}
 

@@ -9,7 +9,8 @@ use Rattle.sheet.specs.declared.check.Layout as Code
 use Rattle.checks.specs.Limits.{mostPlaces, mostSamples}
 use Rattle.values.specs.Chain.{highest, chainWord, chainVerdict, Valid}
 use Rattle.values.specs.Signals.{signalIn}
-use Rattle.spatial.specs.Lanes.{lanes, laneOf, surroundValue, surroundRounds}
+use Rattle.lanes.specs.Lanes.{lanes, laneOf}
+use Rattle.spatial.specs.Surround.{surroundValue, surroundRounds}
 use Rattle.spatial.specs.Steps.{RoadsIn}
 use Rattle.spatial.specs.Ranges.{somewhereIn}
 use Rattle.verdicts.specs.declared.around.Around.{Around}

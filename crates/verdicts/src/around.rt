@@ -2,11 +2,15 @@
 // and then written sample by sample.
 use crate::sample::write_sample;
 use crate::tally::Tally;
+use lanes::LANES;
+use lanes::ROW;
+use lanes::rows::Block;
 use lines::operator::Bounds;
+use roads::road::Network;
 use sheet::check::Layout;
-use spatial::LANES;
-use spatial::ROW;
+use spatial::somewhere::Range;
 use spatial::somewhere::somewhere_block;
+use spatial::surround::Surround;
 use spatial::surround::surround_block;
 ghost use mathlib.Core.Path.{_≡_};
 ghost use Prim.Native.Nat.{_+_, _*_, _≤_};
@@ -15,7 +19,7 @@ ghost use Rattle.words.specs.Bytes.{wordsOf, numbersOf};
 ghost use Rattle.words.specs.Rows.{rows, put};
 ghost use Rattle.counting.specs.Totals.{count, sumBelow};
 ghost use Rattle.values.specs.Chain.{chainWord, chainVerdict};
-ghost use Rattle.spatial.specs.Lanes.{lanes, laneOf};
+ghost use Rattle.lanes.specs.Lanes.{lanes, laneOf};
 ghost use Rattle.verdicts.specs.Around.{LanesBounded, AroundReady, BlockFilled, BlockWritten, AroundWritten};
 
 // What is asked about every centre. Operands are the indices at which their signals begin.
@@ -68,29 +72,27 @@ fn fill_block(
             bounds,
         } => surround_block(
             words,
-            left,
-            right,
-            layout.places,
+            Surround {
+                left,
+                right,
+                bounds,
+            },
             sheet,
-            layout.roads,
+            Network {
+                places: layout.places,
+                roads: layout.roads,
+            },
             distances,
-            bounds.lower as u64,
-            bounds.upper as u64,
-            first,
-            size,
+            Block { first, count: size },
             out,
         ),
         Around::Range { left, bounds, dual } => {
             somewhere_block(
                 words,
-                left,
+                Range { left, bounds, dual },
                 layout.places,
                 distances,
-                bounds.lower as u64,
-                bounds.upper as u64,
-                dual,
-                first,
-                size,
+                Block { first, count: size },
                 out,
             );
             0

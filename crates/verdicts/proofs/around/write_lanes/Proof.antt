@@ -12,7 +12,7 @@ use Rattle.words.proofs.Words.{words-count}
 use Rattle.counting.specs.Totals.{count, sumBelow}
 use Rattle.counting.proofs.Totals.{sum-more, table-yes-bound}
 use Rattle.values.specs.Chain.{chainWord, chainVerdict}
-use Rattle.spatial.specs.Lanes.{laneOf}
+use Rattle.lanes.specs.Lanes.{laneOf}
 use Rattle.verdicts.proofs.LineRows.{put-row}
 use Rattle.verdicts.proofs.around.write_lanes.Statement.{statement}
 use Rattle.verdicts.proofs.around.write_lanes.Tie as tie
