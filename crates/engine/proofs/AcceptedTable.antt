@@ -31,9 +31,9 @@ use Rattle.sheet.proofs.Whole.{accepted-sheet}
 use Rattle.spatial.specs.Steps.{RoadsIn}
 use Rattle.spatial.proofs.SheetRoads.{good-roads}
 use Rattle.answers.specs.Answer.{lineIndex}
-use Rattle.verdicts.specs.Writing.{Surveyed}
 use Rattle.answers.proofs.WholeAnswer.{InAnswer, index-bound}
 use Rattle.answers.proofs.Accepted.{table, sizes}
+use Rattle.engine.specs.Writing.{Surveyed}
 use Rattle.engine.specs.Lines.{found, Accepting}
 use Rattle.engine.specs.Lent.{foundIn}
 

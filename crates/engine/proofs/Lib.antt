@@ -1,8 +1,9 @@
 pub mod AcceptedTable
 pub mod SpaceTable
-pub mod LineReads
+pub mod LineLocated
 pub mod LineWords
 pub mod EarlierLines
+pub mod LineValues
 pub mod LineMeant
 pub mod LinesDone
 pub mod Sizes

@@ -1,6 +1,5 @@
--- A line behind its first word: what its verdicts are made from stands before them, and verdicts and rounds that are the line's at each point
--- make it, whether they are found sample by sample or in blocks.
-use mathlib.Core.Path.{_≡_, sym, ap, subst, _∙_}
+-- A line behind its first word: what its verdicts are made from stands before them, and what its writer makes of it there is the line.
+use mathlib.Core.Path.{_≡_, ap, subst, _∙_}
 use mathlib.Core.List.{List, [], _∷_}
 use Prim.Native.Nat.{ℕ, _+_, _<_}
 use native.Mathlib.Omega.{arith}
@@ -9,18 +8,18 @@ use lib.Seq.{take-at}
 use Rattle.words.specs.Rows.{rows, put}
 use Rattle.words.proofs.Puts.{length-front, put-append, put-one}
 use Rattle.words.proofs.Rows.{rows-ext}
-use Rattle.counting.specs.Totals.{count, sumBelow}
-use Rattle.counting.proofs.Totals.{sum-same, most-same, most-none}
+use Rattle.counting.specs.Totals.{count}
+use Rattle.counting.proofs.Totals.{sum-same, most-same}
 use Rattle.sheet.specs.declared.check.Layout.{Layout}
 use Rattle.lines.specs.declared.line.Line.{Line}
-use Rattle.lines.specs.Decoding.{operatorSaid, lineSaid}
+use Rattle.lines.specs.Decoding.{lineSaid}
 use Rattle.values.specs.Chain.{chainWord, chainVerdict}
-use Rattle.verdicts.specs.Writing.{lineValue, lineRounds}
 use Rattle.verdicts.specs.declared.tally.Tally.{Tally}
-use Rattle.verdicts.specs.declared.around.Around.{Around}
-use Rattle.verdicts.specs.Around.{aroundValue, aroundRounds, SamplesWritten, AroundWritten}
+use Rattle.verdicts.specs.declared.located.Located.{Located}
+use Rattle.verdicts.specs.Written.{SamplesWritten}
 use Rattle.answers.specs.Answer.{firstWord}
 use Rattle.engine.specs.Line.{wordsUpTo, valueHere, roundsHere, LineWritten}
+use Rattle.engine.proofs.LineLocated.{valueOf, roundsOf, LineLocated}
 
 module _ (answer : List ℕ) (to : ℕ) (line : Line) {first : List ℕ} (room : to < length answer) (put-first : first ≡ set answer to (firstWord (lineSaid line))) where
   -- ---- the first word
@@ -55,21 +54,11 @@ module _ (answer : List ℕ) (to : ℕ) (line : Line) {first : List ℕ} (room :
       greatest = done .greatest ∙ most-same _ _ (line .length) (λ t _. most-same _ _ (L .places) (λ l b. same-rounds t l b));
     }
 
-    pub rows-written : ((t l : ℕ) → lineRounds s L (wordsUpTo answer to (lineSaid line)) starts (operatorSaid (line .operator)) t l ≡ 0)
-        → {after : List ℕ} {many : ℕ}
-        → after ≡ put first (to + 1) (rows (λ t l. chainWord (lineValue s L (take (to + 1) first) starts (operatorSaid (line .operator)) t l)) (line .length) (L .places))
-        → many ≡ sumBelow (λ t. sumBelow (λ l. count (chainVerdict (lineValue s L (take (to + 1) first) starts (operatorSaid (line .operator)) t l))) (L .places)) (line .length)
-        → LineWritten s L answer starts to (lineSaid line) after (record { rounds = 0; yes = many })
-    unfolding valueHere roundsHere
-    rows-written none written counted = line-written _ (λ _ _. 0)
-        (λ t l _. ap (λ w. lineValue s L w starts (operatorSaid (line .operator)) t l) before-verdicts)
-        (λ t l _. sym (none t l)) (record { written = written; counted = counted; greatest = most-none (line .length) (L .places) })
-
-    pub blocks-written : (distances : List ℕ) (around : Around)
-        → ((t l : ℕ) → l < L .places → aroundValue (wordsUpTo answer to (lineSaid line)) L s distances around t l ≡ lineValue s L (wordsUpTo answer to (lineSaid line)) starts (operatorSaid (line .operator)) t l)
-        → ((t l : ℕ) → l < L .places → aroundRounds (wordsUpTo answer to (lineSaid line)) L s distances around t l ≡ lineRounds s L (wordsUpTo answer to (lineSaid line)) starts (operatorSaid (line .operator)) t l)
-        → {after : List ℕ} {tally : Tally} → AroundWritten (take (to + 1) first) L s distances around first (to + 1) (line .length) after tally
+    -- in the words that stand before the verdicts
+    pub located-written : (distances : List ℕ) (located : Located) → LineLocated s L distances (wordsUpTo answer to (lineSaid line)) starts (line .operator) (line .length) located
+        → {after : List ℕ} {tally : Tally}
+        → SamplesWritten (valueOf s L distances (take (to + 1) first) located) (roundsOf s L distances (take (to + 1) first) located) (L .places) first (to + 1) (line .length) after tally
         → LineWritten s L answer starts to (lineSaid line) after tally
     unfolding valueHere roundsHere
-    blocks-written distances around same same-rounds {after} {tally} done = line-written _ _ same same-rounds
-        (subst (λ w. AroundWritten w L s distances around first (to + 1) (line .length) after tally) before-verdicts done)
+    located-written distances located here {after} {tally} done = line-written _ _ (here .values) (here .rounds)
+        (subst (λ w. SamplesWritten (valueOf s L distances w located) (roundsOf s L distances w located) (L .places) first (to + 1) (line .length) after tally) before-verdicts done)

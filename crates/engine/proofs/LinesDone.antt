@@ -28,9 +28,10 @@ use Rattle.values.proofs.ChainTable.{chains-valid}
 use Rattle.verdicts.specs.declared.tally.Tally.{Tally}
 use Rattle.verdicts.specs.Tally.{together}
 use Rattle.answers.specs.Answer.{lineIndex, firstWord, lineWords}
-use Rattle.verdicts.specs.Writing.{sheetNetwork, sheetRecording, earlier, lineValue, lineRounds}
+use Rattle.verdicts.specs.Rows.{sheetRecording}
 use Rattle.answers.proofs.AnswerWords.{lines-size, sizes-below}
 use Rattle.verdicts.proofs.Points.{sheet-bits}
+use Rattle.engine.specs.Writing.{sheetNetwork, earlier, lineValue, lineRounds}
 use Rattle.engine.specs.Line.{LineReady, LineWritten, wordsUpTo, valueHere, roundsHere}
 use Rattle.engine.specs.Lines.{found, Accepting, LinesWritten}
 use Rattle.engine.proofs.AcceptedTable.{Table, line-ends}
@@ -131,7 +132,6 @@ module _ (s : List ℕ) (layout : Code.Layout) (distances : List ℕ) (lines : L
       earlier = k;
       lengths = lengthsOf lines;
       good = table .good k inside;
-      known = omega (arith, done .room, table .sizes .count);
       written = λ i h. omega (
         arith,
         done .begins i h,

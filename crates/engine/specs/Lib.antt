@@ -1,4 +1,4 @@
-pub mod Way
+pub mod Writing
 pub mod Line
 pub mod Lines
 pub mod Lent

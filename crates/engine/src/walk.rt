@@ -8,10 +8,9 @@ use verdicts::tally::Tally;
 ghost use mathlib.Core.Path.{_≡_};
 ghost use Prim.Native.Nat.{_≤_};
 ghost use lib.ListN.{length};
-ghost use Rattle.words.specs.Bytes.{wordsOf, numbersOf};
+ghost use Rattle.words.specs.Bytes.{wordsOf};
 ghost use Rattle.answers.specs.Answer.{lineIndex};
-ghost use Rattle.engine.specs.Lines.{Accepting, LinesWritten};
-ghost use Rattle.engine.specs.Lent.{foundIn, neededIn};
+ghost use Rattle.engine.specs.Lent.{AcceptingIn, foundIn, neededIn, LinesWrittenIn};
 
 // The index after the last line, and what the lines add to the result.
 pub(crate) struct Written {
@@ -21,7 +20,7 @@ pub(crate) struct Written {
 
 // A word more for each line than verdicts, the head and the end.
 pub(crate) fn words_needed(sheet: &[u8], layout: Layout, distances: &[u8]) -> usize
-    requires { ⌜ Accepting (wordsOf (now sheet)) layout (numbersOf (wordsOf (now distances))) ⌝ }
+    requires { ⌜ AcceptingIn (now sheet) (now distances) layout ⌝ }
     ensures { λ r. ⌜ r ≡ neededIn (now (sheet .entry)) (now (distances .entry)) ⌝ }
 {
     let mut lengths = [0u32; MOST_LINES];
@@ -48,8 +47,8 @@ pub(crate) fn write_lines(
     distances: &[u8],
     answer: &mut [u8],
 ) -> Written
-    requires { ⌜ Accepting (wordsOf (now sheet)) layout (numbersOf (wordsOf (now distances))) × (lineIndex (layout .places) (foundIn (now sheet) (now distances) .lines) (layout .lines) ≤ length (wordsOf (now answer))) ⌝ }
-    ensures { λ r. ⌜ LinesWritten (wordsOf (now (sheet .entry))) (foundIn (now (sheet .entry)) (now (distances .entry))) (wordsOf (now (answer .entry))) (wordsOf (now (answer .exit))) (r .end) (r .tally) ⌝ }
+    requires { ⌜ AcceptingIn (now sheet) (now distances) layout × (lineIndex (layout .places) (foundIn (now sheet) (now distances) .lines) (layout .lines) ≤ length (wordsOf (now answer))) ⌝ }
+    ensures { λ r. ⌜ LinesWrittenIn (now (sheet .entry)) (now (distances .entry)) (now (answer .entry)) (now (answer .exit)) (r .end) (r .tally) ⌝ }
 {
     let mut lengths = [0u32; MOST_LINES];
     let mut starts = [0usize; MOST_LINES];

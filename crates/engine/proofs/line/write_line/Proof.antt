@@ -1,4 +1,4 @@
--- The first word is put, and the way of the line says which writer goes on behind it; what that writer asks for is what the line reads.
+-- The first word is put, and where the operands stand says which writer goes on behind it; what that writer asks for is what the line reads.
 use mathlib.Core.Path.{_≡_, sym, _∙_}
 use mathlib.Core.List.{List}
 use Prim.Native.Nat.{ℕ, _+_, _*_, _≤_, _<_}
@@ -7,19 +7,18 @@ use lib.ListN.{length, take, set}
 use borrow.Author.Needs.{needs}
 use Rattle.words.specs.Bytes.{wordsOf, numbersOf}
 use Rattle.words.proofs.Words.{words-count}
-use Rattle.lines.specs.Decoding.{operatorSaid, lineSaid}
-use Rattle.verdicts.specs.Writing.{Readable}
-use Rattle.verdicts.specs.Around.{AroundReady}
-use Rattle.engine.specs.declared.line.Way.{Way}
+use Rattle.lines.specs.Decoding.{lineSaid}
+use Rattle.verdicts.specs.declared.located.Located.{Located}
+use Rattle.verdicts.specs.declared.located.Located.the-variants.{Rows, Blocks}
 use Rattle.answers.specs.Answer.{firstWord}
 use Rattle.engine.specs.Line.{wordsUpTo}
-use Rattle.engine.proofs.LineReads.{Reads, line-reads, operands-known}
-use Rattle.engine.proofs.LineWords.{length-kept, before-verdicts, rows-written, blocks-written}
+use Rattle.engine.proofs.LineLocated.{Reads, LineLocated, line-located}
+use Rattle.engine.proofs.LineWords.{length-kept, before-verdicts, located-written}
 use Rattle.engine.proofs.line.write_line.Statement.{statement}
 use Rattle.engine.proofs.line.write_line.Tie as tie
 
 -- where both arms have come from
-module _ (c : tie.After-way-of) where
+module _ (c : tie.After-locate) where
   abbrev start : tie.Start
   start = c .before .before .before .before .before .before .before .before .before .before .before
 
@@ -42,48 +41,43 @@ module _ (c : tie.After-way-of) where
   before-line : take (start .args .to + 1) first ≡ wordsUpTo answer (start .args .to) (lineSaid (start .args .line))
   before-line = before-verdicts answer (start .args .to) (start .args .line) room put-first
 
-  -- what the line reads, by its way
-  reads : {way : Way} → c .way-of .result ≡ way
-      → Reads (wordsOf (start .args .sheet .now)) (start .args .layout) (numbersOf (wordsOf (start .args .distances .now)))
-      (wordsUpTo answer (start .args .to) (lineSaid (start .args .line))) (start .args .starts .now) (start .args .line .length) (start .args .line .operator) way
-  reads e = line-reads (start .args .line) (start .pre .0) (sym (c .way-of .ensures) ∙ e)
+  module _ {located : Located} (found : c .locate .result ≡ located) where
+    here : LineLocated (wordsOf (start .args .sheet .now)) (start .args .layout) (numbersOf (wordsOf (start .args .distances .now)))
+        (wordsUpTo answer (start .args .to) (lineSaid (start .args .line))) (start .args .starts .now) (start .args .line .operator) (start .args .line .length) located
+    here = line-located (start .args .line) (start .pre .0) (sym (c .locate .ensures) ∙ found)
+
+    -- what its writer reads
+    reads : Reads (wordsOf (start .args .sheet .now)) (start .args .layout) (numbersOf (wordsOf (start .args .distances .now))) (take (start .args .to + 1) first) located (start .args .line .length)
+    reads = rw before-line (here .reads)
 
 add-begin : tie.Need-add-begin
 add-begin c = let begin = c .before .before .before .before .before .before .before .before .before in omega (arith, words-count (begin .args .answer .now), begin .pre .1)
 
-way-of-requires : tie.Need-way-of-requires
-way-of-requires c κs = let begin = c .before .before .before .before .before .before .before .before .before .before in operands-known (begin .args .line) (begin .pre .0)
-
-write-around-requires : tie.Need-write-around-requires
-write-around-requires c κs =
-    let way = c .before .before .before .before in
-    let a = start way .args in
-    let ready : AroundReady (take (a .to + 1) (first way)) (a .layout) (wordsOf (a .sheet .now)) (numbersOf (wordsOf (a .distances .now))) (c .before .before .around .given .0 .0) (a .line .length) =
-    rw (before-line way) (reads way (c .before .before .around .given .1) .0) in
-    (ready, verdicts-room way)
-
 write-rows-requires : tie.Need-write-rows-requires
 write-rows-requires c κs =
-    let way = c .before .before .before in
+    let way = c .before .before .before .before in
     let begin = start way in
-    let a = begin .args in
-    let readable : (t : ℕ) → t < a .line .length → Readable (a .layout) (take (a .to + 1) (first way)) (a .starts .now) (operatorSaid (a .line .operator)) t =
-    rw (before-line way) (reads way (c .before .enum-told .given .1) .0) in
-    (begin .pre .0 .surveyed .sheet, readable, verdicts-room way, omega (arith, begin .pre .0 .good .most, begin .pre .0 .surveyed .sheet .samples))
+    record {
+      sheet = begin .pre .0 .surveyed .sheet;
+      few = omega (arith, begin .pre .0 .good .most, begin .pre .0 .surveyed .sheet .samples);
+      reads = reads way (c .before .before .row .given .1);
+      room = verdicts-room way;
+    }
+
+write-around-requires : tie.Need-write-around-requires
+write-around-requires c κs = let way = c .before .before .before .before in (reads way (c .before .before .around .given .1), verdicts-room way)
 
 returns : tie.Need-returns
 returns c =
     let arm = c .before .before .before .before .before in
     let way = arm .before .before in
-    let (_, same, same-rounds) = reads way (arm .around .given .1) in
-    blocks-written (answer way) (start way .args .to) (start way .args .line) (room way) (put-first way) _ (arm .around .given .0 .0) same same-rounds (c .before .before .write-around .ensures)
+    located-written (answer way) (start way .args .to) (start way .args .line) (room way) (put-first way) _ (Rows (arm .row .given .0 .0)) (here way (arm .row .given .1)) (c .before .before .write-rows .ensures .0)
 
 returns-2 : tie.Need-returns-2
 returns-2 c =
-    let arm = c .before .before .before .before in
+    let arm = c .before .before .before .before .before in
     let way = arm .before .before in
-    let (written, counted) = c .before .before .write-rows .ensures in
-    rows-written (answer way) (start way .args .to) (start way .args .line) (room way) (put-first way) (reads way (arm .enum-told .given .1) .1) written counted
+    located-written (answer way) (start way .args .to) (start way .args .line) (room way) (put-first way) _ (Blocks (arm .around .given .0 .0)) (here way (arm .around .given .1)) (c .before .before .write-around .ensures .0)
 
 pub write-line-spec : {M : Type 1} → statement M
 write-line-spec =
@@ -93,11 +87,11 @@ write-line-spec =
     (λ c κs. search needs)
     add-begin
     (λ c. search needs)
-    way-of-requires
-    (λ c. search needs)
-    write-around-requires
+    (λ c κs. search needs)
     (λ c. search needs)
     write-rows-requires
+    (λ c. search needs)
+    write-around-requires
     (λ c. search needs)
     returns
     (λ c. search needs)
