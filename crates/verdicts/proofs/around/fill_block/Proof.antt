@@ -25,30 +25,26 @@ module _ (c : tie.Start) where
 
 surround-block-requires : tie.Need-surround-block-requires
 surround-block-requires c κs =
-    let start = c .before .before .before .before .before .before .before .before .before .before in
-    (block-ready (fits start (c .before .before .before .before .around .given .1)), start .pre .1)
+    let start = c .before .before .before .before .before .before .before .before in
+    (block-ready (fits start (c .before .before .around .given .1)), start .pre .1)
 
 somewhere-block-requires : tie.Need-somewhere-block-requires
 somewhere-block-requires c κs =
-    let start = c .before .before .before .before .before .before .before .before .before .before in
-    (range-ready (fits start (c .before .before .before .before .around2 .given .1)), start .pre .1)
+    let start = c .before .before .before .before .before .before .before .before in
+    (range-ready (fits start (c .before .before .around2 .given .1)), start .pre .1)
 
 returns : tie.Need-returns
-returns c = told (c .before .before .before .before .before .before .before .before .before .before .before .before .before) (c .before .before .before .before .before .before .before .around .given .1) (surround-filled (c .before .before .surround-block .ensures))
+returns c = told (c .before .before .before .before .before .before .before .before .before .before .before) (c .before .before .before .before .before .around .given .1) (surround-filled (c .before .before .surround-block .ensures))
 
 returns-2 : tie.Need-returns-2
-returns-2 c = told (c .before .before .before .before .before .before .before .before .before .before .before .before .before) (c .before .before .before .before .before .before .before .around2 .given .1) (somewhere-filled (c .before .before .somewhere-block .ensures))
+returns-2 c = told (c .before .before .before .before .before .before .before .before .before .before .before) (c .before .before .before .before .before .around2 .given .1) (somewhere-filled (c .before .before .somewhere-block .ensures))
 
 pub fill-block-spec : {M : Type 1} → statement M
 fill-block-spec =
     tie.close
     (tie.spec
     (λ c. search needs)
-    (λ c. search needs)
-    (λ c. search needs)
     surround-block-requires
-    (λ c. search needs)
-    (λ c. search needs)
     (λ c. search needs)
     somewhere-block-requires
     (λ c. search needs)
