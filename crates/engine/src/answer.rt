@@ -1,6 +1,6 @@
 // The whole answer to an accepted sheet: head, lines, end, and zeros behind it.
-use crate::walk::Written;
-use crate::walk::write_lines;
+use evaluation::walk::Written;
+use evaluation::walk::write_lines;
 use sheet::check::Layout;
 ghost use mathlib.Core.Path.{_≡_};
 ghost use Prim.Native.Nat.{_+_, _*_, _^_, _≤_};
@@ -8,7 +8,8 @@ ghost use lib.ListN.{length, replicate};
 ghost use Rattle.words.specs.Bytes.{wordsOf, afterWords};
 ghost use Rattle.words.specs.Word.{wordOf};
 ghost use Rattle.checks.specs.Limits.{mostPlaces, mostLines, mostSamples};
-ghost use Rattle.engine.specs.Lent.{AcceptingIn, neededIn, AnswerWrittenIn};
+ghost use Rattle.evaluation.specs.Lent.{AcceptingIn, neededIn};
+ghost use Rattle.engine.specs.Lent.{AnswerWrittenIn};
 
 // The kinds 13 and 15, in bits 31..28.
 const HEAD: u32 = 3489660928;

@@ -1,19 +1,18 @@
 // The engine: from a sheet to its whole answer, or to a refusal that leaves zeros.
 use answer::write_answer;
+use evaluation::walk::words_needed;
 use sheet::check::Check;
 use sheet::check::Layout;
 use sheet::survey::survey;
-use walk::words_needed;
 ghost use mathlib.Core.Path.{_≡_};
 ghost use Prim.Native.Nat.{_≤_};
 ghost use lib.ListN.{length, replicate};
 ghost use Rattle.words.specs.Bytes.{wordsOf, numbersOf, afterWords, afterNumbers};
-ghost use Rattle.engine.specs.Lent.{AcceptingIn, neededIn, answeredIn, judgedIn};
+ghost use Rattle.evaluation.specs.Lent.{AcceptingIn, neededIn};
+ghost use Rattle.engine.specs.Lent.{answeredIn, judgedIn};
 ghost use Rattle.engine.specs.Result.{resultSaid};
 
 mod answer;
-mod line;
-mod walk;
 
 // What a host is told: the refusal's number, 0 for none, and its place; the words of the answer; the greatest rounds of a surround; how many
 // verdicts are yes.

@@ -29,7 +29,7 @@ use Rattle.values.specs.Chain.{chains, chainLattice, chainOpposite, chainMargin
 use Rattle.values.specs.Signals.{turned, inTable}
 use Rattle.spatial.specs.Surround.{joinedBy, surroundValue, surroundRounds}
 use Rattle.spatial.specs.Ranges.{somewhereIn}
-use Rattle.engine.specs.Writing.{sheetNetwork, earlier, lineValue, lineRounds, Surveyed}
+use Rattle.evaluation.specs.Writing.{sheetNetwork, earlier, lineValue, lineRounds, Surveyed}
 
 -- ---- any tests that are the same below n
 

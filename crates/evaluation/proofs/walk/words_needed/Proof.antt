@@ -12,9 +12,9 @@ use Rattle.sheet.specs.declared.check.Layout.{Layout}
 use Rattle.checks.specs.Limits.{mostLines}
 use Rattle.lines.proofs.Walk.{Walk, walk-step}
 use Rattle.answers.specs.Answer.{lineIndex, wordsNeeded}
-use Rattle.engine.proofs.AcceptedTable.{linesOf, Table, accepted-table, Passed, never-refused, line-passed, Ends, line-ends}
-use Rattle.engine.proofs.walk.words_needed.Statement.{statement}
-use Rattle.engine.proofs.walk.words_needed.Tie as tie
+use Rattle.evaluation.proofs.AcceptedTable.{linesOf, Table, accepted-table, Passed, never-refused, line-passed, Ends, line-ends}
+use Rattle.evaluation.proofs.walk.words_needed.Statement.{statement}
+use Rattle.evaluation.proofs.walk.words_needed.Tie as tie
 
 abbrev Inv-loop : tie.InvT-loop
 Inv-loop sheet layout distances lengths₀ at₀ needed₀ k₀ k-end lengths at needed k =

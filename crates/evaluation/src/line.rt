@@ -10,7 +10,7 @@ ghost use Prim.Native.Nat.{_+_, _*_, _≤_};
 ghost use lib.ListN.{length};
 ghost use Rattle.words.specs.Bytes.{wordsOf};
 ghost use Rattle.lines.specs.Decoding.{lineSaid};
-ghost use Rattle.engine.specs.Line.{LineReadyIn, LineWritten};
+ghost use Rattle.evaluation.specs.Line.{LineReadyIn, LineWritten};
 
 // Kind 14, in bits 31..28.
 const LINE: u32 = 3758096384;

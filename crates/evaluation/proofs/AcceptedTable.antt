@@ -33,9 +33,9 @@ use Rattle.spatial.proofs.SheetRoads.{good-roads}
 use Rattle.answers.specs.Answer.{lineIndex}
 use Rattle.answers.proofs.WholeAnswer.{InAnswer, index-bound}
 use Rattle.answers.proofs.Accepted.{table, sizes}
-use Rattle.engine.specs.Writing.{Surveyed}
-use Rattle.engine.specs.Lines.{found, Accepting}
-use Rattle.engine.specs.Lent.{foundIn}
+use Rattle.evaluation.specs.Writing.{Surveyed}
+use Rattle.evaluation.specs.Lines.{found, Accepting}
+use Rattle.evaluation.specs.Lent.{foundIn}
 
 -- ---- the sheet
 

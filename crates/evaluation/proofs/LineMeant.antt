@@ -20,8 +20,8 @@ use Rattle.lines.specs.GoodLines.{lengthsOf, Sound, GoodTable}
 use Rattle.values.specs.Chain.{chains, chainWord, chainVerdict, chainMargin}
 use Rattle.values.proofs.ChainTable.{chains-margin, chains-verdict}
 use Rattle.answers.specs.Answer.{wordFor}
-use Rattle.engine.proofs.LineValues.{operands-same, value-step}
-use Rattle.engine.proofs.EarlierLines.{word-meant}
+use Rattle.evaluation.proofs.LineValues.{operands-same, value-step}
+use Rattle.evaluation.proofs.EarlierLines.{word-meant}
 
 -- the rounds of a line depend on its operands within their lengths alone
 module _ (N : Network) (T v k : ℕ) (lengths : ℕ → ℕ) (line line′ : ℕ → Signal margins)

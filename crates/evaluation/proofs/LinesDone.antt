@@ -31,12 +31,12 @@ use Rattle.answers.specs.Answer.{lineIndex, firstWord, lineWords}
 use Rattle.verdicts.specs.Rows.{sheetRecording}
 use Rattle.answers.proofs.AnswerWords.{lines-size, sizes-below}
 use Rattle.verdicts.proofs.Points.{sheet-bits}
-use Rattle.engine.specs.Writing.{sheetNetwork, earlier, lineValue, lineRounds}
-use Rattle.engine.specs.Line.{LineReady, LineWritten, wordsUpTo, valueHere, roundsHere}
-use Rattle.engine.specs.Lines.{found, Accepting, LinesWritten}
-use Rattle.engine.proofs.AcceptedTable.{Table, line-ends}
-use Rattle.engine.proofs.EarlierLines.{signal-before}
-use Rattle.engine.proofs.LineMeant.{words-meant, yes-meant, rounds-meant}
+use Rattle.evaluation.specs.Writing.{sheetNetwork, earlier, lineValue, lineRounds}
+use Rattle.evaluation.specs.Line.{LineReady, LineWritten, wordsUpTo, valueHere, roundsHere}
+use Rattle.evaluation.specs.Lines.{found, Accepting, LinesWritten}
+use Rattle.evaluation.proofs.AcceptedTable.{Table, line-ends}
+use Rattle.evaluation.proofs.EarlierLines.{signal-before}
+use Rattle.evaluation.proofs.LineMeant.{words-meant, yes-meant, rounds-meant}
 
 module _ (s : List ℕ) (layout : Code.Layout) (lines : List Line) where
   -- the words, the greatest rounds and the yes verdicts of one line

@@ -10,10 +10,10 @@ use Rattle.formulas.specs.Formulas.{Line}
 use Rattle.checks.specs.Limits.{mostLines}
 use Rattle.lines.proofs.Walk.{Walk, walk-step}
 use Rattle.verdicts.specs.Tally.{together}
-use Rattle.engine.proofs.AcceptedTable.{linesOf, Table, accepted-table, Passed, never-refused, line-passed, Ends, line-ends}
-use Rattle.engine.proofs.LinesDone.{LinesDone, none-done, all-done, yes-few, line-fits, line-ready, line-done}
-use Rattle.engine.proofs.walk.write_lines.Statement.{statement}
-use Rattle.engine.proofs.walk.write_lines.Tie as tie
+use Rattle.evaluation.proofs.AcceptedTable.{linesOf, Table, accepted-table, Passed, never-refused, line-passed, Ends, line-ends}
+use Rattle.evaluation.proofs.LinesDone.{LinesDone, none-done, all-done, yes-few, line-fits, line-ready, line-done}
+use Rattle.evaluation.proofs.walk.write_lines.Statement.{statement}
+use Rattle.evaluation.proofs.walk.write_lines.Tie as tie
 
 abbrev Inv-loop : tie.InvT-loop
 Inv-loop sheet layout distances answer₀ lengths₀ starts₀ at₀ to₀ tally₀ k₀ k-end answer lengths starts at to tally k =

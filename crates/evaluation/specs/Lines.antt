@@ -12,7 +12,7 @@ use Rattle.roads.specs.Roads.{distanceTable}
 use Rattle.sheet.specs.Recording.{network, recording}
 use Rattle.sheet.specs.Checking.{layoutOf}
 use Rattle.verdicts.specs.declared.tally.Tally.{Tally}
-use Rattle.answers.specs.Answer.{lineIndex, lineWords, answerWords}
+use Rattle.answers.specs.Answer.{lineIndex, lineWords}
 
 abbrev pub foundBy : Checked Layout → Layout
 foundBy (accepted L) = L
@@ -32,13 +32,6 @@ pub record Accepting (s : List ℕ) (layout : Code.Layout) (distances : List ℕ
 module _ (s : List ℕ) (L : Layout) (answer : List ℕ) where
   pub record LinesWritten (after : List ℕ) (end : ℕ) (tally : Tally) : Type 0 where
     pub written : after ≡ put answer 1 (concat (lineWords (network s L) (L .sizes .samples) (recording s L) (L .lines)) (length (L .lines)))
-    pub ends : end ≡ lineIndex (L .sizes .places) (L .lines) (length (L .lines))
-    pub greatest : tally .rounds ≡ greatestRounds (network s L) (recording s L) (L .lines)
-    pub counted : tally .yes ≡ yesCount (network s L) (recording s L) (L .lines)
-
-  -- the whole answer, zeros behind it
-  pub record AnswerWritten (after : List ℕ) (end : ℕ) (tally : Tally) : Type 0 where
-    pub written : after ≡ padded (answerWords (network s L) (L .sizes .samples) (recording s L) (L .lines)) (length answer)
     pub ends : end ≡ lineIndex (L .sizes .places) (L .lines) (length (L .lines))
     pub greatest : tally .rounds ≡ greatestRounds (network s L) (recording s L) (L .lines)
     pub counted : tally .yes ≡ yesCount (network s L) (recording s L) (L .lines)

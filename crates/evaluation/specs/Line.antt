@@ -14,7 +14,7 @@ use Rattle.values.specs.Signals.{signalIn}
 use Rattle.spatial.specs.Steps.{RoadsIn}
 use Rattle.verdicts.specs.declared.tally.Tally.{Tally}
 use Rattle.answers.specs.Answer.{firstWord}
-use Rattle.engine.specs.Writing.{lineValue, lineRounds, Surveyed}
+use Rattle.evaluation.specs.Writing.{lineValue, lineRounds, Surveyed}
 
 -- the sheet is surveyed, and the signals of the earlier lines stand in the words, as chain numbers that can arise
 pub record LineReady (s : List ℕ) (L : Layout) (distances words starts : List ℕ) (line : Line) : Type 0 where

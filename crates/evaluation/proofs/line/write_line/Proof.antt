@@ -11,11 +11,11 @@ use Rattle.lines.specs.Decoding.{lineSaid}
 use Rattle.verdicts.specs.declared.located.Located.{Located}
 use Rattle.verdicts.specs.declared.located.Located.the-variants.{Rows, Blocks}
 use Rattle.answers.specs.Answer.{firstWord}
-use Rattle.engine.specs.Line.{wordsUpTo}
-use Rattle.engine.proofs.LineLocated.{Reads, LineLocated, line-located}
-use Rattle.engine.proofs.LineWords.{length-kept, before-verdicts, located-written}
-use Rattle.engine.proofs.line.write_line.Statement.{statement}
-use Rattle.engine.proofs.line.write_line.Tie as tie
+use Rattle.evaluation.specs.Line.{wordsUpTo}
+use Rattle.evaluation.proofs.LineLocated.{Reads, LineLocated, line-located}
+use Rattle.evaluation.proofs.LineWords.{length-kept, before-verdicts, located-written}
+use Rattle.evaluation.proofs.line.write_line.Statement.{statement}
+use Rattle.evaluation.proofs.line.write_line.Tie as tie
 
 -- where both arms have come from
 module _ (c : tie.After-locate) where

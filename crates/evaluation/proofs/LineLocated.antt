@@ -26,9 +26,9 @@ use Rattle.verdicts.specs.declared.located.Located.the-variants.{Rows, Blocks}
 use Rattle.verdicts.specs.Located.{locatedOf}
 use Rattle.verdicts.specs.Rows.{rowValue, RowReads}
 use Rattle.verdicts.specs.Around.{SurroundReads, AroundReads, AroundReady, aroundValue, aroundRounds}
-use Rattle.engine.specs.Writing.{lineValue, lineRounds}
-use Rattle.engine.specs.Line.{LineReady}
-use Rattle.engine.proofs.SpaceTable.{ranged, value-by-table, rounds-by-table, range-by-table, no-rounds}
+use Rattle.evaluation.specs.Writing.{lineValue, lineRounds}
+use Rattle.evaluation.specs.Line.{LineReady}
+use Rattle.evaluation.proofs.SpaceTable.{ranged, value-by-table, rounds-by-table, range-by-table, no-rounds}
 
 module _ (s : List ℕ) (L : Layout) (distances words : List ℕ) where
   -- what its writer makes of a located line, and what that writer reads

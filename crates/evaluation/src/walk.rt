@@ -10,16 +10,16 @@ ghost use Prim.Native.Nat.{_≤_};
 ghost use lib.ListN.{length};
 ghost use Rattle.words.specs.Bytes.{wordsOf};
 ghost use Rattle.answers.specs.Answer.{lineIndex};
-ghost use Rattle.engine.specs.Lent.{AcceptingIn, foundIn, neededIn, LinesWrittenIn};
+ghost use Rattle.evaluation.specs.Lent.{AcceptingIn, foundIn, neededIn, LinesWrittenIn};
 
 // The index after the last line, and what the lines add to the result.
-pub(crate) struct Written {
+pub struct Written {
     pub end: usize,
     pub tally: Tally,
 }
 
 // A word more for each line than verdicts, the head and the end.
-pub(crate) fn words_needed(sheet: &[u8], layout: Layout, distances: &[u8]) -> usize
+pub fn words_needed(sheet: &[u8], layout: Layout, distances: &[u8]) -> usize
     requires { ⌜ AcceptingIn (now sheet) (now distances) layout ⌝ }
     ensures { λ r. ⌜ r ≡ neededIn (now (sheet .entry)) (now (distances .entry)) ⌝ }
 {
@@ -41,12 +41,7 @@ pub(crate) fn words_needed(sheet: &[u8], layout: Layout, distances: &[u8]) -> us
 }
 
 // Writes every line, from index 1 on.
-pub(crate) fn write_lines(
-    sheet: &[u8],
-    layout: Layout,
-    distances: &[u8],
-    answer: &mut [u8],
-) -> Written
+pub fn write_lines(sheet: &[u8], layout: Layout, distances: &[u8], answer: &mut [u8]) -> Written
     requires { ⌜ AcceptingIn (now sheet) (now distances) layout × (lineIndex (layout .places) (foundIn (now sheet) (now distances) .lines) (layout .lines) ≤ length (wordsOf (now answer))) ⌝ }
     ensures { λ r. ⌜ LinesWrittenIn (now (sheet .entry)) (now (distances .entry)) (now (answer .entry)) (now (answer .exit)) (r .end) (r .tally) ⌝ }
 {

@@ -18,8 +18,8 @@ use Rattle.verdicts.specs.declared.tally.Tally.{Tally}
 use Rattle.verdicts.specs.declared.located.Located.{Located}
 use Rattle.verdicts.specs.Written.{SamplesWritten}
 use Rattle.answers.specs.Answer.{firstWord}
-use Rattle.engine.specs.Line.{wordsUpTo, valueHere, roundsHere, LineWritten}
-use Rattle.engine.proofs.LineLocated.{valueOf, roundsOf, LineLocated}
+use Rattle.evaluation.specs.Line.{wordsUpTo, valueHere, roundsHere, LineWritten}
+use Rattle.evaluation.proofs.LineLocated.{valueOf, roundsOf, LineLocated}
 
 module _ (answer : List ℕ) (to : ℕ) (line : Line) {first : List ℕ} (room : to < length answer) (put-first : first ≡ set answer to (firstWord (lineSaid line))) where
   -- ---- the first word
