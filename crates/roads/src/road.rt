@@ -7,6 +7,12 @@ ghost use Rattle.words.specs.Bytes.{wordsOf};
 ghost use Rattle.checks.specs.Checked.{wordAt};
 ghost use Rattle.roads.specs.Roads.{roadAt, weightAt, firstPlace, secondPlace};
 
+// How many places a sheet has, and how many roads among them.
+pub struct Network {
+    pub places: usize,
+    pub roads: usize,
+}
+
 // After the head and two words for each road before it.
 fn road_at(r: usize) -> usize
     requires { ⌜ roadAt r < 2 ^ 64 ⌝ }

@@ -54,7 +54,7 @@ module _ (s : List ℕ) where
   unfoldable pub checked : ℕ → Checked Layout
   checked distances = require (leb leastDistances distances) 1 0 (do
     sizes ← headChecked
-    roads ← roadsFrom (sizes .places) (length s) 0 0
+    roads ← roadsFrom s (sizes .places) (length s) 0 0
     linesAt ← samplesFrom (sampleCount sizes) (roadAt roads)
     found ← linesFrom s (sizes .signals) (sizes .samples) mostLines [] linesAt
     endChecked (found .1) (record { sizes = sizes; roads = roads; lines = found .0 }))

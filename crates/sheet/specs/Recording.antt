@@ -15,7 +15,7 @@ module _ (s : List ℕ) where
 
   module _ (L : Layout) where
     unfoldable pub network : Network
-    network = networkOf (L.sizes.places) (L.roads)
+    network = networkOf s (L.sizes.places) (L.roads)
 
     -- samples stand after the roads
     unfoldable pub recording : Recording

@@ -1,9 +1,10 @@
-// The parts of a sheet before its end, in their order, each checked by a function of its own: head, roads, samples, lines.
+// The head and the samples of a sheet, each checked by a function of its own.
 use checks::fault::Fault;
 use checks::limits::MOST_PLACES;
 use checks::limits::MOST_SAMPLES;
 use checks::limits::MOST_SIGNALS;
 use checks::limits::within;
+use checks::stage::Stage;
 use checks::word::is_kind;
 use checks::word::spare_bit_zero;
 ghost use mathlib.Core.Path.{_≡_};

@@ -16,12 +16,13 @@ use Rattle.network.specs.Network.{isRoad}
 use Rattle.logic.proofs.Keeps.{same-kept, least-kept}
 use Rattle.counting.proofs.Tests.{below, and-i, and-l, and-r, or-l, or-r, or-e}
 use Rattle.checks.specs.Checked.{wordAt}
-use Rattle.roads.specs.Roads.{roadAt, weightAt, firstPlace, secondPlace}
-use Rattle.roads.specs.Roads.{joins, weightAmong}
+use Rattle.roads.specs.Roads.{roadAt, weightAt, firstPlace, secondPlace, joins, weightAmong}
 use Rattle.values.specs.Chain.{chainLattice, highest}
 use Rattle.values.proofs.Naturals.{meet-min}
-use Rattle.spatial.specs.Lanes.{lanes, laneOf, joinedBy}
+use Rattle.lanes.specs.Lanes.{lanes, laneOf}
+use Rattle.spatial.specs.Surround.{joinedBy}
 use Rattle.spatial.specs.Steps.{RoadsIn, Bounded, Joined, RoadPulled, LeastOf, Stepped, Round}
+use Rattle.lanes.specs.Strips.{Written}
 
 -- ---- leastOver on chain numbers
 cond-le : (t : Bool) (z a b : ℕ) → (T t → z ≤ a) → z ≤ b → z ≤ cond t a b
@@ -154,6 +155,17 @@ module _ (sheet : List ℕ) (r : ℕ) (both x x′ : List ℕ) where
             rw (w .other q lane l u v)
             (least-same (laneOf x lane q) (laneOf x₀ lane q) (joinedBy sheet r q) (joinedBy sheet (suc r) q) (laneOf both lane)
             (joined-before sheet r q) (λ p h. from-other q p u v h) (s .least q lane l))
+
+-- ---- two pulls along a road
+pub road-pulled : (a b : ℕ) (both x y z : List ℕ) → (a ≡ b → ⊥)
+    → Written a lanes (λ lane. chainLattice .meet (laneOf x lane a) (laneOf both lane b)) x y
+    → Written b lanes (λ lane. chainLattice .meet (laneOf y lane b) (laneOf both lane a)) y z
+    → RoadPulled a b both x z
+road-pulled a b both x y z ne v w = record {
+  first = λ lane l. w .kept a lane l (λ e. absurd (ne e)) ∙ v .written lane l;
+  second = λ lane l. w .written lane l ∙ ap (λ (u : ℕ). chainLattice .meet u (laneOf both lane a)) (v .kept b lane l (λ e. absurd (ne (sym e))));
+  other = λ p lane l u t. w .kept p lane l (λ e. absurd (t e)) ∙ v .kept p lane l (λ e. absurd (u e));
+}
 
 -- ---- no road, and all roads
 not-joined : (sheet : List ℕ) (a b : ℕ) → T (joinedBy sheet 0 a b) → ⊥

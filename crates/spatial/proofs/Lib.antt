@@ -1,9 +1,7 @@
-pub mod StripLaws
 pub mod Least
 pub mod Lowest
 pub mod Outside
 pub mod Settling
-pub mod RowLaws
 pub mod Centres
 pub mod BlockLaws
 pub mod SheetRoads

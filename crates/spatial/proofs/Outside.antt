@@ -2,34 +2,21 @@
 use mathlib.Core.Path.{_≡_, refl, sym, ap, _∙_}
 use mathlib.Core.Bool.{Bool, true, false, _&&_, _||_, and-false, false≢true}
 use mathlib.Core.List.{List}
-use Prim.Native.Nat.{ℕ, _+_, _*_, _<_}
+use Prim.Native.Nat.{ℕ, _+_, _*_, _<_, _≤_}
 use native.Mathlib.Omega.{arith}
 use borrow.Author.Count.{below-more}
 use borrow.Author.Tests.{le-leb}
 use lib.Dec.{leb}
-use lib.ListN.{length, getD, set}
-use lib.Seq.{getD-set-same, getD-set-other}
-use Rattle.logic.specs.Iteration.{masked}
+use lib.ListN.{length, getD}
 use Rattle.values.specs.Chain.{chainLattice}
 use Rattle.values.specs.Signals.{inTable}
-use Rattle.spatial.specs.Lanes.{lanes, laneOf}
-use Rattle.spatial.specs.Strips.{Written, StripsApart}
-use Rattle.spatial.specs.Steps.{Marked, LowOutside, LowRows, Joined, RoadPulled, Stepped}
-use Rattle.spatial.specs.Blocks.{RowOf}
-use Rattle.spatial.proofs.StripLaws.{written-already}
+use Rattle.lanes.specs.Lanes.{lanes, laneOf}
+use Rattle.lanes.specs.Strips.{Written, StripsApart}
+use Rattle.lanes.specs.Rows.{RowOf, RowWritten, flagged, Marked, maskedBy}
+use Rattle.spatial.specs.Steps.{LowOutside, LowRows, Joined, RoadPulled, Stepped, RowsApart}
+use Rattle.lanes.proofs.StripLaws.{written-already}
 use Rattle.spatial.proofs.Lowest.{meet-low}
-use Rattle.spatial.proofs.RowLaws.{row-more}
-
--- ---- the flags
-pub marked-none : (test : ℕ → Bool) (flags : List Bool) → Marked test flags 0
-marked-none test flags = record { flag = λ p l. absurd (omega arith) }
-
-pub marked-more : (test : ℕ → Bool) (flags : List Bool) (k : ℕ) (t : Bool) → Marked test flags k → k < length flags → t ≡ test k → Marked test (set flags k t) (k + 1)
-marked-more test flags k t m b e = record {
-  flag = below-more (λ p. getD (set flags k t) p false ≡ test p) k
-      (λ p l. getD-set-other flags k p t false (λ q. absurd (omega arith)) ∙ m .flag p l)
-      (getD-set-same flags k t false b ∙ e);
-}
+use Rattle.lanes.proofs.RowLaws.{row-more, masked-out}
 
 -- outside a ball nothing is in a range that ends with it
 outside-range : (distances : List ℕ) (n centre lower upper place : ℕ) → inTable distances n centre 0 upper place ≡ false → inTable distances n centre lower upper place ≡ false
@@ -39,12 +26,41 @@ outside-range distances n centre lower upper place e = ap (λ t. leb lower d && 
     d : ℕ
     d = getD distances (centre * n + place) 0
 
-pub masked-low : (distances : List ℕ) (n centre lower upper : ℕ) (inside : List Bool) (from to : List ℕ) → Marked (inTable distances n centre 0 upper) inside n
-    → RowOf (λ lane. masked chainLattice (inTable distances n centre lower upper) (laneOf from lane)) to n → LowOutside inside to n
-unfolding masked
-masked-low distances n centre lower upper inside from to m w = record {
-  low = λ place lane b l e. w .at place lane b l ∙ simp (outside-range distances n centre lower upper place (sym (m .flag place b) ∙ e));
+-- ---- rows that are lowest outside
+
+-- a row masked by a range that ends with the ball, or by the flags themselves
+pub masked-low : (distances : List ℕ) (n centre lower upper : ℕ) (inside : List Bool) (from to : List ℕ) → length inside ≡ n → n * lanes ≤ length to
+    → Marked (inTable distances n centre 0 upper) inside n → RowOf (maskedBy (inTable distances n centre lower upper) from) to n → LowOutside inside to
+masked-low distances n centre lower upper inside from to all room m w = record {
+  room = omega arith;
+  low = λ place lane b l e.
+      let c : place < n = omega arith in
+      w .at place lane c l ∙ sym (masked-out _ from lane place (outside-range distances n centre lower upper place (sym (m .flag place c) ∙ e)));
 }
+
+pub cleared-low : {inside : List Bool} {before after : List ℕ} → RowWritten (length inside) (maskedBy (flagged inside) before) before after
+    → length inside * lanes ≤ length before → LowOutside inside after
+cleared-low {inside} {before} w room = record {
+  room = omega (arith, w .long);
+  low = λ place lane b l e. w .written .at place lane b l ∙ sym (masked-out (flagged inside) before lane place e);
+}
+
+-- ---- strip after strip
+module _ (h : ℕ → ℕ) (a b : List ℕ) where
+  pub rows-none : RowsApart false h a b 0
+  rows-none = record { alike = λ e p lane l. absurd (omega arith); apart = λ e. absurd (false≢true e) }
+
+  pub rows-more : (r : Bool) (k : ℕ) → RowsApart false h a b k → r ≡ false → StripsApart r h a b k lanes → RowsApart false h a b (k + 1)
+  rows-more r k w e s = record {
+    alike = λ z p lane l m. below-more (λ q. h (laneOf a lane q) ≡ h (laneOf b lane q)) k (λ q c. w .alike z q lane c m) (s .alike e lane m) p l;
+    apart = λ z. absurd (false≢true z);
+  }
+
+  pub rows-found : (r : Bool) (k n : ℕ) → k < n → r ≡ true → StripsApart r h a b k lanes → RowsApart true h a b n
+  rows-found r k n l e s = record {
+    alike = λ z. absurd (false≢true (sym z));
+    apart = λ _. let u = s .apart e in (k, u .0, l, u .1, u .2);
+  }
 
 -- ---- one strip
 pub strips-alike : (h : ℕ → ℕ) (a b : List ℕ) (place : ℕ) → ((lane : ℕ) → lane < lanes → laneOf a lane place ≡ laneOf b lane place) → StripsApart false h a b place lanes
@@ -52,34 +68,23 @@ strips-alike h a b place e = record { alike = λ _ lane l. ap h (e lane l); apar
 
 module _ {inside : List Bool} where
   -- a strip inside is written
-  low-kept : {place n : ℕ} {f : ℕ → ℕ} {s t : List ℕ} → getD inside place false ≡ true → Written place lanes f s t → LowOutside inside s n → LowOutside inside t n
-  low-kept i w s = record {
-    low = λ p lane b l e. w .kept p lane l (λ q. absurd (false≢true (sym e ∙ ap (λ k. getD inside k false) q ∙ i))) ∙ s .low p lane b l e;
+  low-kept : {place : ℕ} {f : ℕ → ℕ} {s t : List ℕ} → flagged inside place ≡ true → Written place lanes f s t → length t ≡ length s → LowOutside inside s → LowOutside inside t
+  low-kept i w long s = record {
+    room = omega (arith, s .room);
+    low = λ p lane b l e. w .kept p lane l (λ q. absurd (false≢true (sym e ∙ ap (flagged inside) q ∙ i))) ∙ s .low p lane b l e;
   }
-
-  pub low-none : {s : List ℕ} → LowOutside inside s 0
-  low-none = record { low = λ p lane b. absurd (omega arith) }
-
-  -- one strip more, which is lowest if it lies outside
-  pub low-more : {k : ℕ} {f : ℕ → ℕ} {s t : List ℕ} → Written k lanes f s t → (getD inside k false ≡ false → (lane : ℕ) → f lane ≡ 0) → LowOutside inside s k → LowOutside inside t (k + 1)
-  low-more {k} {f} {s} {t} w h o = record {
-    low = λ p lane b l. below-more (λ q. getD inside q false ≡ false → laneOf t lane q ≡ 0) k
-        (λ q c e. w .kept q lane l (λ r. absurd (omega arith)) ∙ o .low q lane c l e)
-        (λ e. w .written lane l ∙ h e lane)
-        p b;
-  }
-
-  pub low-inside : {k : ℕ} {s : List ℕ} → getD inside k false ≡ true → LowOutside inside s k → LowOutside inside s (k + 1)
-  low-inside i = low-more (written-already (λ _ _. refl)) (λ e. absurd (false≢true (sym e ∙ i)))
 
   -- numbers that fall stay lowest
-  pub stepped-low : {n roads : ℕ} {sheet both x y : List ℕ} → Stepped sheet roads both x y → LowOutside inside x n → LowOutside inside y n
-  stepped-low s o = record { low = λ p lane b l e. omega (arith, s .least p lane l .below, o .low p lane b l e) }
+  pub stepped-low : {roads : ℕ} {sheet both x y : List ℕ} → Stepped sheet roads both x y → length y ≡ length x → LowOutside inside x → LowOutside inside y
+  stepped-low s long o = record {
+    room = omega (arith, o .room);
+    low = λ p lane b l e. omega (arith, s .least p lane l .below, o .low p lane b l e);
+  }
 
   -- a road with both ends outside brings nothing
-  pub road-outside : (a b : ℕ) (both : List ℕ) {n : ℕ} {x : List ℕ} → LowOutside inside x n → a < n → b < n → (getD inside a false || getD inside b false) ≡ false → RoadPulled a b both x x
+  pub road-outside : (a b : ℕ) (both : List ℕ) {x : List ℕ} → LowOutside inside x → a < length inside → b < length inside → (flagged inside a || flagged inside b) ≡ false → RoadPulled a b both x x
   road-outside a b both o i j e =
-      let (out, away) = neither (getD inside a false) (getD inside b false) e in
+      let (out, away) = neither (flagged inside a) (flagged inside b) e in
       record {
         first = λ lane l. let low = o .low a lane i l out in low ∙ sym (meet-low _ _ low);
         second = λ lane l. let low = o .low b lane j l away in low ∙ sym (meet-low _ _ low);
@@ -93,9 +98,9 @@ module _ {inside : List Bool} where
 -- ---- joining, place after place
 pub record Joining (inside : List Bool) (x right old both : List ℕ) (k : ℕ) : Type 0 where
   pub joined : Joined x right old both k
-  pub rows : LowRows inside (length inside) x right old both
+  pub rows : LowRows inside x right old both
 
-pub joining-none : {inside : List Bool} {x right old both : List ℕ} → LowRows inside (length inside) x right old both → Joining inside x right old both 0
+pub joining-none : {inside : List Bool} {x right old both : List ℕ} → LowRows inside x right old both → Joining inside x right old both 0
 joining-none o = record {
   joined = record { former = λ p lane b l. absurd (omega arith); handed = λ p lane b l. absurd (omega arith) };
   rows = o;
@@ -109,19 +114,19 @@ module _ {inside : List Bool} {x right old both : List ℕ} {k : ℕ} (j : Joini
     handed = row-more (λ lane place. chainLattice .join (laneOf x lane place) (laneOf right lane place)) _ both both′ k (record { at = j .joined .handed }) w (λ _ _. refl) .at;
   }
 
-  pub joining-inside : {old′ both′ : List ℕ} → getD inside k false ≡ true → Written k lanes (λ lane. laneOf x lane k) old old′
-      → Written k lanes (λ lane. chainLattice .join (laneOf x lane k) (laneOf right lane k)) both both′ → Joining inside x right old′ both′ (k + 1)
-  joining-inside i v w = record {
+  pub joining-inside : {old′ both′ : List ℕ} → flagged inside k ≡ true → Written k lanes (λ lane. laneOf x lane k) old old′ → length old′ ≡ length old
+      → Written k lanes (λ lane. chainLattice .join (laneOf x lane k) (laneOf right lane k)) both both′ → length both′ ≡ length both → Joining inside x right old′ both′ (k + 1)
+  joining-inside i v old-long w both-long = record {
     joined = joined-more v w;
     rows = record {
       low = j .rows .low;
       right-low = j .rows .right-low;
-      old-low = low-kept i v (j .rows .old-low);
-      both-low = low-kept i w (j .rows .both-low);
+      old-low = low-kept i v old-long (j .rows .old-low);
+      both-low = low-kept i w both-long (j .rows .both-low);
     };
   }
 
-  pub joining-outside : k < length inside → getD inside k false ≡ false → Joining inside x right old both (k + 1)
+  pub joining-outside : k < length inside → flagged inside k ≡ false → Joining inside x right old both (k + 1)
   joining-outside b e = record {
     joined = joined-more
         (written-already (λ lane l. j .rows .old-low .low k lane b l e ∙ sym (j .rows .low .low k lane b l e)))

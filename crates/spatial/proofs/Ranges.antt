@@ -5,6 +5,8 @@ use mathlib.Core.List.{List}
 use Prim.Native.Nat.{ℕ, zero, suc, _+_, _-_, _≤_, _<_, min, max}
 use native.Mathlib.Numerals.{add-one}
 use native.Mathlib.Omega.{arith}
+use Rattle.words.specs.Bytes.{wordsOf, numbersOf}
+use Rattle.lines.specs.declared.operator.Bounds.{Bounds}
 use Rattle.logic.specs.Lattice.{leastOver, greatestOver}
 use Rattle.logic.specs.Table.{Signal}
 use Rattle.logic.proofs.Keeps.{same-kept, least-kept, greatest-kept}
@@ -12,11 +14,12 @@ use Rattle.values.specs.Chain.{chains, chainLattice, chainOpposite, highest}
 use Rattle.values.specs.Signals.{signalIn, inTable}
 use Rattle.values.proofs.ChainWords.{signal-bound}
 use Rattle.values.proofs.Naturals.{meet-min, join-max}
-use Rattle.spatial.specs.Lanes.{lanes, laneOf}
-use Rattle.spatial.specs.Strips.{ofTwo, Written}
-use Rattle.spatial.specs.Blocks.{RowOf, RowWritten, laneSignal}
-use Rattle.spatial.specs.Ranges.{somewhereIn, ofNone, gathered, RangeReady, RangeDone}
-use Rattle.spatial.proofs.StripLaws.{written-over}
+use Rattle.lanes.specs.Lanes.{lanes, laneOf}
+use Rattle.lanes.specs.Strips.{ofTwo, Written}
+use Rattle.lanes.specs.declared.rows.Block.{Block}
+use Rattle.lanes.specs.Rows.{RowOf, RowWritten, laneSignal, within}
+use Rattle.spatial.specs.Ranges.{somewhereIn, ofNone, gathered, gatheredIn, RangeReady, RangeDone}
+use Rattle.lanes.proofs.StripLaws.{written-over}
 use Rattle.spatial.proofs.BlockLaws.{lane-signal, lane-zero}
 
 -- ---- the least or the greatest, one number more
@@ -78,19 +81,20 @@ gathered-meant : (dual : Bool) (f : Signal chains) (n : ℕ) (distances : List �
 gathered-meant true f n distances lower upper t centre small = least-dual (inTable distances n centre lower upper) (f t) n small
 gathered-meant false f n distances lower upper t centre small = refl
 
-pub range-done : (words : List ℕ) (left n : ℕ) (distances : List ℕ) (first count lower upper : ℕ) (dual : Bool) (row before after : List ℕ) → RangeReady words left n distances first count
-    → RowOf (laneSignal words left n first count) row n → RowWritten n (λ lane centre. gathered dual (inTable distances n centre lower upper) (laneOf row lane) n) before after
-    → RangeDone words left n distances first count lower upper dual before after
-range-done words left n distances first count lower upper dual row before after ready decoded done = record {
+pub range-done : (words : List ℕ) (left n : ℕ) (distances : List ℕ) (block : Block) (bounds : Bounds) (dual : Bool) (row before after : List ℕ)
+    → RangeReady words left n (numbersOf (wordsOf distances)) (block .first) (block .count)
+    → RowOf (laneSignal words left n block) row n → RowWritten n (gatheredIn dual distances n bounds row) before after
+    → RangeDone words left n (numbersOf (wordsOf distances)) (block .first) (block .count) (bounds .lower) (bounds .upper) dual before after
+range-done words left n distances block bounds dual row before after ready decoded done = record {
   values = λ centre lane b c.
       done .written .at centre lane b (omega (arith, ready .few))
-      ∙ gathered-same (inTable distances n centre lower upper) (laneOf row lane) (signalIn words left n (first + lane)) n
-      (λ k d. lane-signal words left n first count row decoded lane k (ready .few) c d) dual
-      ∙ gathered-meant dual (signalIn words left n) n distances lower upper (first + lane) centre (signal-bound words left n (first + lane));
+      ∙ gathered-same (within distances n centre bounds) (laneOf row lane) (signalIn words left n (block .first + lane)) n
+      (λ k d. lane-signal words left n block row decoded lane k (ready .few) c d) dual
+      ∙ gathered-meant dual (signalIn words left n) n _ (bounds .lower) (bounds .upper) (block .first + lane) centre (signal-bound words left n (block .first + lane));
   idle = λ centre lane b c h.
       done .written .at centre lane b h
-      ∙ gathered-same (inTable distances n centre lower upper) (laneOf row lane) (λ _. 0) n (λ k d. lane-zero words left n first count row decoded lane k h c d) dual
-      ∙ gathered-meant dual (λ _ _. 0) n distances lower upper lane centre (λ _. omega arith);
+      ∙ gathered-same (within distances n centre bounds) (laneOf row lane) (λ _. 0) n (λ k d. lane-zero words left n block row decoded lane k h c d) dual
+      ∙ gathered-meant dual (λ _ _. 0) n _ (bounds .lower) (bounds .upper) lane centre (λ _. omega arith);
   kept = done .kept;
   long = done .long;
 }

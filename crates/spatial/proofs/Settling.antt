@@ -13,9 +13,9 @@ use Rattle.logic.proofs.Keeps.{same-kept, least-kept}
 use Rattle.counting.proofs.Totals.{sum-le, sum-lt, sum-bound, most-le, le-most}
 use Rattle.values.specs.Chain.{chainLattice, highest}
 use Rattle.values.proofs.ChainSurround.{halves-rest-after, rounds-of-halves}
-use Rattle.spatial.specs.Lanes.{lanes, laneOf, joinedBy}
-use Rattle.spatial.specs.Strips.{RowsApart}
-use Rattle.spatial.specs.Steps.{Bounded, ValidRow, Round, stepIn, roundsIn, Settled}
+use Rattle.lanes.specs.Lanes.{lanes, laneOf}
+use Rattle.spatial.specs.Surround.{joinedBy}
+use Rattle.spatial.specs.Steps.{RowsApart, Bounded, ValidRow, Round, stepIn, roundsIn, Settled}
 use Rattle.values.proofs.Naturals.{meet-min}
 
 -- the sum of all numbers of n places

@@ -1,8 +1,7 @@
 -- The roads of an accepted sheet are what the iteration asks of its roads.
 use mathlib.Core.List.{List}
 use Prim.Native.Nat.{ℕ, _<_}
-use Rattle.roads.specs.Roads.{roadAt}
-use Rattle.roads.specs.Roads.{GoodRoad}
+use Rattle.roads.specs.Roads.{roadAt, GoodRoad}
 use Rattle.checks.proofs.Checks.{kind-inside}
 use Rattle.spatial.specs.Steps.{RoadsIn}
 

@@ -1,31 +1,36 @@
 -- What is done for a block of samples: the strips of the operands are read once, and masked, settled and written centre by centre. These are for
 -- contracts inside the engine: no promise to a host speaks of them.
 use mathlib.Core.Path.{_≡_}
-use mathlib.Core.Bool.{cond}
+use mathlib.Core.Bool.{Bool}
 use mathlib.Core.List.{List}
 use Prim.Native.Nat.{ℕ, _+_, _*_, _<_, _≤_}
-use lib.Dec.{ltb}
 use lib.ListN.{length}
 use Rattle.counting.specs.Totals.{mostBelow}
 use Rattle.checks.specs.Limits.{mostPlaces}
+use Rattle.lines.specs.declared.operator.Bounds.{Bounds}
 use Rattle.values.specs.Chain.{Valid}
 use Rattle.values.specs.Signals.{signalIn}
-use Rattle.spatial.specs.Lanes.{lanes, laneOf, surroundBy, roundsBy, surroundValue, blockRounds}
+use Rattle.lanes.specs.Lanes.{lanes, laneOf}
+use Rattle.lanes.specs.Rows.{RowOf, RowWritten, within, Marked, maskedBy}
+use Rattle.spatial.specs.Surround.{surroundBy, roundsBy, surroundValue, blockRounds}
 use Rattle.spatial.specs.Steps.{RoadsIn, ValidRow}
 
--- a row by its numbers, as far as the first k places
-pub record RowOf (f : ℕ → ℕ → ℕ) (row : List ℕ) (k : ℕ) : Type 0 where
-  pub at : (place lane : ℕ) → place < k → lane < lanes → laneOf row lane place ≡ f lane place
+-- rows of the operands and of a centre have room for n places
+pub record Rooms (n : ℕ) (left right x ring : List ℕ) : Type 0 where
+  pub left-room : n * lanes ≤ length left
+  pub right-room : n * lanes ≤ length right
+  pub x-room : n * lanes ≤ length x
+  pub ring-room : n * lanes ≤ length ring
 
--- the strips of the first k places are written, and nothing else is
-pub record RowWritten (k : ℕ) (f : ℕ → ℕ → ℕ) (before after : List ℕ) : Type 0 where
-  pub written : RowOf f after k
-  pub kept : (place lane : ℕ) → k ≤ place → lane < lanes → laneOf after lane place ≡ laneOf before lane place
-  pub long : length after ≡ length before
+-- the ball ends where the ring does, and begins at the centre
+abbrev pub ballOf : Bounds → Bounds
+ballOf b = record { lower = 0; upper = b .upper }
 
--- a lane holds the signal at one sample, and the lowest number past the last of the samples
-abbrev pub laneSignal : List ℕ → ℕ → ℕ → ℕ → ℕ → ℕ → ℕ → ℕ
-laneSignal words start n first count lane place = cond (ltb lane count) (signalIn words start n (first + lane) place) 0
+-- the flags are those of the ball about a centre, x is the left row masked by the ball, and ring the right row masked by the bounds
+pub record CentreMasked (n : ℕ) (left right distances : List ℕ) (b : Bounds) (centre : ℕ) (inside : List Bool) (x ring : List ℕ) : Type 0 where
+  pub ball : Marked (within distances n centre (ballOf b)) inside n
+  pub left-masked : RowOf (maskedBy (within distances n centre (ballOf b)) left) x n
+  pub right-masked : RowOf (maskedBy (within distances n centre b) right) ring n
 
 -- rows of the operands; a sheet with its roads; distances; bounds
 module _ (left right : List ℕ) (n : ℕ) (sheet : List ℕ) (roads : ℕ) (distances : List ℕ) (lower upper : ℕ) where

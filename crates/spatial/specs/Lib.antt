@@ -1,5 +1,5 @@
-pub mod Lanes
-pub mod Strips
+pub mod Surround
 pub mod Steps
 pub mod Blocks
 pub mod Ranges
+pub mod Lent

@@ -8,9 +8,11 @@ use lib.ListN.{length}
 use Rattle.logic.specs.Lattice.{leastOver, greatestOver}
 use Rattle.logic.specs.Table.{Signal}
 use Rattle.checks.specs.Limits.{mostPlaces}
+use Rattle.lines.specs.declared.operator.Bounds.{Bounds}
 use Rattle.values.specs.Chain.{chains, chainLattice, highest}
 use Rattle.values.specs.Signals.{signalIn, turned, inTable}
-use Rattle.spatial.specs.Lanes.{lanes, laneOf}
+use Rattle.lanes.specs.Lanes.{lanes, laneOf}
+use Rattle.lanes.specs.Rows.{within}
 
 -- somewhere, or its dual, everywhere: the opposite of somewhere of the opposite
 abbrev pub somewhereIn : Bool → List ℕ → ℕ → Signal chains → ℕ → ℕ → Signal chains
@@ -25,6 +27,10 @@ ofNone false = 0
 abbrev pub gathered : Bool → (ℕ → Bool) → (ℕ → ℕ) → ℕ → ℕ
 gathered true test f n = leastOver chainLattice test f n
 gathered false test f n = greatestOver chainLattice test f n
+
+-- of a row's lane, by the places within bounds of a centre
+abbrev pub gatheredIn : Bool → List ℕ → ℕ → Bounds → List ℕ → ℕ → ℕ → ℕ
+gatheredIn least distances n b row lane centre = gathered least (within distances n centre b) (laneOf row lane) n
 
 -- words with a signal, n to a sample, which begins at `left`; samples `first` to first + count - 1
 module _ (words : List ℕ) (left n : ℕ) (distances : List ℕ) (first count : ℕ) where

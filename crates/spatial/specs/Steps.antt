@@ -1,18 +1,21 @@
 -- What a round does, row by row: `both` holds what each place hands to its neighbours, and a pull takes it over where it is less. These are for
 -- contracts inside the engine: no promise to a host speaks of them.
 use mathlib.Core.Path.{_≡_}
-use mathlib.Core.Bool.{Bool, false}
+use mathlib.Core.Bool.{Bool, true, false}
 use mathlib.Core.List.{List}
 use Prim.Native.Nat.{ℕ, suc, _*_, _<_, _≤_}
 use lib.Dec.{T}
-use lib.ListN.{length, getD}
+use lib.ListN.{length}
 use Rattle.logic.specs.Lattice.{leastOver}
 use Rattle.logic.specs.Iteration.{iterate, rounds}
 use Rattle.counting.specs.Totals.{mostBelow}
+use Rattle.checks.specs.Limits.{mostPlaces}
 use Rattle.checks.specs.Checked.{wordAt}
 use Rattle.roads.specs.Roads.{roadAt, firstPlace, secondPlace}
 use Rattle.values.specs.Chain.{chainLattice, chainMargin, highest, Valid}
-use Rattle.spatial.specs.Lanes.{lanes, laneOf, joinedBy}
+use Rattle.lanes.specs.Lanes.{lanes, laneOf}
+use Rattle.lanes.specs.Rows.{flagged}
+use Rattle.spatial.specs.Surround.{joinedBy}
 
 -- the words of the roads are there, and each road joins two of the n places
 pub record RoadsIn (sheet : List ℕ) (roads n : ℕ) : Type 0 where
@@ -28,27 +31,26 @@ pub record Bounded (row : List ℕ) (n : ℕ) : Type 0 where
 pub record ValidRow (row : List ℕ) (n : ℕ) : Type 0 where
   pub valid : (place lane : ℕ) → place < n → lane < lanes → Valid (laneOf row lane place)
 
--- the flags of k places are a test's
-pub record Marked (test : ℕ → Bool) (flags : List Bool) (k : ℕ) : Type 0 where
-  pub flag : (place : ℕ) → place < k → getD flags place false ≡ test place
-
--- the numbers of the places without a flag are the lowest
-pub record LowOutside (inside : List Bool) (row : List ℕ) (n : ℕ) : Type 0 where
-  pub low : (place lane : ℕ) → place < n → lane < lanes → getD inside place false ≡ false → laneOf row lane place ≡ 0
-
--- rows with room for n places, all of one length
-pub record Rooms (n : ℕ) (x right old both : List ℕ) : Type 0 where
-  pub room : n * lanes ≤ length x
-  pub right-room : length right ≡ length x
-  pub old-room : length old ≡ length x
-  pub both-room : length both ≡ length x
+-- a row has room for the places that the flags are of, and is lowest at those without a flag
+pub record LowOutside (inside : List Bool) (row : List ℕ) : Type 0 where
+  pub room : length inside * lanes ≤ length row
+  pub low : (place lane : ℕ) → place < length inside → lane < lanes → flagged inside place ≡ false → laneOf row lane place ≡ 0
 
 -- the rows of an iteration are lowest outside: nothing there changes
-pub record LowRows (inside : List Bool) (n : ℕ) (x right old both : List ℕ) : Type 0 where
-  pub low : LowOutside inside x n
-  pub right-low : LowOutside inside right n
-  pub old-low : LowOutside inside old n
-  pub both-low : LowOutside inside both n
+pub record LowRows (inside : List Bool) (x right old both : List ℕ) : Type 0 where
+  pub low : LowOutside inside x
+  pub right-low : LowOutside inside right
+  pub old-low : LowOutside inside old
+  pub both-low : LowOutside inside both
+
+-- what an iteration starts from: roads, and rows of numbers that can arise
+pub record Start (sheet : List ℕ) (roads : ℕ) (inside : List Bool) (x right : List ℕ) : Type 0 where
+  pub few-places : length inside ≤ mostPlaces
+  pub roads-in : RoadsIn sheet roads (length inside)
+  pub valid : ValidRow x (length inside)
+  pub right-valid : ValidRow right (length inside)
+  pub low : LowOutside inside x
+  pub right-low : LowOutside inside right
 
 -- old is x, and both the greater of x and right
 pub record Joined (x right old both : List ℕ) (n : ℕ) : Type 0 where
@@ -76,6 +78,11 @@ pub record Round (sheet : List ℕ) (roads n : ℕ) (right before old after : Li
   pub former : (place lane : ℕ) → place < n → lane < lanes → laneOf old lane place ≡ laneOf before lane place
   pub stepped : (place lane : ℕ) → place < n → lane < lanes → laneOf after lane place
       ≡ chainLattice .meet (laneOf before lane place) (leastOver chainLattice (joinedBy sheet roads place) (λ k. chainLattice .join (laneOf before lane k) (laneOf right lane k)) n)
+
+-- whether a reading h tells two rows apart in one of the lanes of n places
+pub record RowsApart (r : Bool) (h : ℕ → ℕ) (a b : List ℕ) (n : ℕ) : Type 0 where
+  pub alike : r ≡ false → (place lane : ℕ) → place < n → lane < lanes → h (laneOf a lane place) ≡ h (laneOf b lane place)
+  pub apart : r ≡ true → (place : ℕ) × (lane : ℕ) × (place < n) × (lane < lanes) × (h (laneOf a lane place) ≡ h (laneOf b lane place) → ⊥)
 
 module _ (sheet : List ℕ) (roads n : ℕ) (right x : List ℕ) where
   -- Definition 4.4's iteration in one lane: what it has at step i

@@ -1,15 +1,14 @@
-// Definition 4.4's iteration on rows of lanes: all places step together from the former round.
+// Definition 4.4's iteration on rows of lanes: all places step together from the former round. The flags say which places lie inside the ball.
 ghost use Prim.Native.Nat.{_*_, _/_, _≤_, _<_};
 ghost use lib.ListN.{length};
 ghost use Rattle.words.specs.Bytes.{wordsOf};
-ghost use Rattle.checks.specs.Limits.{mostPlaces};
-ghost use Rattle.spatial.specs.Lanes.{lanes};
-ghost use Rattle.spatial.specs.Strips.{RowsApart};
-ghost use Rattle.spatial.specs.Steps.{RoadsIn, Bounded, ValidRow, Rooms, LowOutside, LowRows, Joined, RoadPulled, Stepped, Round, Settled};
-use crate::strips::copy_strip;
-use crate::strips::greater_strip;
-use crate::strips::pull_strip;
-use crate::strips::strip_changed;
+ghost use Rattle.lanes.specs.Lanes.{lanes};
+ghost use Rattle.spatial.specs.Steps.{RoadsIn, Bounded, LowOutside, LowRows, Start, Joined, RoadPulled, Stepped, Round, RowsApart, Settled};
+use lanes::strips::copy_strip;
+use lanes::strips::greater_strip;
+use lanes::strips::pull_strip;
+use lanes::strips::strip_changed;
+use roads::road::Network;
 use roads::road::first_place;
 use roads::road::road_word;
 use roads::road::second_place;
@@ -19,9 +18,9 @@ const MARGIN: u32 = 2;
 
 // Keeps the former numbers, and makes of them what each place hands to its neighbours: a pull must not read a place that has stepped already.
 fn join(x: &[u32], right: &[u32], inside: &[bool], old: &mut [u32], both: &mut [u32])
-    requires { ⌜ Rooms (length (now inside)) (now x) (now right) (now old) (now both) × LowRows (now inside) (length (now inside)) (now x) (now right) (now old) (now both) ⌝ }
+    requires { ⌜ LowRows (now inside) (now x) (now right) (now old) (now both) ⌝ }
     ensures joined { λ _. ⌜ Joined (now (x .entry)) (now (right .entry)) (now (old .exit)) (now (both .exit)) (length (now (inside .entry))) ⌝ }
-    ensures low { λ _. ⌜ LowRows (now (inside .entry)) (length (now (inside .entry))) (now (x .entry)) (now (right .entry)) (now (old .exit)) (now (both .exit)) ⌝ }
+    ensures low { λ _. ⌜ LowRows (now (inside .entry)) (now (x .entry)) (now (right .entry)) (now (old .exit)) (now (both .exit)) ⌝ }
 {
     for place in 0..inside.len() {
         if inside[place] {
@@ -33,7 +32,7 @@ fn join(x: &[u32], right: &[u32], inside: &[bool], old: &mut [u32], both: &mut [
 
 // A road brings to each of its two ends what the other hands over. Two ends outside the ball have the lowest number already.
 fn pull_road(x: &mut [u32], both: &[u32], inside: &[bool], first: usize, second: usize)
-    requires { ⌜ (first < second) × (second < length (now inside)) × LowOutside (now inside) (now x) (length (now inside)) × (length (now inside) * lanes ≤ length (now x)) × (length (now inside) * lanes ≤ length (now both)) ⌝ }
+    requires { ⌜ (first < second) × (second < length (now inside)) × LowOutside (now inside) (now x) × (length (now inside) * lanes ≤ length (now both)) ⌝ }
     ensures { λ _. ⌜ RoadPulled first second (now (both .entry)) (now (x .entry)) (now (x .exit)) ⌝ }
 {
     if inside[first] | inside[second] {
@@ -42,11 +41,11 @@ fn pull_road(x: &mut [u32], both: &[u32], inside: &[bool], first: usize, second:
     }
 }
 
-fn step(x: &mut [u32], both: &[u32], inside: &[bool], sheet: &[u8], roads: usize)
-    requires { ⌜ RoadsIn (wordsOf (now sheet)) roads (length (now inside)) × LowOutside (now inside) (now x) (length (now inside)) × (length (now inside) * lanes ≤ length (now x)) × (length (now inside) * lanes ≤ length (now both)) ⌝ }
-    ensures { λ _. ⌜ Stepped (wordsOf (now (sheet .entry))) roads (now (both .entry)) (now (x .entry)) (now (x .exit)) ⌝ }
+fn step(x: &mut [u32], both: &[u32], inside: &[bool], sheet: &[u8], network: Network)
+    requires { ⌜ RoadsIn (wordsOf (now sheet)) (network .roads) (length (now inside)) × LowOutside (now inside) (now x) × (length (now inside) * lanes ≤ length (now both)) ⌝ }
+    ensures { λ _. ⌜ Stepped (wordsOf (now (sheet .entry))) (network .roads) (now (both .entry)) (now (x .entry)) (now (x .exit)) ⌝ }
 {
-    for r in 0..roads {
+    for r in 0..network.roads {
         let road = road_word(sheet, r);
         let first = first_place(road);
         let second = second_place(road);
@@ -61,19 +60,19 @@ fn round(
     both: &mut [u32],
     inside: &[bool],
     sheet: &[u8],
-    roads: usize,
+    network: Network,
 )
-    requires { ⌜ RoadsIn (wordsOf (now sheet)) roads (length (now inside)) × Bounded (now x) (length (now inside)) × Rooms (length (now inside)) (now x) (now right) (now old) (now both) × LowRows (now inside) (length (now inside)) (now x) (now right) (now old) (now both) ⌝ }
-    ensures stepped { λ _. ⌜ Round (wordsOf (now (sheet .entry))) roads (length (now (inside .entry))) (now (right .entry)) (now (x .entry)) (now (old .exit)) (now (x .exit)) ⌝ }
-    ensures low { λ _. ⌜ LowRows (now (inside .entry)) (length (now (inside .entry))) (now (x .exit)) (now (right .entry)) (now (old .exit)) (now (both .exit)) ⌝ }
+    requires { ⌜ RoadsIn (wordsOf (now sheet)) (network .roads) (length (now inside)) × Bounded (now x) (length (now inside)) × LowRows (now inside) (now x) (now right) (now old) (now both) ⌝ }
+    ensures stepped { λ _. ⌜ Round (wordsOf (now (sheet .entry))) (network .roads) (length (now (inside .entry))) (now (right .entry)) (now (x .entry)) (now (old .exit)) (now (x .exit)) ⌝ }
+    ensures low { λ _. ⌜ LowRows (now (inside .entry)) (now (x .exit)) (now (right .entry)) (now (old .exit)) (now (both .exit)) ⌝ }
 {
     join(x, right, inside, old, both);
-    step(x, both, inside, sheet, roads);
+    step(x, both, inside, sheet, network);
 }
 
 // Whether a number inside the ball is another, with so many chain numbers as `unit` says taken as one. Outside nothing changes.
 fn changed(old: &[u32], x: &[u32], inside: &[bool], unit: u32) -> bool
-    requires { ⌜ (1 ≤ unit) × (length (now inside) * lanes ≤ length (now old)) × (length (now inside) * lanes ≤ length (now x)) × LowOutside (now inside) (now old) (length (now inside)) × LowOutside (now inside) (now x) (length (now inside)) ⌝ }
+    requires { ⌜ (1 ≤ unit) × LowOutside (now inside) (now old) × LowOutside (now inside) (now x) ⌝ }
     ensures { λ r. ⌜ RowsApart r (λ c. c / unit) (now (old .entry)) (now (x .entry)) (length (now (inside .entry))) ⌝ }
 {
     for place in 0..inside.len() {
@@ -93,14 +92,14 @@ pub(crate) fn settle(
     both: &mut [u32],
     inside: &[bool],
     sheet: &[u8],
-    roads: usize,
+    network: Network,
 ) -> u64
-    requires { ⌜ RoadsIn (wordsOf (now sheet)) roads (length (now inside)) × ValidRow (now x) (length (now inside)) × ValidRow (now right) (length (now inside)) × (length (now inside) ≤ mostPlaces) × Rooms (length (now inside)) (now x) (now right) (now old) (now both) × LowRows (now inside) (length (now inside)) (now x) (now right) (now old) (now both) ⌝ }
-    ensures { λ r. ⌜ Settled (wordsOf (now (sheet .entry))) roads (length (now (inside .entry))) (now (right .entry)) (now (x .entry)) r (now (x .exit)) ⌝ }
+    requires { ⌜ Start (wordsOf (now sheet)) (network .roads) (now inside) (now x) (now right) × LowOutside (now inside) (now old) × LowOutside (now inside) (now both) ⌝ }
+    ensures { λ r. ⌜ Settled (wordsOf (now (sheet .entry))) (network .roads) (length (now (inside .entry))) (now (right .entry)) (now (x .entry)) r (now (x .exit)) ⌝ }
 {
     let mut rounds: u64 = 1;
     loop {
-        round(x, right, old, both, inside, sheet, roads);
+        round(x, right, old, both, inside, sheet, network);
         if changed(old, x, inside, MARGIN) {
             rounds += 1;
         } else if !changed(old, x, inside, 1) {

@@ -1,18 +1,26 @@
 // Somewhere and its dual, everywhere, for several samples side by side: the greatest, or the least, within range of every centre.
-use crate::ROW;
-use crate::rows::in_range;
-use crate::rows::load;
-use crate::strips::fill_strip;
-use crate::strips::pull_strip;
+use lanes::ROW;
+use lanes::rows::Block;
+use lanes::rows::in_range;
+use lanes::rows::load;
+use lanes::strips::fill_strip;
+use lanes::strips::pull_strip;
+use lines::operator::Bounds;
 ghost use mathlib.Core.Path.{_≡_};
-ghost use Prim.Native.Nat.{_+_, _*_, _≤_, _<_};
+ghost use Prim.Native.Nat.{_*_, _≤_, _<_};
 ghost use lib.ListN.{length};
-ghost use Rattle.words.specs.Bytes.{wordsOf, numbersOf};
-ghost use Rattle.values.specs.Signals.{inTable};
-ghost use Rattle.spatial.specs.Lanes.{lanes, laneOf};
-ghost use Rattle.spatial.specs.Strips.{Written};
-ghost use Rattle.spatial.specs.Blocks.{RowWritten};
-ghost use Rattle.spatial.specs.Ranges.{ofNone, gathered, RangeReady, RangeDone};
+ghost use Rattle.lanes.specs.Lanes.{lanes};
+ghost use Rattle.lanes.specs.Strips.{Written};
+ghost use Rattle.lanes.specs.Rows.{RowWritten, TableThere};
+ghost use Rattle.spatial.specs.Ranges.{ofNone, gatheredIn};
+ghost use Rattle.spatial.specs.Lent.{RangeReadyIn, RangeDoneIn};
+
+// What is asked about every centre. The operand is the index at which its signal begins.
+pub struct Range {
+    pub left: usize,
+    pub bounds: Bounds,
+    pub dual: bool,
+}
 
 // The least of nothing, or the greatest.
 fn of_none(least: bool) -> u32
@@ -32,16 +40,15 @@ fn gather(
     distances: &[u8],
     centre: usize,
     places: usize,
-    lower: u64,
-    upper: u64,
+    bounds: Bounds,
     least: bool,
 )
-    requires { ⌜ (centre < places) × (places * places ≤ length (numbersOf (wordsOf (now distances)))) × (places * lanes ≤ length (now row)) × (places * lanes ≤ length (now out)) ⌝ }
-    ensures { λ _. ⌜ Written centre lanes (λ lane. gathered least (inTable (numbersOf (wordsOf (now (distances .entry)))) places centre lower upper) (laneOf (now (row .entry)) lane) places) (now (out .entry)) (now (out .exit)) ⌝ }
+    requires { ⌜ (centre < places) × TableThere (now distances) places × (places * lanes ≤ length (now row)) × (places * lanes ≤ length (now out)) ⌝ }
+    ensures { λ _. ⌜ Written centre lanes (λ lane. gatheredIn least (now (distances .entry)) places bounds (now (row .entry)) lane centre) (now (out .entry)) (now (out .exit)) ⌝ }
 {
     fill_strip(out, centre, of_none(least));
     for place in 0..places {
-        if in_range(distances, centre * places + place, lower, upper) {
+        if in_range(distances, places, centre, place, bounds) {
             pull_strip(out, row, centre, place, least);
         }
     }
@@ -52,15 +59,14 @@ fn gather_all(
     out: &mut [u32],
     distances: &[u8],
     places: usize,
-    lower: u64,
-    upper: u64,
+    bounds: Bounds,
     least: bool,
 )
-    requires { ⌜ (places * places ≤ length (numbersOf (wordsOf (now distances)))) × (places * lanes ≤ length (now row)) × (places * lanes ≤ length (now out)) ⌝ }
-    ensures { λ _. ⌜ RowWritten places (λ lane centre. gathered least (inTable (numbersOf (wordsOf (now (distances .entry)))) places centre lower upper) (laneOf (now (row .entry)) lane) places) (now (out .entry)) (now (out .exit)) ⌝ }
+    requires { ⌜ TableThere (now distances) places × (places * lanes ≤ length (now row)) × (places * lanes ≤ length (now out)) ⌝ }
+    ensures { λ _. ⌜ RowWritten places (gatheredIn least (now (distances .entry)) places bounds (now (row .entry))) (now (out .entry)) (now (out .exit)) ⌝ }
 {
     for centre in 0..places {
-        gather(row, out, distances, centre, places, lower, upper, least);
+        gather(row, out, distances, centre, places, bounds, least);
     }
 }
 
@@ -69,20 +75,17 @@ fn gather_all(
 // somewhere of the opposite, and comes to the least.
 pub fn somewhere_block(
     words: &[u8],
-    left: usize,
+    range: Range,
     places: usize,
     distances: &[u8],
-    lower: u64,
-    upper: u64,
-    dual: bool,
-    first: usize,
-    count: usize,
+    block: Block,
     out: &mut [u32],
 )
-    requires { ⌜ RangeReady (wordsOf (now words)) left places (numbersOf (wordsOf (now distances))) first count × (places * lanes ≤ length (now out)) ⌝ }
-    ensures { λ _. ⌜ RangeDone (wordsOf (now (words .entry))) left places (numbersOf (wordsOf (now (distances .entry)))) first count lower upper dual (now (out .entry)) (now (out .exit)) ⌝ }
+    requires { ⌜ RangeReadyIn (now words) range places (now distances) block × (places * lanes ≤ length (now out)) ⌝ }
+    ensures { λ _. ⌜ RangeDoneIn (now (words .entry)) range places (now (distances .entry)) block (now (out .entry)) (now (out .exit)) ⌝ }
 {
     let mut row: [u32; ROW] = [0; ROW];
-    load(words, left, places, first, count, &mut row);
-    gather_all(&row, out, distances, places, lower, upper, dual);
+    load(words, range.left, places, block, &mut row);
+    let bounds = range.bounds;
+    gather_all(&row, out, distances, places, bounds, range.dual);
 }

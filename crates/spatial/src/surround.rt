@@ -2,18 +2,30 @@
 ghost use mathlib.Core.Path.{_≡_};
 ghost use Prim.Native.Nat.{_*_, _≤_, _<_, max};
 ghost use lib.ListN.{length};
-ghost use Rattle.words.specs.Bytes.{wordsOf, numbersOf};
-ghost use Rattle.spatial.specs.Lanes.{lanes};
-ghost use Rattle.spatial.specs.Steps.{Rooms};
-ghost use Rattle.spatial.specs.Blocks.{RowsReady, CentreDone, CentresDone, BlockReady, BlockDone};
-use crate::ROW;
+ghost use Rattle.words.specs.Bytes.{wordsOf};
+ghost use Rattle.lanes.specs.Lanes.{lanes};
+ghost use Rattle.lanes.specs.Rows.{TableThere};
+ghost use Rattle.spatial.specs.Steps.{Start, Settled};
+ghost use Rattle.spatial.specs.Blocks.{Rooms, CentreMasked};
+ghost use Rattle.spatial.specs.Lent.{RowsReadyIn, CentresDoneIn, BlockReadyIn, BlockDoneIn};
 use crate::iteration::settle;
-use crate::rows::clear_outside;
-use crate::rows::load;
-use crate::rows::mark_ball;
-use crate::rows::mask;
-use crate::strips::copy_strip;
 use checks::limits::MOST_PLACES;
+use lanes::ROW;
+use lanes::rows::Block;
+use lanes::rows::clear_outside;
+use lanes::rows::load;
+use lanes::rows::mark_ball;
+use lanes::rows::mask;
+use lanes::strips::copy_strip;
+use lines::operator::Bounds;
+use roads::road::Network;
+
+// What is asked about every centre. The operands are the indices at which their signals begin.
+pub struct Surround {
+    pub left: usize,
+    pub right: usize,
+    pub bounds: Bounds,
+}
 
 fn greater_of(a: u64, b: u64) -> u64
     ensures { λ r. ⌜ r ≡ max a b ⌝ }
@@ -21,70 +33,87 @@ fn greater_of(a: u64, b: u64) -> u64
     if a < b { b } else { a }
 }
 
-// The surround about one centre: x has it at the centre, and no more than that.
-fn surround_centre(
+// Flags the ball about a centre, and masks the left operand by it and the right one by both bounds.
+fn mask_centre(
     left: &[u32],
     right: &[u32],
-    places: usize,
-    sheet: &[u8],
-    roads: usize,
     distances: &[u8],
-    lower: u64,
-    upper: u64,
+    bounds: Bounds,
     centre: usize,
+    inside: &mut [bool],
     x: &mut [u32],
     ring: &mut [u32],
+)
+    requires { ⌜ (centre < length (now inside)) × TableThere (now distances) (length (now inside)) × Rooms (length (now inside)) (now left) (now right) (now x) (now ring) ⌝ }
+    ensures { λ _. ⌜ CentreMasked (length (now (inside .entry))) (now (left .entry)) (now (right .entry)) (now (distances .entry)) bounds centre (now (inside .exit)) (now (x .exit)) (now (ring .exit)) ⌝ }
+{
+    let places = inside.len();
+    let ball = Bounds {
+        lower: 0,
+        upper: bounds.upper,
+    };
+    mark_ball(inside, distances, centre, ball);
+    mask(left, x, distances, centre, places, ball);
+    mask(right, ring, distances, centre, places, bounds);
+}
+
+// The surround about a centre whose rows are masked: x has it at the centre, and no more than that.
+fn surround_centre(
+    x: &mut [u32],
+    ring: &[u32],
     old: &mut [u32],
     both: &mut [u32],
-    inside: &mut [bool],
+    inside: &[bool],
+    sheet: &[u8],
+    network: Network,
 ) -> u64
-    requires { ⌜ (centre < places) × (length (now inside) ≡ places) × RowsReady (now left) (now right) places (wordsOf (now sheet)) roads (numbersOf (wordsOf (now distances))) × Rooms places (now x) (now ring) (now old) (now both) ⌝ }
-    ensures { λ r. ⌜ CentreDone (now (left .entry)) (now (right .entry)) places (wordsOf (now (sheet .entry))) roads (numbersOf (wordsOf (now (distances .entry)))) lower upper centre (now (x .exit)) r ⌝ }
+    requires { ⌜ Start (wordsOf (now sheet)) (network .roads) (now inside) (now x) (now ring) × (length (now inside) * lanes ≤ length (now old)) × (length (now inside) * lanes ≤ length (now both)) ⌝ }
+    ensures { λ r. ⌜ Settled (wordsOf (now (sheet .entry))) (network .roads) (length (now (inside .entry))) (now (ring .entry)) (now (x .entry)) r (now (x .exit)) ⌝ }
 {
-    mark_ball(inside, distances, centre, upper);
-    mask(left, x, distances, centre, places, 0, upper);
-    mask(right, ring, distances, centre, places, lower, upper);
-    clear_outside(inside, old, both);
-    settle(x, ring, old, both, inside, sheet, roads)
+    clear_outside(inside, old);
+    clear_outside(inside, both);
+    settle(x, ring, old, both, inside, sheet, network)
 }
 
 // The surrounds about all centres, and the greatest rounds of one.
 fn surround_centres(
     left: &[u32],
     right: &[u32],
-    places: usize,
     sheet: &[u8],
-    roads: usize,
+    network: Network,
     distances: &[u8],
-    lower: u64,
-    upper: u64,
+    bounds: Bounds,
     out: &mut [u32],
 ) -> u64
-    requires { ⌜ RowsReady (now left) (now right) places (wordsOf (now sheet)) roads (numbersOf (wordsOf (now distances))) × (places * lanes ≤ length (now out)) ⌝ }
-    ensures { λ r. ⌜ CentresDone (now (left .entry)) (now (right .entry)) places (wordsOf (now (sheet .entry))) roads (numbersOf (wordsOf (now (distances .entry)))) lower upper places (now (out .entry)) (now (out .exit)) r ⌝ }
+    requires { ⌜ RowsReadyIn (now left) (now right) (now sheet) network (now distances) × (network .places * lanes ≤ length (now out)) ⌝ }
+    ensures { λ r. ⌜ CentresDoneIn (now (left .entry)) (now (right .entry)) (now (sheet .entry)) network (now (distances .entry)) bounds (network .places) (now (out .entry)) (now (out .exit)) r ⌝ }
 {
     let mut x: [u32; ROW] = [0; ROW];
     let mut ring: [u32; ROW] = [0; ROW];
     let mut old: [u32; ROW] = [0; ROW];
     let mut both: [u32; ROW] = [0; ROW];
     let mut inside: [bool; MOST_PLACES] = [false; MOST_PLACES];
+    let places = network.places;
     let mut most: u64 = 0;
     for centre in 0..places {
-        let rounds = surround_centre(
+        mask_centre(
             left,
             right,
-            places,
-            sheet,
-            roads,
             distances,
-            lower,
-            upper,
+            bounds,
             centre,
+            &mut inside[..places],
             &mut x,
             &mut ring,
+        );
+        let rounds = surround_centre(
+            &mut x,
+            &ring,
             &mut old,
             &mut both,
-            &mut inside[..places],
+            &inside[..places],
+            sheet,
+            network,
         );
         copy_strip(&x, out, centre);
         most = greater_of(most, rounds);
@@ -97,34 +126,20 @@ fn surround_centres(
 // the greatest rounds.
 pub fn surround_block(
     words: &[u8],
-    left: usize,
-    right: usize,
-    places: usize,
+    surround: Surround,
     sheet: &[u8],
-    roads: usize,
+    network: Network,
     distances: &[u8],
-    lower: u64,
-    upper: u64,
-    first: usize,
-    count: usize,
+    block: Block,
     out: &mut [u32],
 ) -> u64
-    requires { ⌜ BlockReady (wordsOf (now words)) left right places (wordsOf (now sheet)) roads (numbersOf (wordsOf (now distances))) first count × (places * lanes ≤ length (now out)) ⌝ }
-    ensures { λ r. ⌜ BlockDone (wordsOf (now (words .entry))) left right places (wordsOf (now (sheet .entry))) roads (numbersOf (wordsOf (now (distances .entry)))) first count lower upper (now (out .entry)) (now (out .exit)) r ⌝ }
+    requires { ⌜ BlockReadyIn (now words) surround (now sheet) network (now distances) block × (network .places * lanes ≤ length (now out)) ⌝ }
+    ensures { λ r. ⌜ BlockDoneIn (now (words .entry)) surround (now (sheet .entry)) network (now (distances .entry)) block (now (out .entry)) (now (out .exit)) r ⌝ }
 {
-    let mut left_row: [u32; ROW] = [0; ROW];
-    let mut right_row: [u32; ROW] = [0; ROW];
-    load(words, left, places, first, count, &mut left_row);
-    load(words, right, places, first, count, &mut right_row);
-    surround_centres(
-        &left_row,
-        &right_row,
-        places,
-        sheet,
-        roads,
-        distances,
-        lower,
-        upper,
-        out,
-    )
+    let mut left: [u32; ROW] = [0; ROW];
+    let mut right: [u32; ROW] = [0; ROW];
+    load(words, surround.left, network.places, block, &mut left);
+    load(words, surround.right, network.places, block, &mut right);
+    let bounds = surround.bounds;
+    surround_centres(&left, &right, sheet, network, distances, bounds, out)
 }

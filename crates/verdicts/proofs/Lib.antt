@@ -1,4 +1,4 @@
-pub mod LineValues
+pub mod Tails
 pub mod Points
 pub mod LineRows
 pub mod Blocks

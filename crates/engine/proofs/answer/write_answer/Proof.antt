@@ -14,7 +14,7 @@ use Rattle.words.proofs.Zeros.{cleared-words-tail}
 use Rattle.sheet.specs.Layout.{Layout}
 use Rattle.sheet.specs.Recording.{network, recording}
 use Rattle.answers.specs.Answer.{lineIndex, wordsNeeded, lineWords, headWord, answerWords}
-use Rattle.engine.specs.Lent.{foundIn}
+use Rattle.evaluation.specs.Lent.{foundIn}
 use Rattle.engine.proofs.Sizes.{lines-end, limits, end-bound}
 use Rattle.engine.proofs.WholeWriting.{three-parts, zeros-behind}
 use Rattle.engine.proofs.answer.write_answer.Statement.{statement}

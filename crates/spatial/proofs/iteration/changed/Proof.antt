@@ -5,9 +5,8 @@ use mathlib.Core.Bool.{false}
 use mathlib.Core.Logic.{⊎-elim}
 use native.Mathlib.Omega.{arith}
 use lib.ListN.{length}
-use Rattle.spatial.specs.Strips.{RowsApart}
-use Rattle.spatial.proofs.StripLaws.{rows-none, rows-more, rows-found}
-use Rattle.spatial.proofs.Outside.{strips-alike}
+use Rattle.spatial.specs.Steps.{RowsApart}
+use Rattle.spatial.proofs.Outside.{rows-none, rows-more, rows-found, strips-alike}
 use borrow.Author.Needs.{needs}
 use Rattle.spatial.proofs.iteration.changed.Statement.{statement}
 use Rattle.spatial.proofs.iteration.changed.Tie as tie
@@ -37,7 +36,7 @@ loop-again c =
       ⊎-elim
           (λ w. rows-more (λ v. v / g .unit) (g .old .now) (g .x .now) (w .1 .result) (h .place) (h .inv .1) (w .2 .left) (w .1 .ensures))
           (λ w. rows-more (λ v. v / g .unit) (g .old .now) (g .x .now) false (h .place) (h .inv .1) refl
-          (strips-alike _ (g .old .now) (g .x .now) (h .place) (λ lane l. p .3 .low (h .place) lane b l (w .left) ∙ sym (p .4 .low (h .place) lane b l (w .left)))))
+          (strips-alike _ (g .old .now) (g .x .now) (h .place) (λ lane l. p .1 .low (h .place) lane b l (w .left) ∙ sym (p .2 .low (h .place) lane b l (w .left)))))
           (c .if1 .came),
     )
 

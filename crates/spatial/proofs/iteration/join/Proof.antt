@@ -17,13 +17,13 @@ abbrev μ-loop : tie.MeasureT-loop
 μ-loop x right inside old₀ both₀ place₀ place-end old both place = place-end - place
 
 loop-holds : tie.Need-loop-holds Inv-loop μ-loop
-loop-holds c = (search needs, search needs, search needs, joining-none (c .before .before .before .before .before .pre .1))
+loop-holds c = (search needs, search needs, search needs, joining-none (c .before .before .before .before .before .pre))
 
 loop-again : tie.Need-loop-again Inv-loop μ-loop
 loop-again c =
     let h = c .before .before .before .loop in
     ⊎-elim
-    (λ w. rw (w .9, w .10) (search needs, w .2 .kept .1 .0 ∙ h .inv .1, w .6 .kept .1 .1 .0 ∙ h .inv .2, joining-inside (h .inv .3) (w .0 .taken) (w .2 .ensures) (w .6 .ensures)))
+    (λ w. rw (w .9, w .10) (search needs, w .2 .kept .1 .0 ∙ h .inv .1, w .6 .kept .1 .1 .0 ∙ h .inv .2, joining-inside (h .inv .3) (w .0 .taken) (w .2 .ensures) (w .2 .kept .1 .0) (w .6 .ensures) (w .6 .kept .1 .1 .0)))
     (λ w. rw (w .1, w .2) (search needs, h .inv .1, h .inv .2, joining-outside (h .inv .3) (c .before .before .loop-test .taken) (w .0 .left)))
     (c .if1 .came)
 

@@ -1,6 +1,6 @@
 -- Two pulls along a road, or none where both its ends lie outside.
 use native.Mathlib.Omega.{arith}
-use Rattle.spatial.proofs.StripLaws.{road-pulled}
+use Rattle.spatial.proofs.Least.{road-pulled}
 use Rattle.spatial.proofs.Outside.{road-outside}
 use borrow.Author.Needs.{needs}
 use Rattle.spatial.proofs.iteration.pull_road.Statement.{statement}

@@ -8,10 +8,10 @@ use Rattle.spatial.proofs.iteration.round.Statement.{statement}
 use Rattle.spatial.proofs.iteration.round.Tie as tie
 
 join-requires : tie.Need-join-requires
-join-requires c κs = let p = c .before .before .before .before .before .before .before .before .before .pre in (p .2, p .3)
+join-requires c κs = let p = c .before .before .before .before .before .before .before .before .before .pre in p .2
 
 step-requires : tie.Need-step-requires
-step-requires c κs = let p = c .before .before .before .before .before .before .before .before .before .before .before .before .before .before .before .before .pre in (p .0, p .3 .low, search needs, search needs)
+step-requires c κs = let p = c .before .before .before .before .before .before .before .before .before .before .before .before .before .before .before .before .pre in (p .0, p .2 .low, search needs)
 
 returns : tie.Need-returns
 returns c =
@@ -20,8 +20,8 @@ returns c =
     let j = c .before .before .before .before .before .before .before .before .before .join in
     let s = c .before .before .step in
     let low = j .ensures .1 in (
-      round-made (wordsOf (g .sheet .now)) (g .roads) (length (g .inside .now)) (g .right .now) (g .x .now) (j .last .1 .1 .1 .0) (j .last .1 .1 .1 .1 .0) (s .last .0) (p .0) (p .1) (j .ensures .0) (s .ensures),
-      record { low = stepped-low (s .ensures) (low .low); right-low = low .right-low; old-low = low .old-low; both-low = low .both-low },
+      round-made (wordsOf (g .sheet .now)) (g .network .roads) (length (g .inside .now)) (g .right .now) (g .x .now) (j .last .1 .1 .1 .0) (j .last .1 .1 .1 .1 .0) (s .last .0) (p .0) (p .1) (j .ensures .0) (s .ensures),
+      record { low = stepped-low (s .ensures) (s .kept .0) (low .low); right-low = low .right-low; old-low = low .old-low; both-low = low .both-low },
     )
 
 pub round-spec : {M : Type 1} → statement M

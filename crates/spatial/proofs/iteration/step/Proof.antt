@@ -14,10 +14,10 @@ use Rattle.spatial.proofs.iteration.step.Statement.{statement}
 use Rattle.spatial.proofs.iteration.step.Tie as tie
 
 abbrev Inv-loop : tie.InvT-loop
-Inv-loop x₀ both inside sheet roads r₀ x r = (r ≤ roads) × (length x ≡ length x₀) × Stepped (wordsOf sheet) r both x₀ x
+Inv-loop x₀ both inside sheet r₀ r-end x r = (r ≤ r-end) × (length x ≡ length x₀) × Stepped (wordsOf sheet) r both x₀ x
 
 abbrev μ-loop : tie.MeasureT-loop
-μ-loop x₀ both inside sheet roads r₀ x r = roads - r
+μ-loop x₀ both inside sheet r₀ r-end x r = r-end - r
 
 loop-holds : tie.Need-loop-holds Inv-loop μ-loop
 loop-holds c = let g = c .before .before .before .before .args in (search needs, search needs, stepped-none (wordsOf (g .sheet .now)) (g .both .now) (g .x .now))
@@ -47,8 +47,7 @@ pull-road-requires c κs =
     let here = read .before .before .before .loop-test .taken in (
       omega (arith, first read, second read, roads .order r here),
       omega (arith, second read, roads .inside r here),
-      stepped-low (read .before .before .before .before .loop .inv .2) (start read .pre .1),
-      search needs,
+      stepped-low (read .before .before .before .before .loop .inv .2) (read .before .before .before .before .loop .inv .1) (start read .pre .1),
       search needs,
     )
 
@@ -66,7 +65,7 @@ returns : tie.Need-returns Inv-loop μ-loop
 returns c =
     let g = c .before .before .before .before .before .before .args in
     let h = c .before .loop in
-    let e : h .r ≡ g .roads = omega arith in
+    let e : h .r ≡ g .network .roads = omega arith in
     subst (λ (r : ℕ). Stepped (wordsOf (g .sheet .now)) r (g .both .now) (g .x .now) (h .x)) e (h .inv .2)
 
 pub step-spec : {M : Type 1} → statement M

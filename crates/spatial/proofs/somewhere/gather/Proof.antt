@@ -5,43 +5,28 @@ use Prim.Native.Nat.{ℕ, _-_, _≤_}
 use native.Mathlib.Omega.{arith}
 use lib.ListN.{length}
 use borrow.Author.Needs.{needs}
-use Rattle.words.specs.Bytes.{wordsOf, numbersOf}
-use Rattle.values.specs.Signals.{inTable}
-use Rattle.spatial.specs.Lanes.{lanes, laneOf}
-use Rattle.spatial.specs.Strips.{Written}
+use Rattle.lanes.specs.Lanes.{lanes, laneOf}
+use Rattle.lanes.specs.Strips.{Written}
+use Rattle.lanes.specs.Rows.{within}
 use Rattle.spatial.specs.Ranges.{gathered}
-use Rattle.spatial.proofs.RowLaws.{DistanceThere, distance-there}
-use Rattle.spatial.proofs.StripLaws.{written-already, written-over}
+use Rattle.lanes.proofs.StripLaws.{written-already, written-over}
 use Rattle.spatial.proofs.Ranges.{gathered-none, gathering-more, gathering-past}
 use Rattle.spatial.proofs.somewhere.gather.Statement.{statement}
 use Rattle.spatial.proofs.somewhere.gather.Tie as tie
 
 abbrev Inv-loop : tie.InvT-loop
-Inv-loop row out₀ distances centre places lower upper least place₀ out place = (place ≤ places) × (length out ≡ length out₀)
-    × Written centre lanes (λ lane. gathered least (inTable (numbersOf (wordsOf distances)) places centre lower upper) (laneOf row lane) place) out₀ out
+Inv-loop row out₀ distances centre places bounds least place₀ out place = (place ≤ places) × (length out ≡ length out₀)
+    × Written centre lanes (λ lane. gathered least (within distances places centre bounds) (laneOf row lane) place) out₀ out
 
 abbrev μ-loop : tie.MeasureT-loop
-μ-loop row out₀ distances centre places lower upper least place₀ out place = places - place
+μ-loop row out₀ distances centre places bounds least place₀ out place = places - place
 
 loop-holds : tie.Need-loop-holds Inv-loop μ-loop
 loop-holds c =
     let a = c .before .before .before .before .before .before .before .before .args in
     (search needs, search needs, written-already (λ lane l. c .before .before .fill-strip .ensures .written lane l ∙ c .before .before .before .of-none .ensures ∙ gathered-none (a .least) _ _))
 
-there : (c : tie.In-loop Inv-loop μ-loop) → let g = c .before .before .before .before .before .before .before .before .before .before .args in DistanceThere (g .distances .now) (g .places) (g .centre) (c .before .loop .place)
-there c = let start = c .before .before .before .before .before .before .before .before .before .before in distance-there (start .args .distances .now) (start .pre .0) (c .loop-test .taken) (start .pre .1)
-
-mul-in-range : tie.Need-mul-in-range Inv-loop μ-loop
-mul-in-range c = omega (arith, there c)
-
-add-in-range : tie.Need-add-in-range Inv-loop μ-loop
-add-in-range c = omega (arith, there c)
-
-in-range-requires : tie.Need-in-range-requires Inv-loop μ-loop
-in-range-requires c κs = there c .0
-
 loop-again : tie.Need-loop-again Inv-loop μ-loop
-unfolding inTable
 loop-again c =
     let a = c .before .before .before .before .before .before .before .before .before .before .before .before .args in
     let loop = c .before .before .before .loop in
@@ -55,7 +40,7 @@ returns : tie.Need-returns Inv-loop μ-loop
 returns c =
     let a = c .before .before .before .before .before .before .before .before .before .before .args in
     let ended : c .before .loop .place ≡ a .places = omega arith in
-    let all = subst (λ (k : ℕ). Written (a .centre) lanes (λ lane. gathered (a .least) (inTable (numbersOf (wordsOf (a .distances .now))) (a .places) (a .centre) (a .lower) (a .upper)) (laneOf (a .row .now) lane) k) (c .before .before .before .before .fill-strip .last .0) (c .before .loop .out)) ended (c .before .loop .inv .2) in
+    let all = subst (λ (k : ℕ). Written (a .centre) lanes (λ lane. gathered (a .least) (within (a .distances .now) (a .places) (a .centre) (a .bounds)) (laneOf (a .row .now) lane) k) (c .before .before .before .before .fill-strip .last .0) (c .before .loop .out)) ended (c .before .loop .inv .2) in
     written-over (c .before .before .before .before .fill-strip .ensures) all
 
 pub gather-spec : {M : Type 1} → statement M
@@ -67,9 +52,7 @@ gather-spec =
     (λ c κs. search needs)
     (λ c κs. search needs)
     loop-holds
-    mul-in-range
-    add-in-range
-    in-range-requires
+    (λ c κs. search needs)
     (λ c κs. search needs)
     (λ c. search needs)
     (λ c. search needs)

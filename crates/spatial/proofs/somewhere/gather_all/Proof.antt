@@ -3,21 +3,17 @@ use mathlib.Core.Path.{_≡_, refl}
 use Prim.Native.Nat.{_-_, _≤_}
 use native.Mathlib.Omega.{arith}
 use borrow.Author.Needs.{needs}
-use Rattle.words.specs.Bytes.{wordsOf, numbersOf}
-use Rattle.values.specs.Signals.{inTable}
-use Rattle.spatial.specs.Lanes.{laneOf}
-use Rattle.spatial.specs.Blocks.{RowWritten}
-use Rattle.spatial.specs.Ranges.{gathered}
-use Rattle.spatial.proofs.RowLaws.{row-written-none, row-written-more, row-written-all}
+use Rattle.lanes.specs.Rows.{RowWritten}
+use Rattle.spatial.specs.Ranges.{gatheredIn}
+use Rattle.lanes.proofs.RowLaws.{row-written-none, row-written-more, row-written-all}
 use Rattle.spatial.proofs.somewhere.gather_all.Statement.{statement}
 use Rattle.spatial.proofs.somewhere.gather_all.Tie as tie
 
 abbrev Inv-loop : tie.InvT-loop
-Inv-loop row out₀ distances places lower upper least centre₀ out centre = (centre ≤ places)
-    × RowWritten centre (λ lane l. gathered least (inTable (numbersOf (wordsOf distances)) places l lower upper) (laneOf row lane) places) out₀ out
+Inv-loop row out₀ distances places bounds least centre₀ out centre = (centre ≤ places) × RowWritten centre (gatheredIn least distances places bounds row) out₀ out
 
 abbrev μ-loop : tie.MeasureT-loop
-μ-loop row out₀ distances places lower upper least centre₀ out centre = places - centre
+μ-loop row out₀ distances places bounds least centre₀ out centre = places - centre
 
 loop-holds : tie.Need-loop-holds Inv-loop μ-loop
 loop-holds c = (search needs, row-written-none _ _)

@@ -7,32 +7,33 @@ use Rattle.spatial.proofs.surround.surround_block.Tie as tie
 
 surround-centres-requires : tie.Need-surround-centres-requires
 surround-centres-requires c κs =
-    let g = c .before .before .before .before .before .before .before .before .before .before .before .before .before .args in
-    let ready = c .before .before .before .before .before .before .before .before .before .before .before .before .before .pre .0 in
+    let start = c .before .before .before .before .before .before .before .before .before .before .before .before .before .before in
+    let g = start .args in
+    let ready = start .pre .0 in
     let w = wordsOf (g .words .now) in
-    let l = c .before .before .before .before .before .before .before .load in
-    let r = c .before .before .before .before .load2 in (
+    let l = c .before .before .before .before .before .before .before .before .load in
+    let r = c .before .before .before .before .before .load2 in (
       record {
         few-places = ready .few-places;
-        left-valid = row-valid w (g .left) (g .places) (g .first) (g .count) (l .last .1 .1 .1 .1 .1 .0) (l .ensures .written) (ready .left-valid);
-        right-valid = row-valid w (g .right) (g .places) (g .first) (g .count) (r .last .1 .1 .1 .1 .1 .0) (r .ensures .written) (ready .right-valid);
+        left-valid = row-valid w (g .surround .left) (g .network .places) (g .block) (l .last .1 .1 .1 .1 .0) (l .ensures .written) (ready .left-valid);
+        right-valid = row-valid w (g .surround .right) (g .network .places) (g .block) (r .last .1 .1 .1 .1 .0) (r .ensures .written) (ready .right-valid);
         left-room = search needs;
         right-room = search needs;
         roads-in = ready .roads-in;
         distances-there = ready .distances-there;
       },
-      c .before .before .before .before .before .before .before .before .before .before .before .before .before .pre .1,
+      start .pre .1,
     )
 
 returns : tie.Need-returns
 returns c =
-    let g = c .before .before .before .before .before .before .before .before .before .before .before .before .before .before .before .before .args in
-    let p = c .before .before .before .before .before .before .before .before .before .before .before .before .before .before .before .before .pre in
-    let l = c .before .before .before .before .before .before .before .before .before .before .load in
-    let r = c .before .before .before .before .before .before .before .load2 in
+    let start = c .before .before .before .before .before .before .before .before .before .before .before .before .before .before .before .before .before in
+    let g = start .args in
+    let l = c .before .before .before .before .before .before .before .before .before .before .before .load in
+    let r = c .before .before .before .before .before .before .before .before .load2 in
     let s = c .before .before .surround-centres in
-    block-done (wordsOf (g .words .now)) (g .left) (g .right) (g .places) (wordsOf (g .sheet .now)) (g .roads) (numbersOf (wordsOf (g .distances .now))) (g .first) (g .count) (g .lower) (g .upper)
-    (l .last .1 .1 .1 .1 .1 .0) (r .last .1 .1 .1 .1 .1 .0) (p .0) (l .ensures .written) (r .ensures .written) (g .out .now) (s .last .1 .1 .1 .1 .1 .1 .1 .1 .0) (s .result) (s .ensures)
+    block-done (wordsOf (g .words .now)) (g .surround .left) (g .surround .right) (g .network .places) (wordsOf (g .sheet .now)) (g .network .roads) (numbersOf (wordsOf (g .distances .now))) (g .block) (g .surround .bounds .lower) (g .surround .bounds .upper)
+    (l .last .1 .1 .1 .1 .0) (r .last .1 .1 .1 .1 .0) (start .pre .0) (l .ensures .written) (r .ensures .written) (g .out .now) (s .last .1 .1 .1 .1 .1 .1 .0) (s .result) (s .ensures)
 
 pub surround-block-spec : {M : Type 1} → statement M
 surround-block-spec =

@@ -1,63 +1,127 @@
 -- Each turn settles one centre more, copies its strip and keeps the greater rounds.
-use Prim.Native.Nat.{ℕ, _-_, _*_, _≤_}
-use mathlib.Core.Path.{_≡_, sym, subst, _∙_}
+use Prim.Native.Nat.{ℕ, _+_, _-_, _*_, _^_, _<_, _≤_}
+use mathlib.Core.Path.{_≡_, sym, ap, subst, _∙_}
+use mathlib.Core.Bool.{Bool}
+use mathlib.Core.List.{List, _++_}
 use native.Mathlib.Omega.{arith}
-use lib.ListN.{length}
-use lib.Seq.{length-take-le, length-front}
+use lib.ListN.{length, take, drop}
+use lib.Seq.{length-take-le, length-front, take-at}
 use Rattle.words.specs.Bytes.{wordsOf, numbersOf}
 use Rattle.checks.specs.Limits.{mostPlaces}
-use Rattle.spatial.specs.Lanes.{lanes}
-use Rattle.spatial.specs.Blocks.{CentresDone}
-use Rattle.spatial.proofs.Centres.{centres-none, centres-more}
+use Rattle.lanes.specs.Lanes.{lanes}
+use Rattle.spatial.specs.Steps.{Start, Settled}
+use Rattle.spatial.specs.Blocks.{CentreMasked}
+use Rattle.spatial.specs.Lent.{CentresDoneIn}
+use Rattle.spatial.proofs.Centres.{centre-start, centre-done, centres-none, centres-more}
 use borrow.Author.Needs.{needs}
 use Rattle.spatial.proofs.surround.surround_centres.Statement.{statement}
 use Rattle.spatial.proofs.surround.surround_centres.Tie as tie
 
 abbrev Inv-loop : tie.InvT-loop
-Inv-loop left right places sheet roads distances lower upper out₀ x₀ ring₀ old₀ both₀ inside₀ most₀ centre₀ out x ring old both inside most centre =
-    (centre ≤ places) × (length x ≡ mostPlaces * lanes) × (length ring ≡ mostPlaces * lanes) × (length old ≡ mostPlaces * lanes) × (length both ≡ mostPlaces * lanes)
-    × (length inside ≡ mostPlaces) × CentresDone left right places (wordsOf sheet) roads (numbersOf (wordsOf distances)) lower upper centre out₀ out most
+Inv-loop left right sheet network distances bounds out₀ x₀ ring₀ old₀ both₀ inside₀ places most₀ centre₀ out x ring old both inside most centre =
+    (centre ≤ network .places) × (length x ≡ mostPlaces * lanes) × (length ring ≡ mostPlaces * lanes) × (length old ≡ mostPlaces * lanes) × (length both ≡ mostPlaces * lanes)
+    × (length inside ≡ mostPlaces) × CentresDoneIn left right sheet network distances bounds centre out₀ out most
 
 abbrev μ-loop : tie.MeasureT-loop
-μ-loop left right places sheet roads distances lower upper out₀ x₀ ring₀ old₀ both₀ inside₀ most₀ centre₀ out x ring old both inside most centre =
-    places - centre
+μ-loop left right sheet network distances bounds out₀ x₀ ring₀ old₀ both₀ inside₀ places most₀ centre₀ out x ring old both inside most centre =
+    network .places - centre
 
 loop-holds : tie.Need-loop-holds Inv-loop μ-loop
-loop-holds c =
-    let g = c .before .before .before .before .before .args in (
-      search needs,
-      search needs,
-      search needs,
-      search needs,
-      search needs,
-      search needs,
-      centres-none (g .left .now) (g .right .now) (g .places) (wordsOf (g .sheet .now)) (g .roads) (numbersOf (wordsOf (g .distances .now))) (g .lower) (g .upper) (g .out .now),
-    )
+loop-holds c = (search needs, search needs, search needs, search needs, search needs, search needs, centres-none)
+
+-- the flags of the places are lent
+all : (c : tie.In-loop Inv-loop μ-loop) → let n = c .before .before .before .before .before .before .before .args .network .places in length (take n (c .before .loop .inside)) ≡ n
+all c = length-take-le _ (c .before .loop .inside) (omega (arith, c .before .before .before .before .before .before .before .pre .0 .few-places))
+
+slice-aggregate-mask-centre : tie.Need-slice-aggregate-mask-centre Inv-loop μ-loop
+slice-aggregate-mask-centre c = sym (all (c .before))
+
+mask-centre-requires : tie.Need-mask-centre-requires Inv-loop μ-loop
+mask-centre-requires c κs =
+    let ready = c .before .before .before .before .before .before .before .before .before .before .pre .0 in
+    rw (all (c .before .before .before)) (search needs, ready .distances-there, record { left-room = ready .left-room; right-room = ready .right-room; x-room = search needs; ring-room = search needs })
+
+-- the rows of the centre are masked
+module _ (c : tie.After-mask-centre Inv-loop μ-loop) where
+  abbrev start : tie.Start Inv-loop μ-loop
+  start = c .before .before .before .before .before .before .before .before .before .before .before
+
+  abbrev n : ℕ
+  n = start .args .network .places
+
+  abbrev flags : List Bool
+  flags = c .mask-centre .last .1 .1 .1 .1 .1 .0
+
+  abbrev x : List ℕ
+  x = c .mask-centre .last .1 .1 .1 .1 .1 .1 .0
+
+  abbrev ring : List ℕ
+  ring = c .mask-centre .last .1 .1 .1 .1 .1 .1 .1 .0
+
+  masked : CentreMasked n (start .args .left .now) (start .args .right .now) (start .args .distances .now) (start .args .bounds) (c .before .before .before .before .before .loop .centre) flags x ring
+  masked = subst (λ (k : ℕ). CentreMasked k (start .args .left .now) (start .args .right .now) (start .args .distances .now) (start .args .bounds) (c .before .before .before .before .before .loop .centre) flags x ring) (all (c .before .before .before .before)) (c .mask-centre .ensures)
+
+  count : length flags ≡ n
+  count = c .mask-centre .kept .1 .1 .1 .1 .1 .0 ∙ all (c .before .before .before .before)
+
+  -- the flags are lent again
+  again : take n (flags ++ drop n (c .before .before .before .before .before .loop .inside)) ≡ flags
+  again = take-at flags _ n count
+
+array-share-prefix-inside : tie.Need-array-share-prefix-inside Inv-loop μ-loop
+array-share-prefix-inside c =
+    let m = c .before .before .before .before .before .before .before in
+    let h = c .before .before .before .before .before .before .before .before .before .before .before .before .loop in
+    let long : length (flags m ++ drop (n m) (h .inside)) ≡ mostPlaces = length-front (h .inside) (flags m) (n m) (m .mask-centre .kept .1 .1 .1 .1 .1 .0) ∙ h .inv .5 in
+    subst (λ (k : ℕ). n m ≤ k) (sym long) (start m .pre .0 .few-places)
 
 slice-aggregate-surround-centre-5 : tie.Need-slice-aggregate-surround-centre-5 Inv-loop μ-loop
-slice-aggregate-surround-centre-5 c =
-    let l = length-take-le (c .before .before .before .before .before .before .before .before .before .before .before .before .args .places) (c .before .before .before .before .before .before .loop .inside) (omega (arith, c .before .before .before .before .before .before .before .before .before .before .before .before .pre .0 .few-places)) in
-    sym l
+slice-aggregate-surround-centre-5 c = let m = c .before .before .before .before .before .before .before .before in sym (ap length (again m) ∙ count m)
 
 surround-centre-requires : tie.Need-surround-centre-requires Inv-loop μ-loop
-surround-centre-requires c κs = (search needs, length-take-le (c .before .before .before .before .before .before .before .before .before .before .before .before .args .places) (c .before .before .before .before .before .before .loop .inside) (omega (arith, c .before .before .before .before .before .before .before .before .before .before .before .before .pre .0 .few-places)), c .before .before .before .before .before .before .before .before .before .before .before .before .pre .0, search needs)
+surround-centre-requires c κs =
+    let m = c .before .before .before .before .before .before .before .before in
+    let g = start m .args in
+    let h = c .before .before .before .before .before .before .before .before .before .before .before .before .before .loop in
+    let kx : length (x m) ≡ length (h .x) = m .mask-centre .kept .1 .1 .1 .1 .1 .1 .0 in
+    let kr : length (ring m) ≡ length (h .ring) = m .mask-centre .kept .1 .1 .1 .1 .1 .1 .1 .0 in
+    let few = start m .pre .0 .few-places in
+    let counted = count m in
+    subst
+    (λ (f : List Bool). Start (wordsOf (g .sheet .now)) (g .network .roads) f (x m) (ring m) × (length f * lanes ≤ length (h .old)) × (length f * lanes ≤ length (h .both)))
+    (sym (again m))
+    (centre-start (start m .pre .0) (masked m) counted (omega arith) (omega arith), omega arith, omega arith)
+
+add-centre : tie.Need-add-centre Inv-loop μ-loop
+add-centre c =
+    let fits : c .before .before .before .before .before .before .before .before .before .before .before .before .before .before .before .before .before .before .before .before .before .before .before .loop .centre + 1 < 2 ^ 64 = omega (arith, c .before .before .before .before .before .before .before .before .before .before .before .before .before .before .before .before .before .before .before .before .before .before .loop-test .taken, c .before .before .before .before .before .before .before .before .before .before .before .before .before .before .before .before .before .before .before .before .before .before .before .before .before .before .before .before .before .pre .0 .few-places) in
+    record { fits = fits }
 
 loop-again : tie.Need-loop-again Inv-loop μ-loop
 loop-again c =
-    let g = c .before .before .before .before .before .before .before .before .before .before .before .before .before .before .before .before .before .before .before .before .before .before .before .before .args in
-    let h = c .before .before .before .before .before .before .before .before .before .before .before .before .before .before .before .before .before .before .loop in
-    let s = c .before .before .before .before .before .before .before .before .before .before .before .surround-centre in
+    let m = c .before .before .before .before .before .before .before .before .before .before .before .before .before .before .before .before .before .before in
+    let g = start m .args in
+    let h = c .before .before .before .before .before .before .before .before .before .before .before .before .before .before .before .before .before .before .before .before .before .before .before .loop in
+    let s = c .before .before .before .before .before .before .before .before .before .surround-centre in
     let w = c .before .before .before .copy-strip in
-    let done = centres-more (g .left .now) (g .right .now) (g .places) (wordsOf (g .sheet .now)) (g .roads) (numbersOf (wordsOf (g .distances .now))) (g .lower) (g .upper)
-    (h .centre) (g .out .now) (h .out) (s .last .1 .1 .1 .1 .1 .1 .1 .1 .1 .0) (w .last .1 .0) (h .most) (s .result) (h .inv .6) (s .ensures) (w .ensures) (w .kept .1 .0) in
-    (omega (arith, c .before .before .before .before .before .before .before .before .before .before .before .before .before .before .before .before .before .loop-test .taken), search needs, search needs, search needs, search needs, length-front (h .inside) (s .last .1 .1 .1 .1 .1 .1 .1 .1 .1 .1 .1 .1 .1 .0) (g .places) (s .kept .1 .1 .1 .1 .1 .1 .1 .1 .1 .1 .1 .1 .1 .0) ∙ h .inv .5, rw (c .greater-of .ensures) done)
+    let settled = subst (λ (k : ℕ). Settled (wordsOf (g .sheet .now)) (g .network .roads) k (ring m) (x m) (s .result) (s .last .0)) (ap length (again m) ∙ count m) (s .ensures) in
+    let done = centres-more (h .inv .6) (centre-done (start m .pre .0) (masked m) (c .before .before .before .before .before .before .before .before .before .before .before .before .before .before .before .before .before .before .before .before .before .before .loop-test .taken) settled) (w .ensures) (w .kept .1 .0) in
+    let k = m .mask-centre .kept in (
+      omega (arith, c .before .before .before .before .before .before .before .before .before .before .before .before .before .before .before .before .before .before .before .before .before .before .loop-test .taken),
+      s .kept .0 ∙ k .1 .1 .1 .1 .1 .1 .0 ∙ h .inv .1,
+      k .1 .1 .1 .1 .1 .1 .1 .0 ∙ h .inv .2,
+      s .kept .1 .1 .0 ∙ h .inv .3,
+      s .kept .1 .1 .1 .0 ∙ h .inv .4,
+      length-front (h .inside) (flags m) (n m) (k .1 .1 .1 .1 .1 .0) ∙ h .inv .5,
+      rw (c .greater-of .ensures) done,
+    )
 
 returns : tie.Need-returns Inv-loop μ-loop
 returns c =
     let g = c .before .before .before .before .before .before .before .args in
     let h = c .before .loop in
-    let e : h .centre ≡ g .places = omega arith in
-    subst (λ (k : ℕ). CentresDone (g .left .now) (g .right .now) (g .places) (wordsOf (g .sheet .now)) (g .roads) (numbersOf (wordsOf (g .distances .now))) (g .lower) (g .upper) k (g .out .now) (h .out) (h .most)) e (h .inv .6)
+    let e : h .centre ≡ g .network .places = omega arith in
+    subst (λ (k : ℕ). CentresDoneIn (g .left .now) (g .right .now) (g .sheet .now) (g .network) (g .distances .now) (g .bounds) k (g .out .now) (h .out) (h .most)) e (h .inv .6)
 
 pub surround-centres-spec : {M : Type 1} → statement M
 surround-centres-spec =
@@ -67,16 +131,21 @@ surround-centres-spec =
     μ-loop
     loop-holds
     (λ c. search needs)
+    slice-aggregate-mask-centre
+    (λ c. search needs)
+    (λ c. search needs)
+    mask-centre-requires
     (λ c. search needs)
     (λ c. search needs)
     (λ c. search needs)
     (λ c. search needs)
+    array-share-prefix-inside
     slice-aggregate-surround-centre-5
     surround-centre-requires
     (λ c. search needs)
     (λ c κs. search needs)
     (λ c κs. search needs)
-    (λ c. search needs)
+    add-centre
     (λ c. search needs)
     loop-again
     (λ c. search needs)

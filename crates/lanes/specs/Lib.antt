@@ -1,0 +1,3 @@
+pub mod Lanes
+pub mod Strips
+pub mod Rows
