@@ -48,12 +48,12 @@ module _ (words : List ℕ) (operand : O.Operand) where
 pub in-row : (t : ℕ) {l places : ℕ} → l < places → t * places + l < (t + 1) * places
 in-row t {l} {places} b = let sample : t < t + 1 = omega arith in in-table sample b
 
-pub reached-inside : {words : List ℕ} {operand : O.Operand} {bounds : B.Bounds} {t l u : ℕ} → Reached words operand bounds t l → u < t + bounds .upper + 1
-    → operand .start + (u * operand .places + l) < length words
+pub reached-inside : {words : List ℕ} {start places : ℕ} {bounds : B.Bounds} {t l u : ℕ} → Reached words start places bounds t l → u < t + bounds .upper + 1
+    → start + (u * places + l) < length words
 reached-inside reached before = omega (arith, in-table before (reached .place), reached .window .inside)
 
 -- each sample has a word, and a word has bytes
-pub reached-end : (bytes : List ℕ) {operand : O.Operand} {bounds : B.Bounds} {t l : ℕ} → Reached (wordsOf bytes) operand bounds t l → t + bounds .upper + 1 ≤ length bytes
-reached-end bytes {operand} {bounds} {t} reached =
-    let some : 0 < operand .places = omega (arith, reached .place) in
+pub reached-end : (bytes : List ℕ) {start places : ℕ} {bounds : B.Bounds} {t l : ℕ} → Reached (wordsOf bytes) start places bounds t l → t + bounds .upper + 1 ≤ length bytes
+reached-end bytes {start} {places} {bounds} {t} reached =
+    let some : 0 < places = omega (arith, reached .place) in
     omega (arith, le-mul-of-pos-right (t + bounds .upper + 1) some, words-count bytes, reached .window .inside)

@@ -3,7 +3,7 @@
 use mathlib.Core.List.{List}
 use Prim.Native.Nat.{ℕ, _+_, _*_, _≤_, _<_}
 use lib.ListN.{length}
-use Rattle.logic.specs.Table.{Signal, untilAt}
+use Rattle.logic.specs.Table.{Signal}
 use Rattle.values.specs.Chain.{chains}
 use Rattle.values.specs.Signals.{signalIn, turned}
 use Rattle.operators.specs.Rows.{ahead, eventuallyIn}
@@ -15,17 +15,14 @@ pub record Window (words : List ℕ) (start places lower upper t : ℕ) : Type 0
   pub bounds : lower ≤ upper
   pub inside : start + (t + upper + 1) * places ≤ length words
 
-module _ (words : List ℕ) where
-  -- the same of an operand, at place l
-  pub record Reached (operand : O.Operand) (bounds : B.Bounds) (t l : ℕ) : Type 0 where
-    pub window : Window words (operand .start) (operand .places) (bounds .lower) (bounds .upper) t
-    pub place : l < operand .places
+-- and l is one of the places
+pub record Reached (words : List ℕ) (start places : ℕ) (bounds : B.Bounds) (t l : ℕ) : Type 0 where
+  pub window : Window words start places (bounds .lower) (bounds .upper) t
+  pub place : l < places
 
+module _ (words : List ℕ) where
   abbrev pub operandIn : O.Operand → Signal chains
   operandIn operand = turned (operand .negated) (signalIn words (operand .start) (operand .places))
-
-  abbrev pub untilOf : O.Operand → O.Operand → B.Bounds → Signal chains
-  untilOf left right bounds = untilAt chains (operandIn left) (operandIn right) (bounds .lower) (bounds .upper)
 
   abbrev pub aheadOf : O.Operand → B.Bounds → Signal chains
   aheadOf operand bounds = ahead (operandIn operand) (bounds .lower) (bounds .upper)

@@ -12,7 +12,7 @@ ghost use Rattle.operators.specs.Rows.{RowLeft, Former, Held, eventually
 
 // The greatest of a window, read from its first sample to its last.
 fn greatest_ahead(words: &[u8], operand: Operand, bounds: Bounds, t: usize, l: usize) -> u32
-    requires { ⌜ Reached (wordsOf (now words)) operand bounds t l ⌝ }
+    requires { ⌜ Reached (wordsOf (now words)) (operand .start) (operand .places) bounds t l ⌝ }
     ensures { λ r. ⌜ r ≡ aheadOf (wordsOf (now (words .entry))) operand bounds t l ⌝ }
 {
     let mut best = values::bottom();
@@ -32,7 +32,7 @@ fn greatest_next(
     l: usize,
     former: u32,
 ) -> u32
-    requires { ⌜ Reached (wordsOf (now words)) operand bounds (t + 1) l × (former ≡ aheadOf (wordsOf (now words)) operand bounds t l) ⌝ }
+    requires { ⌜ Reached (wordsOf (now words)) (operand .start) (operand .places) bounds (t + 1) l × (former ≡ aheadOf (wordsOf (now words)) operand bounds t l) ⌝ }
     ensures { λ r. ⌜ r ≡ aheadOf (wordsOf (now (words .entry))) operand bounds (t + 1) l ⌝ }
 {
     let leaving = operand_at(words, operand, t + bounds.lower, l);
@@ -52,7 +52,7 @@ fn eventually_at(
     l: usize,
     former: u32,
 ) -> u32
-    requires { ⌜ Reached (wordsOf (now words)) operand bounds t l × Former (eventuallyOf (wordsOf (now words)) operand bounds) t l former ⌝ }
+    requires { ⌜ Reached (wordsOf (now words)) (operand .start) (operand .places) bounds t l × Former (eventuallyOf (wordsOf (now words)) operand bounds) t l former ⌝ }
     ensures { λ r. ⌜ r ≡ eventuallyOf (wordsOf (now (words .entry))) operand bounds t l ⌝ }
 {
     let greatest = if t == 0 {

@@ -1,7 +1,6 @@
 // Code 5, until.
-use crate::signals::Operand;
-use crate::signals::operand_at;
 use crate::window::Bounds;
+use values::signal_at;
 ghost use mathlib.Core.Path.{_≡_};
 ghost use Prim.Native.Nat.{_+_, _*_, _≤_, _<_};
 ghost use lib.Dec.{leb};
@@ -9,37 +8,56 @@ ghost use lib.ListN.{length};
 ghost use Rattle.words.specs.Bytes.{wordsOf};
 ghost use Rattle.logic.specs.Lattice.{leastOver};
 ghost use Rattle.values.specs.Chain.{chainLattice};
-ghost use Rattle.operators.specs.Reach.{Window, Reached, operandIn, untilOf};
+ghost use Rattle.values.specs.Signals.{signalIn};
+ghost use Rattle.operators.specs.Reach.{Window, Reached};
 ghost use Rattle.operators.specs.Rows.{RowLeft, untilIn};
 
-// The least value of an operand from sample `first` up to and without sample `end`.
-fn least_between(words: &[u8], operand: Operand, first: usize, end: usize, l: usize) -> u32
-    requires { ⌜ (first ≤ end) × (l < operand .places) × (operand .start + end * operand .places ≤ length (wordsOf (now words))) ⌝ }
-    ensures { λ r. ⌜ r ≡ leastOver chainLattice (leb first) (λ u. operandIn (wordsOf (now (words .entry))) operand u l) end ⌝ }
+// The least value of a signal from sample `first` up to and without sample `end`.
+fn least_between(
+    words: &[u8],
+    start: usize,
+    places: usize,
+    first: usize,
+    end: usize,
+    l: usize,
+) -> u32
+    requires { ⌜ (first ≤ end) × (l < places) × (start + end * places ≤ length (wordsOf (now words))) ⌝ }
+    ensures { λ r. ⌜ r ≡ leastOver chainLattice (leb first) (λ u. signalIn (wordsOf (now (words .entry))) start places u l) end ⌝ }
 {
     let mut least = values::top();
     for u in first..end {
-        least = values::lesser(least, operand_at(words, operand, u, l));
+        least = values::lesser(least, signal_at(words, start, places, u, l));
     }
     least
 }
 
 // At one place. The samples are read from t on, with the least of left so far; from t + lower on each offers the lesser of right and that least.
-fn until_at(words: &[u8], left: Operand, right: Operand, bounds: Bounds, t: usize, l: usize) -> u32
-    requires { ⌜ Reached (wordsOf (now words)) left bounds t l × Reached (wordsOf (now words)) right bounds t l ⌝ }
-    ensures { λ r. ⌜ r ≡ untilOf (wordsOf (now (words .entry))) left right bounds t l ⌝ }
+fn until_at(
+    words: &[u8],
+    left: usize,
+    right: usize,
+    places: usize,
+    bounds: Bounds,
+    t: usize,
+    l: usize,
+) -> u32
+    requires { ⌜ Reached (wordsOf (now words)) left places bounds t l × Reached (wordsOf (now words)) right places bounds t l ⌝ }
+    ensures { λ r. ⌜ r ≡ untilIn (wordsOf (now (words .entry))) places left right (bounds .lower) (bounds .upper) t l ⌝ }
 {
     let first = t + bounds.lower;
     let end = t + bounds.upper + 1;
-    let mut least = least_between(words, left, t, first, l);
+    let mut least = least_between(words, left, places, t, first, l);
     let mut best = values::bottom();
     for u in first..end {
         // every later sample offers at most the least of left so far
         if least <= best {
             return best;
         }
-        least = values::lesser(least, operand_at(words, left, u, l));
-        best = values::greater(best, values::lesser(operand_at(words, right, u, l), least));
+        least = values::lesser(least, signal_at(words, left, places, u, l));
+        best = values::greater(
+            best,
+            values::lesser(signal_at(words, right, places, u, l), least),
+        );
     }
     best
 }
@@ -57,21 +75,11 @@ pub fn until_row(
     requires { ⌜ Window (wordsOf (now words)) left places lower upper t × Window (wordsOf (now words)) right places lower upper t × (places ≤ length (now row)) ⌝ }
     ensures { λ _. ⌜ RowLeft places (untilIn (wordsOf (now (words .entry))) places left right lower upper t) (now (row .entry)) (now (row .exit)) ⌝ }
 {
-    let first = Operand {
-        start: left,
-        places,
-        negated: false,
-    };
-    let second = Operand {
-        start: right,
-        places,
-        negated: false,
-    };
     let bounds = Bounds {
         lower: lower as usize,
         upper: upper as usize,
     };
     for l in 0..places {
-        row[l] = until_at(words, first, second, bounds, t, l);
+        row[l] = until_at(words, left, right, places, bounds, t, l);
     }
 }

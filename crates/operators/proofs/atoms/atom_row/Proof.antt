@@ -60,14 +60,14 @@ atom-at-requires : tie.Need-atom-at-requires Inv-loop μ-loop
 atom-at-requires c κs = (omega (arith, inside c), rw (toZ-ofZ (start c .fits .constant)) (start c .pre .2))
 
 loop-again : tie.Need-loop-again Inv-loop μ-loop
-loop-again c = one-passed _ (c .before .before .loop .inv) (omega arith) (omega arith) (c .atom-at .ensures)
+loop-again c = one-passed _ (c .before .before .loop .inv) (c .before .loop-test .taken) (c .before .before .before .before .before .pre .3) (c .atom-at .ensures)
 
 returns : tie.Need-returns Inv-loop μ-loop
 returns c =
     let start = c .before .before .before .before in
     let a = start .args in
     subst (λ (k : ℤ). RowLeft (a .places) (λ l. atomValue (a .atleast) (sampleIn (wordsOf (a .samples .now)) (a .places) (a .signals) (a .signal) (a .t) l) k) (a .row .now) (c .before .loop .row))
-    (toZ-ofZ (start .fits .constant)) (all-passed (c .before .loop .inv) (omega arith))
+    (toZ-ofZ (start .fits .constant)) (all-passed (c .before .loop .inv) (c .loop-test .left))
 
 pub atom-row-spec : {M : Type 1} → statement M
 atom-row-spec =

@@ -49,12 +49,12 @@ turn-requires c κs = rw (both c) (meet-bound _ _ (operand-bound _ (first c) _ _
 
 loop-again : tie.Need-loop-again Inv-loop μ-loop
 loop-again c =
-    let a = c .before .before .before .before .before .before .before .before .args in
+    let a = start (c .before) .args in
     let loop = c .before .before .before .before .before .loop in
-    one-passed _ (loop .inv) (omega arith) (omega arith) (c .turn .ensures ∙ ap (turnedTo (a .dual)) (both (c .before)) ∙ turned-number (a .dual) _ (a .t) (loop .l))
+    one-passed _ (loop .inv) (c .before .before .before .before .loop-test .taken) (start (c .before) .pre .2) (c .turn .ensures ∙ ap (turnedTo (a .dual)) (both (c .before)) ∙ turned-number (a .dual) _ (a .t) (loop .l))
 
 returns : tie.Need-returns Inv-loop μ-loop
-returns c = all-passed (c .before .loop .inv) (omega arith)
+returns c = all-passed (c .before .loop .inv) (c .loop-test .left)
 
 pub and-row-spec : {M : Type 1} → statement M
 and-row-spec =

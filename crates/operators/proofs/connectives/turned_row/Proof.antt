@@ -22,10 +22,10 @@ operand-at-requires : tie.Need-operand-at-requires Inv-loop μ-loop
 operand-at-requires c κs = omega (arith, in-row (c .before .before .before .before .args .t) (c .loop-test .taken))
 
 loop-again : tie.Need-loop-again Inv-loop μ-loop
-loop-again c = one-passed _ (c .before .before .loop .inv) (omega arith) (omega arith) (c .operand-at .ensures)
+loop-again c = one-passed _ (c .before .before .loop .inv) (c .before .loop-test .taken) (c .before .before .before .before .before .pre .1) (c .operand-at .ensures)
 
 returns : tie.Need-returns Inv-loop μ-loop
-returns c = all-passed (c .before .loop .inv) (omega arith)
+returns c = all-passed (c .before .loop .inv) (c .loop-test .left)
 
 pub turned-row-spec : {M : Type 1} → statement M
 turned-row-spec =

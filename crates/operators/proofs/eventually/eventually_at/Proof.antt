@@ -33,7 +33,7 @@ greatest-next-requires c κs =
     let start = c .before .before .before in
     let a = start .args in
     let same : a .t ≡ a .t - 1 + 1 = omega arith in (
-      subst (λ (t : ℕ). Reached (wordsOf (a .words .now)) (a .operand) (a .bounds) t (a .l)) same (start .pre .0),
+      subst (λ (t : ℕ). Reached (wordsOf (a .words .now)) (a .operand .start) (a .operand .places) (a .bounds) t (a .l)) same (start .pre .0),
       c .turn .ensures ∙ ap (turnedTo (a .operand .negated)) (held start (c .before .if1 .left)) ∙ turned-back (a .operand .negated) _ _ _ (small start (a .t - 1)),
     )
 

@@ -26,10 +26,10 @@ eventually-at-requires c κs =
     (record { window = start .pre .0; place = place }, λ u e. loop .inv .left .kept (loop .l) (omega arith) ∙ start .pre .2 u e .at (loop .l) place)
 
 loop-again : tie.Need-loop-again Inv-loop μ-loop
-loop-again c = one-passed _ (c .before .before .before .loop .inv) (omega arith) (omega arith) (c .eventually-at .ensures)
+loop-again c = one-passed _ (c .before .before .before .loop .inv) (c .before .before .loop-test .taken) (c .before .before .before .before .before .before .pre .1) (c .eventually-at .ensures)
 
 returns : tie.Need-returns Inv-loop μ-loop
-returns c = all-passed (c .before .loop .inv) (omega arith)
+returns c = all-passed (c .before .loop .inv) (c .loop-test .left)
 
 pub eventually-row-spec : {M : Type 1} → statement M
 eventually-row-spec =

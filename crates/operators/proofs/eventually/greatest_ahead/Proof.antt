@@ -1,6 +1,7 @@
 -- Each turn takes one sample more into the greatest; until with a left operand that is always true comes to that.
 use mathlib.Core.Path.{_≡_, sym, ap, ap₂, _∙_}
 use Prim.Native.Nat.{_+_, _-_, _≤_}
+use native.Mathlib.Nat.{le-refl}
 use native.Mathlib.Omega.{arith}
 use lib.Dec.{leb}
 use lib.ListN.{length}
@@ -10,13 +11,13 @@ use Rattle.logic.specs.Lattice.{greatestOver}
 use Rattle.values.specs.Chain.{chainLattice}
 use Rattle.operators.specs.Reach.{operandIn}
 use Rattle.operators.proofs.Bounds.{operand-bound, reached-inside, reached-end}
-use Rattle.operators.proofs.Folds.{greatest-none, greatest-more, eventually-all}
+use Rattle.operators.proofs.Folds.{Counted, none-counted, one-counted, all-counted, greatest-none, greatest-more, eventually-all}
 use Rattle.operators.proofs.eventually.greatest_ahead.Statement.{statement}
 use Rattle.operators.proofs.eventually.greatest_ahead.Tie as tie
 
 abbrev Inv-loop : tie.InvT-loop
 Inv-loop words operand t l best₀ u₀ u-end best u =
-    (u₀ ≤ u) × (u ≤ u-end) × (best ≡ greatestOver chainLattice (leb u₀) (λ v. operandIn (wordsOf words) operand v l) u)
+    Counted u₀ u-end u × (best ≡ greatestOver chainLattice (leb u₀) (λ v. operandIn (wordsOf words) operand v l) u)
 
 abbrev μ-loop : tie.MeasureT-loop
 μ-loop words operand t l best₀ u₀ u-end best u = u-end - u
@@ -40,7 +41,7 @@ add-u-end-2 c = omega (arith, end-fits (c .before .before .before .before))
 loop-holds : tie.Need-loop-holds Inv-loop μ-loop
 loop-holds c =
     let a = c .before .before .before .before .args in
-    (search needs, search needs, c .before .before .bottom .ensures ∙ sym (greatest-none _ _ (a .t + a .bounds .lower) (omega arith)))
+    (none-counted (omega arith), c .before .before .bottom .ensures ∙ sym (greatest-none _ _ (a .t + a .bounds .lower) (le-refl _)))
 
 operand-at-requires : tie.Need-operand-at-requires Inv-loop μ-loop
 operand-at-requires c κs = reached-inside (entry (c .before) .pre) (c .loop-test .taken)
@@ -51,13 +52,12 @@ add-u-2 c = omega (arith, end-fits (entry (c .before .before .before)))
 loop-again : tie.Need-loop-again Inv-loop μ-loop
 loop-again c =
     let loop = c .before .before .before .loop in
-    (search needs, search needs, c .greater .ensures ∙ ap₂ (chainLattice .join) (loop .inv .2) (c .before .operand-at .ensures) ∙ sym (greatest-more _ _ (loop .u) (loop .inv .0)))
+    (one-counted (loop .inv .0) (c .before .before .loop-test .taken), c .greater .ensures ∙ ap₂ (chainLattice .join) (loop .inv .1) (c .before .operand-at .ensures) ∙ sym (greatest-more _ _ (loop .u) (loop .inv .0 .from)))
 
 returns : tie.Need-returns Inv-loop μ-loop
 returns c =
     let a = entry (c .before) .args in
-    let ended : c .before .loop .u ≡ a .t + a .bounds .upper + 1 = omega arith in
-    c .before .loop .inv .2 ∙ ap (greatestOver chainLattice _ _) ended
+    c .before .loop .inv .1 ∙ ap (greatestOver chainLattice _ _) (all-counted (c .before .loop .inv .0) (c .loop-test .left))
     ∙ sym (eventually-all _ (a .l) (λ u. operand-bound _ (a .operand) u (a .l)) (a .bounds .lower) (a .bounds .upper) (a .t))
 
 pub greatest-ahead-spec : {M : Type 1} → statement M

@@ -9,10 +9,10 @@ use Rattle.operators.proofs.until.until_row.Statement.{statement}
 use Rattle.operators.proofs.until.until_row.Tie as tie
 
 abbrev Inv-loop : tie.InvT-loop
-Inv-loop words left right places lower upper t row₀ first second bounds l₀ row l = Passed places (untilIn (wordsOf words) places left right lower upper t) row₀ row l
+Inv-loop words left right places lower upper t row₀ bounds l₀ row l = Passed places (untilIn (wordsOf words) places left right lower upper t) row₀ row l
 
 abbrev μ-loop : tie.MeasureT-loop
-μ-loop words left right places lower upper t row₀ first second bounds l₀ row l = places - l
+μ-loop words left right places lower upper t row₀ bounds l₀ row l = places - l
 
 loop-holds : tie.Need-loop-holds Inv-loop μ-loop
 loop-holds c = none-passed _ _ _
@@ -23,10 +23,10 @@ until-at-requires c κs =
     (record { window = p .0; place = c .loop-test .taken }, record { window = p .1; place = c .loop-test .taken })
 
 loop-again : tie.Need-loop-again Inv-loop μ-loop
-loop-again c = one-passed _ (c .before .before .loop .inv) (omega arith) (omega arith) (c .until-at .ensures)
+loop-again c = one-passed _ (c .before .before .loop .inv) (c .before .loop-test .taken) (c .before .before .before .before .before .pre .2) (c .until-at .ensures)
 
 returns : tie.Need-returns Inv-loop μ-loop
-returns c = all-passed (c .before .loop .inv) (omega arith)
+returns c = all-passed (c .before .loop .inv) (c .loop-test .left)
 
 pub until-row-spec : {M : Type 1} → statement M
 until-row-spec =
