@@ -15,13 +15,13 @@ use Rattle.roads.specs.Roads.{roadAt}
 use Rattle.sheet.specs.Recording.{network, recording}
 use Rattle.sheet.specs.Checking.{layoutOf}
 use Rattle.sheet.proofs.Accepted.{SizesWithin}
-use Rattle.sheet.proofs.Whole.{AcceptedSheet}
+use Rattle.sheet.proofs.Whole.{AcceptedSheet, accepted-sheet}
 use Rattle.lines.proofs.AcceptedLines.{good-length, table-good, good-constants}
 use Rattle.sheet.proofs.Samples.{recording-bits}
 use Rattle.sheet.proofs.RefusalNumbers.{Numbered, refuses, check-numbered}
 use Rattle.answers.specs.Meant.{meantAt}
 use Rattle.answers.specs.Answer.{wordsNeeded}
-use Rattle.answers.specs.Judged.{refusal, answered, judgedBy, judged}
+use Rattle.answers.specs.Judged.{Judged, refusal, answered, judgedBy, judged}
 use Rattle.lookup.specs.Lookup.{verdictNumber, wholeAnswer, saidAt, lookedUp}
 use Rattle.lookup.proofs.Exactly.{whole-looked}
 use Rattle.answers.proofs.AnswerWords.{InFields}
@@ -65,7 +65,7 @@ module _ (s : List ℕ) (distances : ℕ) (L : Layout) (sheet : AcceptedSheet s 
   pub table : GoodLines (L.sizes.signals) (L.sizes.samples) mostLines (L.lines)
   table = table-good s (L.sizes.signals) (L.sizes.samples) (layoutOf L .table) (L.lines, length s - 1) (sheet .table)
 
-  fields : InFields (L.sizes.places) (L.sizes.samples) (L.lines)
+  pub fields : InFields (L.sizes.places) (L.sizes.samples) (L.lines)
   fields = record {
     places = omega (arith, limits .places-most);
     count = omega (arith, table .bound);
@@ -105,3 +105,23 @@ module _ (s : List ℕ) (distances : ℕ) (L : Layout) (sheet : AcceptedSheet s 
   pub answered-rounds : (answer : ℕ) → answered s distances answer L .result .rounds ≤ L.sizes.places
   unfolding answered network
   answered-rounds answer = rounds-at-most-places (network s L) (recording s L) (L.lines) (limits .places-some)
+
+-- ---- a sheet that is judged with the number 0
+module _ (s : List ℕ) (distances answer : ℕ) (z : judged s distances answer .result .number ≡ 0) where
+  abbrev found : Answered s distances answer
+  found = accepted-answered s distances answer z
+
+  pub sheet-found : AcceptedSheet s distances (found .layout)
+  sheet-found = accepted-sheet s distances (found .layout) (found .found)
+
+  -- what the check has found
+  abbrev pub layoutFound : Layout
+  layoutFound = found .layout
+
+  pub judged-rounds : judged s distances answer .result .rounds ≤ layoutFound .sizes .places
+  judged-rounds = subst (λ (j : Judged). j .result .rounds ≤ layoutFound .sizes .places) (sym (found .left))
+      (answered-rounds s distances layoutFound sheet-found answer)
+
+  pub judged-lookup : (i t l : ℕ)
+      → lookedUp (judged s distances answer .answer) i t l ≡ verdictNumber (meantAt (network s layoutFound) (recording s layoutFound) (layoutFound .lines) i t l)
+  judged-lookup i t l = ap (λ (j : Judged). lookedUp (j .answer) i t l) (found .left) ∙ answered-lookup s distances layoutFound sheet-found answer i t l

@@ -120,25 +120,27 @@ starred-examples = record {
   K = refl;
 }
 
--- and so of whatever leaves what is judged
+-- and so of whatever leaves what is judged, for sheets that are accepted
 pub examples-of : (holds : List ℕ → ℕ → ℕ → (Judged → Type 0) → Type 0)
-    → ((s : List ℕ) (distances answer : ℕ) (P : Judged → Type 0) → P (judged s distances answer) → holds s distances answer P) → StarredExamples holds
+    → ((s : List ℕ) (distances answer : ℕ) (P : Judged → Type 0) → judged s distances answer .result .number ≡ 0 → P (judged s distances answer) → holds s distances answer P)
+    → StarredExamples holds
+unfolding answerOf
 examples-of holds leaves = record {
-  A = leaves _ _ _ _ (starred-examples .A);
-  B = leaves _ _ _ _ (starred-examples .B);
-  C = leaves _ _ _ _ (starred-examples .C);
-  D = leaves _ _ _ _ (starred-examples .D);
-  E = leaves _ _ _ _ (starred-examples .E);
-  F = leaves _ _ _ _ (starred-examples .F);
-  G = leaves _ _ _ _ (starred-examples .G);
-  G-not = leaves _ _ _ _ (starred-examples .G-not);
-  H = leaves _ _ _ _ (starred-examples .H);
-  H-rounds = leaves _ _ _ _ (starred-examples .H-rounds);
+  A = leaves _ _ _ _ refl (starred-examples .A);
+  B = leaves _ _ _ _ refl (starred-examples .B);
+  C = leaves _ _ _ _ refl (starred-examples .C);
+  D = leaves _ _ _ _ refl (starred-examples .D);
+  E = leaves _ _ _ _ refl (starred-examples .E);
+  F = leaves _ _ _ _ refl (starred-examples .F);
+  G = leaves _ _ _ _ refl (starred-examples .G);
+  G-not = leaves _ _ _ _ refl (starred-examples .G-not);
+  H = leaves _ _ _ _ refl (starred-examples .H);
+  H-rounds = leaves _ _ _ _ refl (starred-examples .H-rounds);
   H-layout = starred-examples .H-layout;
   H-centre = starred-examples .H-centre;
-  I = leaves _ _ _ _ (starred-examples .I);
-  J = leaves _ _ _ _ (starred-examples .J);
-  K = leaves _ _ _ _ (starred-examples .K);
+  I = leaves _ _ _ _ refl (starred-examples .I);
+  J = leaves _ _ _ _ refl (starred-examples .J);
+  K = leaves _ _ _ _ refl (starred-examples .K);
 }
 
 -- ---- the other settled examples

@@ -5,3 +5,5 @@ pub mod AnswerSays
 pub mod WholeAnswer
 pub mod Accepted
 pub mod Steadiness
+pub mod Points
+pub mod Fitting

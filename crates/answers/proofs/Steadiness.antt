@@ -1,6 +1,6 @@
 -- Demand 3 whole, about the words of two answers: X and Y are sheets alike in every word but their samples, these at most d apart, each
 -- accepted, whatever was lent to either. At every line, sample and place both answers have a verdict or neither has; the margins are at most
--- d apart or the same infinity; and the verdict is the same where the margin is beyond d.
+-- d apart or the same infinity; and where X's margin is beyond d, both verdicts are yes if it is positive and both are no if it is negative.
 use mathlib.Core.Path.{_≡_, sym, ap, subst, subst₂, _∙_}
 use mathlib.Core.Bool.{Bool, true, false, cond}
 use mathlib.Core.List.{List}

@@ -55,15 +55,16 @@ index-bound n horizon lines sizes (suc i) h =
     let size : lineIn lines i .length * n ≤ mostSamples * mostPlaces = mul-le-mul {n₂ = mostSamples} (omega (arith, sizes .lengths i h, sizes .samples)) (sizes .places .1) in
     omega (arith, index-bound n horizon lines sizes i (le-of-lt h))
 
+-- and the end's fits a payload
+pub end-bound : (n horizon : ℕ) (lines : List Line) → InAnswer n horizon lines → lineIndex n lines (length lines) < 2 ^ 28
+end-bound n horizon lines sizes = omega (arith, index-bound n horizon lines sizes (length lines) (omega arith), sizes .count)
+
 module _ (N : Network) (horizon : ℕ) (x : Recording) (lines : List Line) (room : ℕ) (fits : InFields (N.places) horizon lines)
     (samples : (s t l : ℕ) → InBits 27 (x s t l)) (constants : ConstantsIn (InBits 27) lines) (sizes : InAnswer (N.places) horizon lines) where
   abbrev a : List ℕ
   a = answer N horizon x lines room fits
 
-  -- every index of a line, and the end, stands in the answer and fits a payload
-  end-bound : lineIndex (N.places) lines (length lines) < 2 ^ 28
-  end-bound = omega (arith, index-bound (N.places) horizon lines sizes (length lines) (omega arith), sizes .count)
-
+  -- every index of a line stands in the answer
   index-below : (i : ℕ) → i < length lines → lineIndex (N.places) lines i < lineIndex (N.places) lines (length lines)
   unfolding lineIndex
   index-below i h = omega (arith, sum-below (λ k. 1 + lineIn lines k .length * N.places) i (length lines) h)
@@ -107,9 +108,10 @@ module _ (N : Network) (horizon : ℕ) (x : Recording) (lines : List Line) (room
       let at : lineStart a (headLines a) ≡ lineIndex (N.places) lines (length lines)
       = ap (lineStart a) (lines-read N horizon x lines room fits) ∙ start-read N horizon x lines room fits (length lines) (omega arith) in
       let word = end-word N horizon x lines room fits in
-      let payload : payloadOf (wordAt a (lineIndex (N.places) lines (length lines))) ≡ lineIndex (N.places) lines (length lines) = ap payloadOf word ∙ omega (arith, end-bound) in
+      let last = end-bound (N.places) horizon lines sizes in
+      let payload : payloadOf (wordAt a (lineIndex (N.places) lines (length lines))) ≡ lineIndex (N.places) lines (length lines) = ap payloadOf word ∙ omega (arith, last) in
       rw at (and-i (isKind 15 a (lineIndex (N.places) lines (length lines))) _
-      (kind-there a 15 (lineIndex (N.places) lines (length lines)) (lineIndex (N.places) lines (length lines)) (end-inside N horizon x lines room fits) word end-bound)
+      (kind-there a 15 (lineIndex (N.places) lines (length lines)) (lineIndex (N.places) lines (length lines)) (end-inside N horizon x lines room fits) word last)
       (and-i (eqb (payloadOf (wordAt a (lineIndex (N.places) lines (length lines)))) (lineIndex (N.places) lines (length lines))) _ (equal _ _ payload)
       (all-i (ltb (lineIndex (N.places) lines (length lines))) (λ j. eqb (wordAt a j) 0) (length a)
       (λ j _ b. equal (wordAt a j) 0 (zeros-after N horizon x lines room fits j (ltb→lt (lineIndex (N.places) lines (length lines)) j b))))))

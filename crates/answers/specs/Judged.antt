@@ -2,7 +2,7 @@
 -- leaves, the result's five numbers, every word of the answer and every distance. The contract of the engine is equations to `judged`.
 use Prim.Native.Nat.{ℕ}
 use mathlib.Core.Bool.{cond}
-use mathlib.Core.List.{List}
+use mathlib.Core.List.{List, [], _∷_}
 use lib.Dec.{leb}
 use lib.ListN.{length, replicate}
 use Rattle.words.specs.Rows.{padded}
@@ -21,6 +21,10 @@ pub record Result : Type 0 where
   pub words : ℕ
   pub rounds : ℕ
   pub yes : ℕ
+
+-- in this order
+abbrev pub resultNumbers : Result → List ℕ
+resultNumbers r = r .number ∷ r .place ∷ r .words ∷ r .rounds ∷ r .yes ∷ []
 
 pub record Judged : Type 0 where
   pub result : Result

@@ -1,5 +1,5 @@
 -- Demand 3, as a relation between what two answers say at one line, sample and place: both have a verdict there or neither has; the margins
--- are at most d apart or the same infinity; the verdicts are the same where the margin is beyond d.
+-- are at most d apart or the same infinity; where the first is beyond d, both verdicts are yes if it is positive and both are no if it is negative.
 use Prim.Native.Nat.{ℕ}
 use Rattle.logic.specs.Steadiness.{SteadyVerdicts}
 use Rattle.values.specs.Said.{Said, says, nothing}

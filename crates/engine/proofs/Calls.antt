@@ -11,12 +11,11 @@ use Rattle.words.specs.Bytes.{wordsOf, numbersOf}
 use Rattle.sheet.specs.Layout.{Layout}
 use Rattle.sheet.specs.Recording.{network, recording}
 use Rattle.sheet.specs.Apart.{SamplesApart}
-use Rattle.sheet.proofs.Whole.{accepted-sheet}
 use Rattle.lookup.specs.Lookup.{verdictNumber, saidAt, lookedUp}
 use Rattle.answers.specs.Meant.{meantAt}
 use Rattle.answers.specs.Judged.{Judged, judged}
 use Rattle.answers.specs.Steady.{Steady}
-use Rattle.answers.proofs.Accepted.{accepted-answered, answered-lookup, answered-rounds}
+use Rattle.answers.proofs.Accepted.{layoutFound, judged-rounds, judged-lookup}
 use Rattle.answers.proofs.Examples.{StarredExamples, examples-of}
 use Rattle.answers.proofs.Steadiness.{steadiness}
 use Rattle.engine.specs.declared.Result.{Result}
@@ -66,25 +65,21 @@ pub record Given (c : Call) (s : List ℕ) (distances answer : ℕ) : Type 0 whe
   pub answer-lent : answerLent c ≡ answer
 
 pub starred-calls : StarredExamples (λ s distances answer P. (c : Call) → Given c s distances answer → P (leftBy c))
-starred-calls = examples-of _ (λ s distances answer P p c given.
+starred-calls = examples-of _ (λ s distances answer P z p c given.
     subst P (sym (left-judged c ∙ (λ i. judged (given .sheet i) (given .distances-lent i) (given .answer-lent i)))) p)
 
 -- ---- calls that accept
-accepts : (c : Call) → c .result .number ≡ 0 → judgedOf c .result .number ≡ 0
+pub accepts : (c : Call) → c .result .number ≡ 0 → judgedOf c .result .number ≡ 0
 accepts c z = sym (ap (λ (j : Judged). j .result .number) (left-judged c)) ∙ z
 
 -- what the check has found
-pub layoutOf : (c : Call) → c .result .number ≡ 0 → Layout
-layoutOf c z = accepted-answered (sheetOf c) (distancesLent c) (answerLent c) (accepts c z) .layout
+abbrev pub layoutOf : (c : Call) → c .result .number ≡ 0 → Layout
+layoutOf c z = layoutFound (sheetOf c) (distancesLent c) (answerLent c) (accepts c z)
 
 -- the rounds that are told are at most the places of the sheet
 pub call-rounds : (c : Call) (z : c .result .number ≡ 0) → c .result .rounds ≤ layoutOf c z .sizes .places
-unfolding layoutOf
-call-rounds c z =
-    let found = accepted-answered (sheetOf c) (distancesLent c) (answerLent c) (accepts c z) in
-    let sheet = accepted-sheet (sheetOf c) (distancesLent c) (found .layout) (found .found) in
-    subst (λ (r : ℕ). r ≤ found .layout .sizes .places) (sym (ap (λ (j : Judged). j .result .rounds) (left-judged c ∙ found .left)))
-    (answered-rounds (sheetOf c) (distancesLent c) (found .layout) sheet (answerLent c))
+call-rounds c z = subst (λ (j : Judged). j .result .rounds ≤ layoutOf c z .sizes .places) (sym (left-judged c))
+    (judged-rounds (sheetOf c) (distancesLent c) (answerLent c) (accepts c z))
 
 -- a lookup in the bytes that an accepting call left: the verdict that is meant where there is one, 0 elsewhere
 pub call-lookup : (c : Call) (z : c .result .number ≡ 0) (κ : Lifetimes.Lfts 1) (asked : Dens κ asks.ps) (r : ℕ) (left : AtExit (endedOf 1 asks.ps asks.r) κ)
@@ -94,16 +89,14 @@ pub call-lookup : (c : Call) (z : c .result .number ≡ 0) (κ : Lifetimes.Lfts 
     let t : ℕ = asked .1 .1 .0 in
     let l : ℕ = asked .1 .1 .1 .0 in
     r ≡ verdictNumber (meantAt (network (sheetOf c) L) (recording (sheetOf c) L) (L .lines) i t l)
-unfolding layoutOf
 call-lookup c z κ asked r left learnt same =
-    let found = accepted-answered (sheetOf c) (distancesLent c) (answerLent c) (accepts c z) in
-    let sheet = accepted-sheet (sheetOf c) (distancesLent c) (found .layout) (found .found) in
     learnt
     ∙ ap (λ bytes. lookedUp (wordsOf bytes) (asked .1 .0) (asked .1 .1 .0) (asked .1 .1 .1 .0)) same
-    ∙ ap (λ (j : Judged). lookedUp (j .answer) (asked .1 .0) (asked .1 .1 .0) (asked .1 .1 .1 .0)) (left-judged c ∙ found .left)
-    ∙ answered-lookup (sheetOf c) (distancesLent c) (found .layout) sheet (answerLent c) (asked .1 .0) (asked .1 .1 .0) (asked .1 .1 .1 .0)
+    ∙ ap (λ (j : Judged). lookedUp (j .answer) (asked .1 .0) (asked .1 .1 .0) (asked .1 .1 .1 .0)) (left-judged c)
+    ∙ judged-lookup (sheetOf c) (distancesLent c) (answerLent c) (accepts c z) (asked .1 .0) (asked .1 .1 .0) (asked .1 .1 .1 .0)
 
--- ---- demand 3, about two calls: sheets alike in every word but their samples, these at most d apart
+-- ---- demand 3, about two calls: sheets alike in every word but their samples, these at most d apart. At every line, sample and place the margins are
+-- at most d apart or the same infinity, and where that of x is beyond d, both verdicts are yes if it is positive and both are no if it is negative
 pub calls-steady : (d : ℕ) (x y : Call) → SamplesApart d (sheetOf x) (sheetOf y) → x .result .number ≡ 0 → y .result .number ≡ 0
     → (i t l : ℕ) → Steady d (saidAt (leftBy x .answer) i t l) (saidAt (leftBy y .answer) i t l)
 calls-steady d x y apart zx zy i t l =

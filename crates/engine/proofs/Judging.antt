@@ -14,7 +14,7 @@ use Rattle.checks.proofs.Checks.{mapped-accepted, mapped-refused}
 use Rattle.answers.specs.Answer.{wordsNeeded}
 use Rattle.answers.specs.Judged.{refusal, answered, judgedBy, judged}
 use Rattle.answers.proofs.Accepted.{judged-by-room}
-use Rattle.engine.specs.Lines.{foundBy, found, Accepting}
+use Rattle.evaluation.specs.Lines.{foundBy, found, Accepting}
 
 accepting-here : (s distances : List ℕ) (layout : Code.Layout) → mapped layoutOf (checked s (length distances)) ≡ accepted layout
     → distances ≡ surveyed s (length distances) → Accepting s layout distances

@@ -1,10 +1,3 @@
-pub mod AcceptedTable
-pub mod SpaceTable
-pub mod LineReads
-pub mod LineWords
-pub mod EarlierLines
-pub mod LineMeant
-pub mod LinesDone
 pub mod Sizes
 pub mod WholeWriting
 pub mod Judging

@@ -15,7 +15,7 @@ use Rattle.answers.specs.Answer.{lineIndex, lineWords}
 use Rattle.answers.proofs.AnswerWords.{lines-size}
 use Rattle.answers.proofs.WholeAnswer.{InAnswer, index-bound}
 use Rattle.answers.proofs.Accepted.{sizes}
-use Rattle.engine.specs.Lines.{found, Accepting}
+use Rattle.evaluation.specs.Lines.{found, Accepting}
 
 -- behind the head, the words of the first k lines end where line k begins
 pub lines-end : (N : Network) (T : ℕ) (x : Recording) (lines : List Line) (k : ℕ) → 1 + length (concat (lineWords N T x lines) k) ≡ lineIndex (N.places) lines k

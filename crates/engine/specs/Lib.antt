@@ -1,5 +1,3 @@
-pub mod Way
-pub mod Line
-pub mod Lines
+pub mod Answer
 pub mod Lent
 pub mod Result

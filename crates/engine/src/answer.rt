@@ -1,15 +1,15 @@
 // The whole answer to an accepted sheet: head, lines, end, and zeros behind it.
-use crate::walk::Written;
-use crate::walk::write_lines;
+use evaluation::walk::Written;
+use evaluation::walk::write_lines;
 use sheet::check::Layout;
 ghost use mathlib.Core.Path.{_≡_};
 ghost use Prim.Native.Nat.{_+_, _*_, _^_, _≤_};
 ghost use lib.ListN.{length, replicate};
-ghost use Rattle.words.specs.Bytes.{wordsOf, numbersOf, afterWords};
+ghost use Rattle.words.specs.Bytes.{wordsOf, afterWords};
 ghost use Rattle.words.specs.Word.{wordOf};
 ghost use Rattle.checks.specs.Limits.{mostPlaces, mostLines, mostSamples};
-ghost use Rattle.engine.specs.Lines.{Accepting, AnswerWritten};
-ghost use Rattle.engine.specs.Lent.{foundIn, neededIn};
+ghost use Rattle.evaluation.specs.Lent.{AcceptingIn, neededIn};
+ghost use Rattle.engine.specs.Lent.{AnswerWrittenIn};
 
 // The kinds 13 and 15, in bits 31..28.
 const HEAD: u32 = 3489660928;
@@ -30,8 +30,8 @@ pub(crate) fn write_answer(
     distances: &[u8],
     answer: &mut [u8],
 ) -> Written
-    requires { ⌜ Accepting (wordsOf (now sheet)) layout (numbersOf (wordsOf (now distances))) × (neededIn (now sheet) (now distances) ≤ length (wordsOf (now answer))) ⌝ }
-    ensures written { λ r. ⌜ AnswerWritten (wordsOf (now (sheet .entry))) (foundIn (now (sheet .entry)) (now (distances .entry))) (wordsOf (now (answer .entry))) (wordsOf (now (answer .exit))) (r .end) (r .tally) ⌝ }
+    requires { ⌜ AcceptingIn (now sheet) (now distances) layout × (neededIn (now sheet) (now distances) ≤ length (wordsOf (now answer))) ⌝ }
+    ensures written { λ r. ⌜ AnswerWrittenIn (now (sheet .entry)) (now (distances .entry)) (now (answer .entry)) (now (answer .exit)) (r .end) (r .tally) ⌝ }
     ensures tail { λ _. ⌜ afterWords (now (answer .exit)) ≡ replicate (length (afterWords (now (answer .entry)))) 0 ⌝ }
 {
     words::put_word(answer, 0, head_word(layout));

@@ -1,20 +1,18 @@
 // The engine: from a sheet to its whole answer, or to a refusal that leaves zeros.
 use answer::write_answer;
+use evaluation::walk::words_needed;
 use sheet::check::Check;
 use sheet::check::Layout;
 use sheet::survey::survey;
-use walk::words_needed;
 ghost use mathlib.Core.Path.{_≡_};
 ghost use Prim.Native.Nat.{_≤_};
 ghost use lib.ListN.{length, replicate};
 ghost use Rattle.words.specs.Bytes.{wordsOf, numbersOf, afterWords, afterNumbers};
-ghost use Rattle.engine.specs.Lines.{Accepting};
-ghost use Rattle.engine.specs.Lent.{neededIn, answeredIn, judgedIn};
+ghost use Rattle.evaluation.specs.Lent.{AcceptingIn, neededIn};
+ghost use Rattle.engine.specs.Lent.{answeredIn, judgedIn};
 ghost use Rattle.engine.specs.Result.{resultSaid};
 
 mod answer;
-mod line;
-mod walk;
 
 // What a host is told: the refusal's number, 0 for none, and its place; the words of the answer; the greatest rounds of a surround; how many
 // verdicts are yes.
@@ -41,7 +39,7 @@ pub fn refusal(number: u64, place: usize) -> Result
 
 // Answers an accepted sheet, where the answer has room.
 fn answer_sheet(sheet: &[u8], layout: Layout, distances: &[u8], answer: &mut [u8]) -> Result
-    requires { ⌜ Accepting (wordsOf (now sheet)) layout (numbersOf (wordsOf (now distances))) × (neededIn (now sheet) (now distances) ≤ length (wordsOf (now answer))) ⌝ }
+    requires { ⌜ AcceptingIn (now sheet) (now distances) layout × (neededIn (now sheet) (now distances) ≤ length (wordsOf (now answer))) ⌝ }
     ensures told { λ r. ⌜ resultSaid r ≡ answeredIn (now (sheet .entry)) (now (distances .entry)) (now (answer .entry)) .result ⌝ }
     ensures said { λ _. ⌜ wordsOf (now (answer .exit)) ≡ answeredIn (now (sheet .entry)) (now (distances .entry)) (now (answer .entry)) .answer ⌝ }
     ensures tail { λ _. ⌜ afterWords (now (answer .exit)) ≡ replicate (length (afterWords (now (answer .entry)))) 0 ⌝ }

@@ -1,2 +1,4 @@
 pub mod Lent
 pub mod Exactly
+pub mod Calls
+pub mod Examples

@@ -2,11 +2,11 @@
 -- program are given, in bytes, lowest first.
 use Prim.Native.Nat.{ℕ, _%_}
 use mathlib.Core.Bool.{Bool, cond, _&&_}
-use mathlib.Core.List.{List, [], _∷_}
+use mathlib.Core.List.{List}
 use lib.Dec.{leb, eqb}
 use lib.ListN.{length, replicate}
 use Rattle.words.specs.Bytes.{wordsOf, bytesOf, halvesOf}
-use Rattle.answers.specs.Judged.{Result, Judged, refusal, judged}
+use Rattle.answers.specs.Judged.{Result, resultNumbers, Judged, refusal, judged}
 use Rattle.lookup.specs.Lookup.{lookedUp}
 use Rattle.engine.specs.Lent.{judgedIn}
 
@@ -24,7 +24,7 @@ abbrev pub resultSize : ℕ
 resultSize = 40
 
 abbrev pub resultBytes : Result → List ℕ
-resultBytes r = bytesOf (halvesOf (r .number ∷ r .place ∷ r .words ∷ r .rounds ∷ r .yes ∷ []))
+resultBytes r = bytesOf (halvesOf (resultNumbers r))
 
 -- of the lengths: whole words in the sheet and in the answer, whole distances, and a result
 unfoldable pub lentWhole : ℕ → ℕ → ℕ → ℕ → Bool

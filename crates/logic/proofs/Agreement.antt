@@ -1,20 +1,21 @@
--- Remark 3.5: a margin and its verdict agree, a yes has a margin of 0 or more and a no of 0 or less. With nearness: a verdict whose margin
--- is beyond d is the same on samples at most d away.
+-- Remark 3.5: a margin and its verdict agree, a yes has a margin of 0 or more and a no of 0 or less. With nearness: where a margin is beyond d,
+-- its verdict and that of a margin at most d away are both yes above 0 and both no below.
 use mathlib.Core.Path.{_≡_, refl}
 use mathlib.Core.Logic.{⊎-elim}
 use mathlib.Core.Bool.{Bool, true, false, not, _&&_, _||_}
 use mathlib.Core.List.{List}
-use Prim.Native.Nat.{ℕ, zero, suc, _<_}
+use Prim.Native.Nat.{ℕ, _<_}
 use native.Mathlib.Omega.{arith}
 use lib.Dec.{T, leb→le}
 use lib.IntN.{ℤ, pos, negsuc, _-ℤ_}
 use lib.Signed.{leZ}
+use borrow.Author.Tests.{not-true}
 use Rattle.logic.specs.Lattice.{verdictLattice}
 use Rattle.logic.specs.Margin.{Margin, minusInfinity, finite, plusInfinity, atMost, negate, marginLattice}
 use Rattle.network.specs.Network.{Network}
 use Rattle.formulas.specs.Formulas.{Line, Recording}
 use Rattle.logic.specs.Table.{verdicts, margins, valueAt}
-use Rattle.logic.specs.Steadiness.{Near, Beyond, Agree}
+use Rattle.logic.specs.Steadiness.{Near, Above, SteadyVerdicts, Agree}
 use Rattle.logic.proofs.Keeps.{Keeps}
 use Rattle.logic.proofs.Order.{Up, le→up, up→le, up-negate, atMost-trans, atMost-total, near}
 use Rattle.logic.proofs.TotalOrder.{meet-by, join-by}
@@ -59,28 +60,37 @@ pub agreement : (N : Network) (x : Recording) (lines : List Line) (i t l : ℕ) 
 agreement N x lines = valueAt-kept margins verdicts N Agree agree-kept agree-negate (λ _. Unit {0}) x x
     (λ s t l c _. agree-atom (x s t l -ℤ c)) (λ s t l c _. agree-atom (c -ℤ x s t l)) lines (any-constants lines)
 
--- ---- verdicts are steady where the margin is beyond d
-clash : (d : ℕ) (m m′ : Margin) → Up d m m′ → Beyond d m → T (atMost zeroMargin m) → T (atMost m′ zeroMargin) → ⊥
-clash d minusInfinity m′ u h k k′ = k
-clash d (finite (negsuc a)) m′ u h k k′ = k
-clash d (finite (pos a)) minusInfinity u h k k′ = u
-clash d (finite (pos a)) (finite (pos b)) u h k k′ = omega (arith, leb→le)
-clash d (finite (pos a)) (finite (negsuc b)) u h k k′ = omega arith
-clash d (finite (pos a)) plusInfinity u h k k′ = k′
-clash d plusInfinity minusInfinity u h k k′ = u
-clash d plusInfinity (finite b) u h k k′ = u
-clash d plusInfinity plusInfinity u h k k′ = k′
+-- ---- both verdicts where the margin is beyond d
+-- a margin above 0 is a yes
+above-yes : (d : ℕ) (m : Margin) (b : Bool) → Above d m → Agree m b → b ≡ true
+above-yes d m true h k = refl
+above-yes d minusInfinity false h k = absurd h
+above-yes d (finite (pos a)) false h k = absurd (omega (arith, leb→le))
+above-yes d (finite (negsuc a)) false h k = absurd h
+above-yes d plusInfinity false h k = absurd k
 
-beyond-negate : (d : ℕ) (m : Margin) → Beyond d m → Beyond d (negate m)
-beyond-negate d minusInfinity h = tt
-beyond-negate d (finite (pos zero)) h = h
-beyond-negate d (finite (pos (suc a))) h = h
-beyond-negate d (finite (negsuc a)) h = h
-beyond-negate d plusInfinity h = tt
+-- what lies above d is still above 0 where it falls by d
+above-near : (d : ℕ) (m m′ : Margin) → Up d m m′ → Above d m → Above 0 m′
+above-near d minusInfinity m′ u h = absurd h
+above-near d (finite (negsuc a)) m′ u h = absurd h
+above-near d (finite (pos a)) minusInfinity u h = u
+above-near d (finite (pos a)) (finite (pos b)) u h = omega arith
+above-near d (finite (pos a)) (finite (negsuc b)) u h = omega arith
+above-near d (finite (pos a)) plusInfinity u h = tt
+above-near d plusInfinity minusInfinity u h = u
+above-near d plusInfinity (finite b) u h = absurd u
+above-near d plusInfinity plusInfinity u h = tt
 
-pub same-verdict : (d : ℕ) (m m′ : Margin) (b b′ : Bool) → Near d m m′ → Beyond d m → Agree m b → Agree m′ b′ → b ≡ b′
-same-verdict d m m′ true true n h k k′ = refl
-same-verdict d m m′ false false n h k k′ = refl
-same-verdict d m m′ true false n h k k′ = absurd (clash d m m′ (near d m m′ .0 n .0) h k k′)
-same-verdict d m m′ false true n h k k′ = absurd
-    (clash d (negate m) (negate m′) (up-negate d m′ m (near d m m′ .0 n .1)) (beyond-negate d m h) (agree-negate m false k) (agree-negate m′ true k′))
+up-both-yes : (d : ℕ) (m m′ : Margin) (b b′ : Bool) → Up d m m′ → Above d m → Agree m b → Agree m′ b′ → (b ≡ true) × (b′ ≡ true)
+up-both-yes d m m′ b b′ u h k k′ = (above-yes d m b h k, above-yes 0 m′ b′ (above-near d m m′ u h) k′)
+
+pub steady-verdicts : (d : ℕ) (m m′ : Margin) (b b′ : Bool) → Near d m m′ → Agree m b → Agree m′ b′ → SteadyVerdicts d b b′ m m′
+steady-verdicts d m m′ b b′ n k k′ =
+    let ups = near d m m′ .0 n in
+    record {
+      near = n;
+      both-yes = λ above. up-both-yes d m m′ b b′ (ups .0) above k k′;
+      both-no = λ below.
+          let yes = up-both-yes d (negate m) (negate m′) (not b) (not b′) (up-negate d m′ m (ups .1)) below (agree-negate m b k) (agree-negate m′ b′ k′) in
+          (not-true b (yes .0), not-true b′ (yes .1));
+    }

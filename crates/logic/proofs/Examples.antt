@@ -1,18 +1,21 @@
--- Example K of document 01 on the definitions of the logic alone, so that the bounds of a surround are pinned where they are defined; all examples
--- on whole sheets are in the crate verdicts.
+-- Examples on the definitions of the logic alone, so that they are pinned where they stand: K of document 01 for the bounds of a surround, H for its
+-- rounds, an until and an always for the samples that they look at. All examples on whole sheets are in the crate answers.
 use mathlib.Core.Path.{_≡_, refl}
 use mathlib.Core.Bool.{cond, _||_}
 use mathlib.Core.List.{List, [], _∷_}
-use Prim.Native.Nat.{_+_}
+use Prim.Native.Nat.{ℕ, zero, suc, _+_}
 use lib.Dec.{eqb}
 use lib.ListN.{getD}
-use lib.IntN.{ℤ, pos}
+use lib.IntN.{ℤ, pos, negsuc}
 use Rattle.logic.specs.Lattice.{leastOver, greatestOver}
 use Rattle.logic.specs.Margin.{finite}
+use Rattle.formulas.specs.Formulas.{Surrounded, Always}
 use Rattle.network.specs.Distance.{dist, none, direct, distance}
 use Rattle.network.specs.Network.{Network, joined, distanceIn, within}
+use Rattle.logic.specs.Iteration.{iterate, masked, first, atRest, rounds}
 use Rattle.logic.specs.Surround.{greatestRegion, boundary, allowed, regionValue, surround}
-use Rattle.logic.specs.Table.{Signal, margins, surroundAt}
+use Rattle.logic.specs.Table.{Signal, margins, untilAt, surroundAt, value}
+use Rattle.logic.specs.Counts.{roundsAt}
 
 -- places 0-1-2 with weights 1
 abbrev path : Network
@@ -24,3 +27,27 @@ signal xs t l = finite (getD xs l (pos 0))
 K : surroundAt margins path (signal (pos 4 ∷ pos 1 ∷ pos 1 ∷ [])) (signal (pos 9 ∷ pos 9 ∷ pos 9 ∷ [])) 2 2 0 0 ≡ finite (pos 1)
 unfolding surroundAt surround greatestRegion allowed regionValue boundary leastOver greatestOver within distanceIn distance direct joined
 K = refl
+
+-- a table of two lines
+abbrev lines : Signal margins → Signal margins → ℕ → Signal margins
+lines left right zero = left
+lines left right (suc i) = right
+
+H : roundsAt path (lines (signal (pos 4 ∷ pos 4 ∷ pos 4 ∷ [])) (signal (pos 9 ∷ negsuc 2 ∷ pos 9 ∷ []))) (Surrounded 0 1 1 1) 0 0 ≡ 3
+unfolding roundsAt rounds first atRest iterate masked leastOver within distanceIn distance direct joined
+H = refl
+
+-- samples one after the other, alike at every place
+abbrev overTime : List ℤ → Signal margins
+overTime xs t l = finite (getD xs t (pos 0))
+
+-- Until at 1..1, the present sample and the next: right is 7 at the next, but left is -2 there. With left up to the sample before t' alone it would be 4,
+-- and with the present sample in the window 1.
+until-next : untilAt margins (overTime (pos 4 ∷ negsuc 1 ∷ [])) (overTime (pos 1 ∷ pos 7 ∷ [])) 1 1 0 0 ≡ finite (negsuc 1)
+unfolding untilAt leastOver greatestOver
+until-next = refl
+
+-- Always at 0..1 is the least of the window: 1, where without the inner not it would be -7.
+always-least : value margins path (λ _ _ _. pos 0) (λ _. overTime (pos 1 ∷ pos 7 ∷ [])) (Always 0 0 1) 0 0 ≡ finite (pos 1)
+unfolding value untilAt leastOver greatestOver
+always-least = refl

@@ -1,5 +1,5 @@
 -- Steadiness at the level of values (Remark 3.6): over every table of lines, codes 0 to 11, recordings at most d apart give margins at most d
--- apart or the same infinity, and the same verdicts where the margin is beyond d.
+-- apart or the same infinity, and where the margin is beyond d both verdicts are yes if it is positive and both are no if it is negative.
 use mathlib.Core.Path.{_≡_}
 use mathlib.Core.List.{List}
 use Prim.Native.Nat.{ℕ, _≤_, _<_}
@@ -12,7 +12,7 @@ use Rattle.logic.specs.Steadiness.{Near, SteadyVerdicts}
 use Rattle.logic.proofs.Margins.{near-kept, near-negate}
 use Rattle.formulas.proofs.Constants.{any-constants}
 use Rattle.logic.proofs.TableKeeps.{valueAt-kept}
-use Rattle.logic.proofs.Agreement.{agreement, same-verdict}
+use Rattle.logic.proofs.Agreement.{agreement, steady-verdicts}
 
 -- the two atoms: a constant taken away from both, or both from it, leaves them as far apart
 difference-turned : (x c : ℤ) → c -ℤ x ≡ negℤ (x -ℤ c)
@@ -36,8 +36,4 @@ steady d N x y h lines = valueAt-kept margins margins N (Near d) (near-kept d) (
 pub values-steady : (d : ℕ) (N : Network) (x y : Recording) → ((s t l : ℕ) → natAbs (x s t l -ℤ y s t l) ≤ d) → (lines : List Line) (i t l : ℕ) → l < N.places
     → SteadyVerdicts d (valueAt verdicts N x lines i t l) (valueAt verdicts N y lines i t l) (valueAt margins N x lines i t l) (valueAt margins N y lines i t l)
 values-steady d N x y h lines i t l b =
-    let n = steady d N x y h lines i t l b in
-    record {
-      near = n;
-      same = λ beyond. same-verdict d _ _ _ _ n beyond (agreement N x lines i t l b) (agreement N y lines i t l b);
-    }
+    steady-verdicts d _ _ _ _ (steady d N x y h lines i t l b) (agreement N x lines i t l b) (agreement N y lines i t l b)

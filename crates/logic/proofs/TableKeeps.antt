@@ -1,8 +1,7 @@
 -- One induction over the lines of a table, for every relation that the operations keep. Steadiness and the agreement of margin and verdict
 -- are its instances.
 use mathlib.Core.List.{List, [], _∷_}
-use Prim.Native.Nat.{ℕ, suc, _+_, _<_}
-use lib.Dec.{leb}
+use Prim.Native.Nat.{ℕ, _<_}
 use lib.IntN.{ℤ, _-ℤ_}
 use Rattle.network.specs.Network.{Network, joined, within}
 use Rattle.formulas.specs.Formulas.{Operator, True, AtLeast, AtMost, Not, And, Until, Somewhere, Surrounded, Or, Eventually, Always, Everywhere, Line, Recording, ConstantIn, ConstantsIn}
@@ -18,8 +17,8 @@ module _ (R M : Reading) (N : Network) (Rel : R.lattice.Value → M.lattice.Valu
 
   until-kept : (p q : Signal R) (p′ q′ : Signal M) → Alike p p′ → Alike q q′ → (lower upper : ℕ) → Alike (untilAt R p q lower upper) (untilAt M p′ q′ lower upper)
   unfolding untilAt
-  until-kept p q p′ q′ hp hq lower upper t l b = greatest-kept R.lattice M.lattice Rel K (leb (t + lower)) _ _ (suc (t + upper))
-      (λ u _. K.keeps-meet _ _ _ _ (hq u l b) (least-kept R.lattice M.lattice Rel K (leb t) _ _ (suc u) (λ v _. hp v l b)))
+  until-kept p q p′ q′ hp hq lower upper t l b = greatest-kept R.lattice M.lattice Rel K _ _ _ _
+      (λ u _. K.keeps-meet _ _ _ _ (hq u l b) (least-kept R.lattice M.lattice Rel K _ _ _ _ (λ v _. hp v l b)))
 
   somewhere-kept : (p : Signal R) (p′ : Signal M) → Alike p p′ → (lower upper : ℕ) → Alike (somewhereAt R N p lower upper) (somewhereAt M N p′ lower upper)
   unfolding somewhereAt

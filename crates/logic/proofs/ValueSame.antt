@@ -1,8 +1,7 @@
 -- The value of a line depends on its operands within their lengths alone: until looks no further than t + upper.
 use mathlib.Core.Path.{_≡_, refl, ap, ap₂}
-use Prim.Native.Nat.{ℕ, suc, _+_, _-_, _<_, min}
+use Prim.Native.Nat.{ℕ, _-_, _<_, min}
 use native.Mathlib.Omega.{arith}
-use lib.Dec.{leb}
 use Rattle.network.specs.Network.{Network, joined, within}
 use Rattle.formulas.specs.Formulas.{Operator, True, AtLeast, AtMost, Not, And, Until, Somewhere, Surrounded, Or, Eventually, Always, Everywhere, lengthOf, Recording}
 use Rattle.logic.specs.Table.{Reading, Signal, untilAt, somewhereAt, surroundAt, opposite, value}
@@ -19,9 +18,9 @@ module _ (R : Reading) (N : Network) where
   until-same : (p q p′ q′ : Signal R) (m : ℕ) → AlikeBelow m p p′ → AlikeBelow m q q′ → (lower upper : ℕ)
       → AlikeBelow (m - upper) (untilAt R p q lower upper) (untilAt R p′ q′ lower upper)
   unfolding untilAt
-  until-same p q p′ q′ m hp hq lower upper t l b c = greatest-kept R.lattice R.lattice Same (same-kept R.lattice) (leb (t + lower)) _ _ (suc (t + upper))
+  until-same p q p′ q′ m hp hq lower upper t l b c = greatest-kept R.lattice R.lattice Same (same-kept R.lattice) _ _ _ _
       (λ u e. ap₂ (R.lattice .meet) (hq u l (omega arith) c)
-      (least-kept R.lattice R.lattice Same (same-kept R.lattice) (leb t) _ _ (suc u) (λ v f. hp v l (omega arith) c)))
+      (least-kept R.lattice R.lattice Same (same-kept R.lattice) _ _ _ _ (λ v f. hp v l (omega arith) c)))
 
   somewhere-same : (p p′ : Signal R) (m : ℕ) → AlikeBelow m p p′ → (lower upper : ℕ) → AlikeBelow m (somewhereAt R N p lower upper) (somewhereAt R N p′ lower upper)
   unfolding somewhereAt

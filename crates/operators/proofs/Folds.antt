@@ -15,6 +15,20 @@ use Rattle.values.specs.Chain.{chains, chainLattice, highest}
 use Rattle.values.proofs.Naturals.{leb-trans, leb-total, join-max}
 use Rattle.operators.specs.Rows.{ahead}
 
+-- ---- a loop that counts from `first` up to and without `end`: where it is
+pub record Counted (first end u : ℕ) : Type 0 where
+  pub from : first ≤ u
+  pub to : u ≤ end
+
+pub none-counted : {first end : ℕ} → first ≤ end → Counted first end first
+none-counted h = record { from = le-refl _; to = h }
+
+pub one-counted : {first end u : ℕ} → Counted first end u → u < end → Counted first end (u + 1)
+one-counted counted h = record { from = omega (arith, counted .from); to = omega arith }
+
+pub all-counted : {first end u : ℕ} → Counted first end u → end ≤ u → u ≡ end
+all-counted counted h = le-antisymm (counted .to) h
+
 -- ---- a window that begins at `first`: nothing before it, and from there on every number counts
 module _ (f : ℕ → ℕ) (first : ℕ) where
   pub least-none : (n : ℕ) → n ≤ first → leastOver chainLattice (leb first) f n ≡ highest

@@ -1,3 +1,3 @@
+pub mod RowLaws
 pub mod Folds
 pub mod Bounds
-pub mod RowLaws

@@ -1,4 +1,4 @@
--- Rows are written place by place: one number more, with all others kept; and what a turned number is.
+-- Rows are written place by place, each number from a law f: none yet, one more, all of them; and what a turned number is.
 use mathlib.Core.Path.{_≡_, refl, subst, _∙_}
 use mathlib.Core.Bool.{Bool, true, false}
 use mathlib.Core.List.{List}
@@ -12,22 +12,36 @@ use Rattle.values.specs.Chain.{chains, highest}
 use Rattle.values.specs.Signals.{turned}
 use Rattle.operators.specs.Rows.{RowLeft, turnedTo}
 
-pub left-none : (f : ℕ → ℕ) (row : List ℕ) → RowLeft 0 f row row
-left-none f row = record { filled = record { at = λ l b. absurd (omega arith) }; kept = λ l b. refl; long = refl }
+-- the first l places of a row have been written: what each loop over the places keeps
+pub record Passed (places : ℕ) (f : ℕ → ℕ) (before row : List ℕ) (l : ℕ) : Type 0 where
+  pub some : l ≤ places
+  pub left : RowLeft l f before row
 
-pub left-more : {f : ℕ → ℕ} {before row : List ℕ} {i : ℕ} (v : ℕ) → RowLeft i f before row → i < length before → v ≡ f i → RowLeft (i + 1) f before (set row i v)
-left-more {f} {before} {row} {i} v left inside e = record {
-  filled = record {
-    at = below-more (λ l. getD (set row i v) l 0 ≡ f l) i
-        (λ l b. getD-set-other row i l v 0 (λ q. absurd (omega arith)) ∙ left .filled .at l b)
-        (getD-set-same row i v 0 (omega (arith, left .long)) ∙ e);
-  };
-  kept = λ l b. getD-set-other row i l v 0 (λ q. absurd (omega arith)) ∙ left .kept l (omega arith);
-  long = length-set row i v ∙ left .long;
+pub none-passed : (places : ℕ) (f : ℕ → ℕ) (row : List ℕ) → Passed places f row row 0
+none-passed places f row = record {
+  some = omega arith;
+  left = record { filled = record { at = λ l b. absurd (omega arith) }; kept = λ l b. refl; long = refl };
 }
 
-pub left-all : {f : ℕ → ℕ} {before row : List ℕ} {n m : ℕ} → RowLeft n f before row → n ≡ m → RowLeft m f before row
-left-all {f} {before} {row} left e = subst (λ k. RowLeft k f before row) e left
+pub one-passed : {places : ℕ} {f : ℕ → ℕ} {before row : List ℕ} {l : ℕ} (v : ℕ) → Passed places f before row l → l < places → places ≤ length before → v ≡ f l
+    → Passed places f before (set row l v) (l + 1)
+one-passed {places} {f} {before} {row} {l} v passed inside room e =
+    let left = passed .left in
+    record {
+      some = omega arith;
+      left = record {
+        filled = record {
+          at = below-more (λ k. getD (set row l v) k 0 ≡ f k) l
+              (λ k b. getD-set-other row l k v 0 (λ q. absurd (omega arith)) ∙ left .filled .at k b)
+              (getD-set-same row l v 0 (omega (arith, left .long)) ∙ e);
+        };
+        kept = λ k b. getD-set-other row l k v 0 (λ q. absurd (omega arith)) ∙ left .kept k (omega arith);
+        long = length-set row l v ∙ left .long;
+      };
+    }
+
+pub all-passed : {places : ℕ} {f : ℕ → ℕ} {before row : List ℕ} {l : ℕ} → Passed places f before row l → places ≤ l → RowLeft places f before row
+all-passed {places} {f} {before} {row} {l} passed ended = let e : l ≡ places = omega (arith, passed .some) in subst (λ k. RowLeft k f before row) e (passed .left)
 
 -- the same numbers by another name
 pub left-same : {f g : ℕ → ℕ} {before after : List ℕ} {n : ℕ} → RowLeft n f before after → ((l : ℕ) → l < n → f l ≡ g l) → RowLeft n g before after

@@ -1,2 +1,2 @@
-pub mod Reach
 pub mod Rows
+pub mod Reach

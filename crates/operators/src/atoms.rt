@@ -5,7 +5,7 @@ ghost use lib.ListN.{length, getD};
 ghost use Rattle.words.specs.Word.{sampleOf};
 ghost use Rattle.words.specs.Bytes.{wordsOf};
 ghost use Rattle.formulas.specs.Formulas.{InBits};
-ghost use Rattle.operators.specs.Rows.{RowLeft, atomValue};
+ghost use Rattle.operators.specs.Rows.{RowLeft, atomValue, sampleIn};
 
 // The value of sample i, given the part of a sheet that begins with its samples.
 fn atom_at(samples: &[u8], i: usize, constant: i32, atleast: bool) -> u32
@@ -32,7 +32,7 @@ pub fn atom_row(
     row: &mut [u32],
 )
     requires { ⌜ (signal < signals) × ((t + 1) * places * signals ≤ length (wordsOf (now samples))) × InBits 27 constant × (places ≤ length (now row)) ⌝ }
-    ensures { λ _. ⌜ RowLeft places (λ l. atomValue atleast (sampleOf (getD (wordsOf (now (samples .entry))) ((t * places + l) * signals + signal) 0)) constant) (now (row .entry)) (now (row .exit)) ⌝ }
+    ensures { λ _. ⌜ RowLeft places (λ l. atomValue atleast (sampleIn (wordsOf (now (samples .entry))) places signals signal t l) constant) (now (row .entry)) (now (row .exit)) ⌝ }
 {
     for l in 0..places {
         row[l] = atom_at(

@@ -1,12 +1,13 @@
 // Codes 0, 3, 4 and 8: true, not, and, or.
+use crate::signals::Operand;
+use crate::signals::operand_at;
 use crate::signals::turn;
-use crate::signals::turned_at;
 ghost use Prim.Native.Nat.{_+_, _*_, _≤_};
 ghost use lib.ListN.{length};
 ghost use Rattle.words.specs.Bytes.{wordsOf};
 ghost use Rattle.values.specs.Chain.{highest};
 ghost use Rattle.values.specs.Signals.{signalIn, turned};
-ghost use Rattle.operators.specs.Rows.{RowLeft, andAt};
+ghost use Rattle.operators.specs.Rows.{RowLeft, andIn};
 
 // Code 0.
 pub fn true_row(places: usize, row: &mut [u32])
@@ -30,8 +31,13 @@ pub fn turned_row(
     requires { ⌜ (start + (t + 1) * places ≤ length (wordsOf (now words))) × (places ≤ length (now row)) ⌝ }
     ensures { λ _. ⌜ RowLeft places (turned negated (signalIn (wordsOf (now (words .entry))) start places) t) (now (row .entry)) (now (row .exit)) ⌝ }
 {
+    let operand = Operand {
+        start,
+        places,
+        negated,
+    };
     for l in 0..places {
-        row[l] = turned_at(words, start, places, t, l, negated);
+        row[l] = operand_at(words, operand, t, l);
     }
 }
 
@@ -46,12 +52,22 @@ pub fn and_row(
     row: &mut [u32],
 )
     requires { ⌜ (left + (t + 1) * places ≤ length (wordsOf (now words))) × (right + (t + 1) * places ≤ length (wordsOf (now words))) × (places ≤ length (now row)) ⌝ }
-    ensures { λ _. ⌜ RowLeft places (andAt dual (signalIn (wordsOf (now (words .entry))) left places) (signalIn (wordsOf (now (words .entry))) right places) t) (now (row .entry)) (now (row .exit)) ⌝ }
+    ensures { λ _. ⌜ RowLeft places (andIn (wordsOf (now (words .entry))) places dual left right t) (now (row .entry)) (now (row .exit)) ⌝ }
 {
+    let first = Operand {
+        start: left,
+        places,
+        negated: dual,
+    };
+    let second = Operand {
+        start: right,
+        places,
+        negated: dual,
+    };
     for l in 0..places {
         let both = values::lesser(
-            turned_at(words, left, places, t, l, dual),
-            turned_at(words, right, places, t, l, dual),
+            operand_at(words, first, t, l),
+            operand_at(words, second, t, l),
         );
         row[l] = turn(both, dual);
     }

@@ -1,31 +1,23 @@
 // Code 9, eventually, and its dual, code 10, always.
+use crate::signals::Operand;
+use crate::signals::operand_at;
 use crate::signals::turn;
-use crate::signals::turned_at;
+use crate::window::Bounds;
 ghost use mathlib.Core.Path.{_≡_};
-ghost use Prim.Native.Nat.{ℕ, suc, _+_, _≤_, _<_};
+ghost use Prim.Native.Nat.{_+_, _≤_};
 ghost use lib.ListN.{length};
 ghost use Rattle.words.specs.Bytes.{wordsOf};
-ghost use Rattle.values.specs.Signals.{signalIn, turned};
-ghost use Rattle.operators.specs.Reach.{Window};
-ghost use Rattle.operators.specs.Rows.{Filled, RowLeft, ahead, eventuallyAt};
+ghost use Rattle.operators.specs.Reach.{Window, Reached, aheadOf, eventuallyOf};
+ghost use Rattle.operators.specs.Rows.{RowLeft, Former, Held, eventuallyIn};
 
 // The greatest of a window, read from its first sample to its last.
-fn greatest_ahead(
-    words: &[u8],
-    start: usize,
-    places: usize,
-    lower: usize,
-    upper: usize,
-    t: usize,
-    l: usize,
-    negated: bool,
-) -> u32
-    requires { ⌜ Window (wordsOf (now words)) start places lower upper t × (l < places) ⌝ }
-    ensures { λ r. ⌜ r ≡ ahead (turned negated (signalIn (wordsOf (now (words .entry))) start places)) lower upper t l ⌝ }
+fn greatest_ahead(words: &[u8], operand: Operand, bounds: Bounds, t: usize, l: usize) -> u32
+    requires { ⌜ Reached (wordsOf (now words)) (operand .start) (operand .places) bounds t l ⌝ }
+    ensures { λ r. ⌜ r ≡ aheadOf (wordsOf (now (words .entry))) operand bounds t l ⌝ }
 {
     let mut best = values::bottom();
-    for u in t + lower..t + upper + 1 {
-        best = values::greater(best, turned_at(words, start, places, u, l, negated));
+    for u in t + bounds.lower..t + bounds.upper + 1 {
+        best = values::greater(best, operand_at(words, operand, u, l));
     }
     best
 }
@@ -34,48 +26,42 @@ fn greatest_ahead(
 // exceed it, and long windows need not be read again.
 fn greatest_next(
     words: &[u8],
-    start: usize,
-    places: usize,
-    lower: usize,
-    upper: usize,
+    operand: Operand,
+    bounds: Bounds,
     t: usize,
     l: usize,
-    negated: bool,
     former: u32,
 ) -> u32
-    requires { ⌜ Window (wordsOf (now words)) start places lower upper (t + 1) × (l < places) × (former ≡ ahead (turned negated (signalIn (wordsOf (now words)) start places)) lower upper t l) ⌝ }
-    ensures { λ r. ⌜ r ≡ ahead (turned negated (signalIn (wordsOf (now (words .entry))) start places)) lower upper (t + 1) l ⌝ }
+    requires { ⌜ Reached (wordsOf (now words)) (operand .start) (operand .places) bounds (t + 1) l × (former ≡ aheadOf (wordsOf (now words)) operand bounds t l) ⌝ }
+    ensures { λ r. ⌜ r ≡ aheadOf (wordsOf (now (words .entry))) operand bounds (t + 1) l ⌝ }
 {
-    let leaving = turned_at(words, start, places, t + lower, l, negated);
+    let leaving = operand_at(words, operand, t + bounds.lower, l);
     if leaving < former {
-        let entering = turned_at(words, start, places, t + 1 + upper, l, negated);
+        let entering = operand_at(words, operand, t + 1 + bounds.upper, l);
         return values::greater(former, entering);
     }
-    greatest_ahead(words, start, places, lower, upper, t + 1, l, negated)
+    greatest_ahead(words, operand, bounds, t + 1, l)
 }
 
-// At one place, given the value at the sample before, if there is one.
+// At one place, given the value at the sample before, if there is one. The dual turns its operand, and what comes of it.
 fn eventually_at(
     words: &[u8],
-    start: usize,
-    places: usize,
-    lower: usize,
-    upper: usize,
-    dual: bool,
+    operand: Operand,
+    bounds: Bounds,
     t: usize,
     l: usize,
     former: u32,
 ) -> u32
-    requires { ⌜ Window (wordsOf (now words)) start places lower upper t × (l < places) × ((u : ℕ) → t ≡ suc u → former ≡ eventuallyAt dual (signalIn (wordsOf (now words)) start places) lower upper u l) ⌝ }
-    ensures { λ r. ⌜ r ≡ eventuallyAt dual (signalIn (wordsOf (now (words .entry))) start places) lower upper t l ⌝ }
+    requires { ⌜ Reached (wordsOf (now words)) (operand .start) (operand .places) bounds t l × Former (eventuallyOf (wordsOf (now words)) operand bounds) t l former ⌝ }
+    ensures { λ r. ⌜ r ≡ eventuallyOf (wordsOf (now (words .entry))) operand bounds t l ⌝ }
 {
     let greatest = if t == 0 {
-        greatest_ahead(words, start, places, lower, upper, t, l, dual)
+        greatest_ahead(words, operand, bounds, t, l)
     } else {
-        let before = turn(former, dual);
-        greatest_next(words, start, places, lower, upper, t - 1, l, dual, before)
+        let before = turn(former, operand.negated);
+        greatest_next(words, operand, bounds, t - 1, l, before)
     };
-    turn(greatest, dual)
+    turn(greatest, operand.negated)
 }
 
 // The row holds the values at the sample before, if there is one.
@@ -89,12 +75,19 @@ pub fn eventually_row(
     t: usize,
     row: &mut [u32],
 )
-    requires { ⌜ Window (wordsOf (now words)) start places lower upper t × (places ≤ length (now row)) × ((u : ℕ) → t ≡ suc u → Filled places (eventuallyAt dual (signalIn (wordsOf (now words)) start places) lower upper u) (now row)) ⌝ }
-    ensures { λ _. ⌜ RowLeft places (eventuallyAt dual (signalIn (wordsOf (now (words .entry))) start places) lower upper t) (now (row .entry)) (now (row .exit)) ⌝ }
+    requires { ⌜ Window (wordsOf (now words)) start places lower upper t × (places ≤ length (now row)) × Held places (eventuallyIn (wordsOf (now words)) places dual start lower upper) t (now row) ⌝ }
+    ensures { λ _. ⌜ RowLeft places (eventuallyIn (wordsOf (now (words .entry))) places dual start lower upper t) (now (row .entry)) (now (row .exit)) ⌝ }
 {
-    let from = lower as usize;
-    let to = upper as usize;
+    let operand = Operand {
+        start,
+        places,
+        negated: dual,
+    };
+    let bounds = Bounds {
+        lower: lower as usize,
+        upper: upper as usize,
+    };
     for l in 0..places {
-        row[l] = eventually_at(words, start, places, from, to, dual, t, l, row[l]);
+        row[l] = eventually_at(words, operand, bounds, t, l, row[l]);
     }
 }

@@ -6,3 +6,4 @@ pub mod connectives;
 pub mod eventually;
 mod signals;
 pub mod until;
+mod window;

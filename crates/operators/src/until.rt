@@ -1,4 +1,5 @@
 // Code 5, until.
+use crate::window::Bounds;
 use values::signal_at;
 ghost use mathlib.Core.Path.{_≡_};
 ghost use Prim.Native.Nat.{_+_, _*_, _≤_, _<_};
@@ -6,11 +7,10 @@ ghost use lib.Dec.{leb};
 ghost use lib.ListN.{length};
 ghost use Rattle.words.specs.Bytes.{wordsOf};
 ghost use Rattle.logic.specs.Lattice.{leastOver};
-ghost use Rattle.logic.specs.Table.{untilAt};
-ghost use Rattle.values.specs.Chain.{chains, chainLattice};
+ghost use Rattle.values.specs.Chain.{chainLattice};
 ghost use Rattle.values.specs.Signals.{signalIn};
-ghost use Rattle.operators.specs.Reach.{Window};
-ghost use Rattle.operators.specs.Rows.{RowLeft};
+ghost use Rattle.operators.specs.Reach.{Window, Reached};
+ghost use Rattle.operators.specs.Rows.{RowLeft, untilIn};
 
 // The least value of a signal from sample `first` up to and without sample `end`.
 fn least_between(
@@ -37,16 +37,15 @@ fn until_at(
     left: usize,
     right: usize,
     places: usize,
-    lower: usize,
-    upper: usize,
+    bounds: Bounds,
     t: usize,
     l: usize,
 ) -> u32
-    requires { ⌜ Window (wordsOf (now words)) left places lower upper t × Window (wordsOf (now words)) right places lower upper t × (l < places) ⌝ }
-    ensures { λ r. ⌜ r ≡ untilAt chains (signalIn (wordsOf (now (words .entry))) left places) (signalIn (wordsOf (now (words .entry))) right places) lower upper t l ⌝ }
+    requires { ⌜ Reached (wordsOf (now words)) left places bounds t l × Reached (wordsOf (now words)) right places bounds t l ⌝ }
+    ensures { λ r. ⌜ r ≡ untilIn (wordsOf (now (words .entry))) places left right (bounds .lower) (bounds .upper) t l ⌝ }
 {
-    let first = t + lower;
-    let end = t + upper + 1;
+    let first = t + bounds.lower;
+    let end = t + bounds.upper + 1;
     let mut least = least_between(words, left, places, t, first, l);
     let mut best = values::bottom();
     for u in first..end {
@@ -74,11 +73,13 @@ pub fn until_row(
     row: &mut [u32],
 )
     requires { ⌜ Window (wordsOf (now words)) left places lower upper t × Window (wordsOf (now words)) right places lower upper t × (places ≤ length (now row)) ⌝ }
-    ensures { λ _. ⌜ RowLeft places (untilAt chains (signalIn (wordsOf (now (words .entry))) left places) (signalIn (wordsOf (now (words .entry))) right places) lower upper t) (now (row .entry)) (now (row .exit)) ⌝ }
+    ensures { λ _. ⌜ RowLeft places (untilIn (wordsOf (now (words .entry))) places left right lower upper t) (now (row .entry)) (now (row .exit)) ⌝ }
 {
-    let from = lower as usize;
-    let to = upper as usize;
+    let bounds = Bounds {
+        lower: lower as usize,
+        upper: upper as usize,
+    };
     for l in 0..places {
-        row[l] = until_at(words, left, right, places, from, to, t, l);
+        row[l] = until_at(words, left, right, places, bounds, t, l);
     }
 }

@@ -25,7 +25,8 @@ use Rattle.verdicts.specs.declared.tally.Tally.{Tally}
 use Rattle.verdicts.specs.Tally.{together}
 use Rattle.verdicts.specs.declared.around.Around.{Around}
 use Rattle.verdicts.specs.declared.around.Around.the-variants.{Surround, Range}
-use Rattle.verdicts.specs.Around.{LanesBounded, AroundReads, AroundReady, SamplesWritten, aroundValue, aroundRounds, BlockFilled}
+use Rattle.verdicts.specs.Written.{SamplesWritten}
+use Rattle.verdicts.specs.Around.{LanesBounded, AroundReads, AroundReady, BlockFits, aroundValue, aroundRounds, BlockFilled}
 use Rattle.verdicts.proofs.Points.{surround-bound}
 
 -- ---- a + b samples
@@ -87,23 +88,23 @@ module _ {words : List ℕ} {L : Layout} {sheet distances : List ℕ} where
     reads = reads-fewer words L sheet around samples k (ready .reads) h;
   }
 
-  pub block-ready : {left right : ℕ} {b : Bounds} {first size : ℕ} → AroundReady words L sheet distances (Surround left right b) (first + size) → 1 ≤ size → size ≤ lanes
+  pub block-ready : {left right : ℕ} {b : Bounds} {first size : ℕ} → BlockFits words L sheet distances (Surround left right b) first size
       → BlockReady words left right (L .places) sheet (L .roads) distances first size
-  block-ready ready some few = record {
-    few-places = ready .few-places .1;
-    some = some;
-    few = few;
-    left-there = ready .reads .left-there;
-    right-there = ready .reads .right-there;
-    roads-in = ready .reads .roads-in;
-    distances-there = ready .distances-there;
-    left-valid = λ t l _. ready .reads .left-valid t l;
-    right-valid = λ t l _. ready .reads .right-valid t l;
+  block-ready fits = record {
+    few-places = fits .ready .few-places .1;
+    some = fits .some;
+    few = fits .few;
+    left-there = fits .ready .reads .left-there;
+    right-there = fits .ready .reads .right-there;
+    roads-in = fits .ready .reads .roads-in;
+    distances-there = fits .ready .distances-there;
+    left-valid = λ t l _. fits .ready .reads .left-valid t l;
+    right-valid = λ t l _. fits .ready .reads .right-valid t l;
   }
 
-  pub range-ready : {left : ℕ} {b : Bounds} {dual : Bool} {first size : ℕ} → AroundReady words L sheet distances (Range left b dual) (first + size) → size ≤ lanes
+  pub range-ready : {left : ℕ} {b : Bounds} {dual : Bool} {first size : ℕ} → BlockFits words L sheet distances (Range left b dual) first size
       → RangeReady words left (L .places) distances first size
-  range-ready ready few = record { few-places = ready .few-places .1; few = few; there = ready .reads; distances-there = ready .distances-there }
+  range-ready fits = record { few-places = fits .ready .few-places .1; few = fits .few; there = fits .ready .reads; distances-there = fits .ready .distances-there }
 
   pub surround-filled : {left right : ℕ} {b : Bounds} {first size : ℕ} {before out : List ℕ} {r : ℕ}
       → BlockDone words left right (L .places) sheet (L .roads) distances first size (b .lower) (b .upper) before out r

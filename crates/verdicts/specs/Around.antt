@@ -2,12 +2,12 @@
 use mathlib.Core.Path.{_≡_}
 use mathlib.Core.List.{List}
 use Prim.Native.Nat.{ℕ, _+_, _*_, _<_, _≤_}
-use lib.ListN.{length}
-use Rattle.words.specs.Rows.{rows, put}
-use Rattle.counting.specs.Totals.{count, sumBelow, mostBelow}
+use lib.ListN.{length, take}
+use Rattle.words.specs.Bytes.{wordsOf, numbersOf}
+use Rattle.counting.specs.Totals.{mostBelow}
 use Rattle.sheet.specs.declared.check.Layout as Code
 use Rattle.checks.specs.Limits.{mostPlaces, mostSamples}
-use Rattle.values.specs.Chain.{highest, chainWord, chainVerdict, Valid}
+use Rattle.values.specs.Chain.{highest, Valid}
 use Rattle.values.specs.Signals.{signalIn}
 use Rattle.lanes.specs.Lanes.{lanes, laneOf}
 use Rattle.spatial.specs.Surround.{surroundValue, surroundRounds}
@@ -16,6 +16,7 @@ use Rattle.spatial.specs.Ranges.{somewhereIn}
 use Rattle.verdicts.specs.declared.around.Around.{Around}
 use Rattle.verdicts.specs.declared.around.Around.the-variants.{Surround, Range}
 use Rattle.verdicts.specs.declared.tally.Tally.{Tally}
+use Rattle.verdicts.specs.Written.{SamplesWritten}
 
 -- a row has room for the places, and its first lanes hold chain numbers
 pub record LanesBounded (row : List ℕ) (places samples : ℕ) : Type 0 where
@@ -42,12 +43,11 @@ pub record AroundReady (words : List ℕ) (L : Code.Layout) (sheet distances : L
   pub distances-there : L .places * L .places ≤ length distances
   pub reads : AroundReads words L sheet around samples
 
--- samples of n places, by the chain number and the rounds of each point, are put into the answer from index `begin` on; the greatest rounds and
--- the yes verdicts are told
-pub record SamplesWritten (value roundsAt : ℕ → ℕ → ℕ) (n : ℕ) (answer : List ℕ) (begin samples : ℕ) (after : List ℕ) (tally : Tally) : Type 0 where
-  pub written : after ≡ put answer begin (rows (λ t l. chainWord (value t l)) samples n)
-  pub counted : tally .yes ≡ sumBelow (λ t. sumBelow (λ l. count (chainVerdict (value t l))) n) samples
-  pub greatest : tally .rounds ≡ mostBelow (λ t. mostBelow (roundsAt t) n) samples
+-- the samples `first` to first + size - 1 make a block
+pub record BlockFits (words : List ℕ) (L : Code.Layout) (sheet distances : List ℕ) (around : Around) (first size : ℕ) : Type 0 where
+  pub ready : AroundReady words L sheet distances around (first + size)
+  pub some : 1 ≤ size
+  pub few : size ≤ lanes
 
 module _ (words : List ℕ) (L : Code.Layout) (sheet distances : List ℕ) where
   -- the chain number at a sample and a centre, and the rounds there
@@ -64,9 +64,28 @@ module _ (words : List ℕ) (L : Code.Layout) (sheet distances : List ℕ) where
     pub values : (centre lane : ℕ) → centre < L .places → lane < size → laneOf out lane centre ≡ aroundValue around (first + lane) centre
     pub rounds : r ≡ mostBelow (λ t. mostBelow (aroundRounds around (first + t)) (L .places)) size
 
-  -- all samples of the line, and those from `first` on
-  abbrev pub AroundWritten : Around → List ℕ → ℕ → ℕ → List ℕ → Tally → Type 0
-  AroundWritten around = SamplesWritten (aroundValue around) (aroundRounds around) (L .places)
+-- ---- by the bytes that are lent: a line that begins at an index of the answer reads the words before it
 
-  abbrev pub BlockWritten : Around → List ℕ → ℕ → ℕ → ℕ → List ℕ → Tally → Type 0
-  BlockWritten around answer begin first = SamplesWritten (λ t. aroundValue around (first + t)) (λ t. aroundRounds around (first + t)) (L .places) answer (begin + first * L .places)
+module _ (sheet : List ℕ) (L : Code.Layout) (distances answer : List ℕ) (begin : ℕ) (around : Around) where
+  abbrev before : List ℕ
+  before = take begin (wordsOf answer)
+
+  abbrev pub AroundReadyIn : ℕ → Type 0
+  AroundReadyIn = AroundReady before L (wordsOf sheet) (numbersOf (wordsOf distances)) around
+
+  abbrev pub BlockFitsIn : ℕ → ℕ → Type 0
+  BlockFitsIn = BlockFits before L (wordsOf sheet) (numbersOf (wordsOf distances)) around
+
+  abbrev valueIn : ℕ → ℕ → ℕ
+  valueIn = aroundValue before L (wordsOf sheet) (numbersOf (wordsOf distances)) around
+
+  abbrev roundsIn : ℕ → ℕ → ℕ
+  roundsIn = aroundRounds before L (wordsOf sheet) (numbersOf (wordsOf distances)) around
+
+  -- all samples of the line, and those of a block
+  abbrev pub AroundWrittenIn : ℕ → List ℕ → Tally → Type 0
+  AroundWrittenIn samples after = SamplesWritten valueIn roundsIn (L .places) (wordsOf answer) begin samples (wordsOf after)
+
+  abbrev pub BlockWrittenIn : ℕ → ℕ → List ℕ → Tally → Type 0
+  BlockWrittenIn first size after =
+      SamplesWritten (λ t. valueIn (first + t)) (λ t. roundsIn (first + t)) (L .places) (wordsOf answer) (begin + first * L .places) size (wordsOf after)

@@ -1,4 +1,6 @@
-pub mod Writing
-pub mod Sample
 pub mod Tally
+pub mod Sample
+pub mod Written
+pub mod Located
+pub mod Rows
 pub mod Around

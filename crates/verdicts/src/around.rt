@@ -14,13 +14,13 @@ use spatial::surround::Surround;
 use spatial::surround::surround_block;
 ghost use mathlib.Core.Path.{_≡_};
 ghost use Prim.Native.Nat.{_+_, _*_, _≤_};
-ghost use lib.ListN.{length, take};
-ghost use Rattle.words.specs.Bytes.{wordsOf, numbersOf};
+ghost use lib.ListN.{length};
+ghost use Rattle.words.specs.Bytes.{wordsOf, numbersOf, afterWords};
 ghost use Rattle.words.specs.Rows.{rows, put};
 ghost use Rattle.counting.specs.Totals.{count, sumBelow};
 ghost use Rattle.values.specs.Chain.{chainWord, chainVerdict};
 ghost use Rattle.lanes.specs.Lanes.{lanes, laneOf};
-ghost use Rattle.verdicts.specs.Around.{LanesBounded, AroundReady, BlockFilled, BlockWritten, AroundWritten};
+ghost use Rattle.verdicts.specs.Around.{LanesBounded, BlockFits, BlockFilled, AroundReadyIn, BlockFitsIn, BlockWrittenIn, AroundWrittenIn};
 
 // What is asked about every centre. Operands are the indices at which their signals begin.
 pub enum Around {
@@ -41,6 +41,7 @@ fn write_lanes(out: &[u32], places: usize, samples: usize, answer: &mut [u8], to
     requires { ⌜ LanesBounded (now out) places samples × (to + samples * places ≤ length (wordsOf (now answer))) ⌝ }
     ensures written { λ _. ⌜ wordsOf (now (answer .exit)) ≡ put (wordsOf (now (answer .entry))) to (rows (λ lane l. chainWord (laneOf (now (out .entry)) lane l)) samples places) ⌝ }
     ensures counted { λ r. ⌜ r ≡ sumBelow (λ lane. sumBelow (λ l. count (chainVerdict (laneOf (now (out .entry)) lane l))) places) samples ⌝ }
+    ensures tail { λ _. ⌜ afterWords (now (answer .exit)) ≡ afterWords (now (answer .entry)) ⌝ }
 {
     let mut yes: u64 = 0;
     let mut at = to;
@@ -62,7 +63,7 @@ fn fill_block(
     size: usize,
     out: &mut [u32],
 ) -> u64
-    requires { ⌜ AroundReady (wordsOf (now words)) layout (wordsOf (now sheet)) (numbersOf (wordsOf (now distances))) around (first + size) × (1 ≤ size) × (size ≤ lanes) × (layout .places * lanes ≤ length (now out)) ⌝ }
+    requires { ⌜ BlockFits (wordsOf (now words)) layout (wordsOf (now sheet)) (numbersOf (wordsOf (now distances))) around first size × (layout .places * lanes ≤ length (now out)) ⌝ }
     ensures { λ r. ⌜ BlockFilled (wordsOf (now (words .entry))) layout (wordsOf (now (sheet .entry))) (numbersOf (wordsOf (now (distances .entry)))) around first size (now (out .exit)) r ⌝ }
 {
     match around {
@@ -111,8 +112,9 @@ fn write_block(
     first: usize,
     size: usize,
 ) -> Tally
-    requires { ⌜ AroundReady (take begin (wordsOf (now answer))) layout (wordsOf (now sheet)) (numbersOf (wordsOf (now distances))) around (first + size) × (1 ≤ size) × (size ≤ lanes) × (begin + (first + size) * layout .places ≤ length (wordsOf (now answer))) ⌝ }
-    ensures { λ r. ⌜ BlockWritten (take begin (wordsOf (now (answer .entry)))) layout (wordsOf (now (sheet .entry))) (numbersOf (wordsOf (now (distances .entry)))) around (wordsOf (now (answer .entry))) begin first size (wordsOf (now (answer .exit))) r ⌝ }
+    requires { ⌜ BlockFitsIn (now sheet) layout (now distances) (now answer) begin around first size × (begin + (first + size) * layout .places ≤ length (wordsOf (now answer))) ⌝ }
+    ensures written { λ r. ⌜ BlockWrittenIn (now (sheet .entry)) layout (now (distances .entry)) (now (answer .entry)) begin around first size (now (answer .exit)) r ⌝ }
+    ensures tail { λ _. ⌜ afterWords (now (answer .exit)) ≡ afterWords (now (answer .entry)) ⌝ }
 {
     let end = begin * 4;
     let mut out: [u32; ROW] = [0; ROW];
@@ -148,8 +150,9 @@ pub fn write_around(
     begin: usize,
     samples: usize,
 ) -> Tally
-    requires { ⌜ AroundReady (take begin (wordsOf (now answer))) layout (wordsOf (now sheet)) (numbersOf (wordsOf (now distances))) around samples × (begin + samples * layout .places ≤ length (wordsOf (now answer))) ⌝ }
-    ensures { λ r. ⌜ AroundWritten (take begin (wordsOf (now (answer .entry)))) layout (wordsOf (now (sheet .entry))) (numbersOf (wordsOf (now (distances .entry)))) around (wordsOf (now (answer .entry))) begin samples (wordsOf (now (answer .exit))) r ⌝ }
+    requires { ⌜ AroundReadyIn (now sheet) layout (now distances) (now answer) begin around samples × (begin + samples * layout .places ≤ length (wordsOf (now answer))) ⌝ }
+    ensures written { λ r. ⌜ AroundWrittenIn (now (sheet .entry)) layout (now (distances .entry)) (now (answer .entry)) begin around samples (now (answer .exit)) r ⌝ }
+    ensures tail { λ _. ⌜ afterWords (now (answer .exit)) ≡ afterWords (now (answer .entry)) ⌝ }
 {
     let mut tally = Tally::NONE;
     let mut first: usize = 0;

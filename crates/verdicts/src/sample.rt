@@ -2,7 +2,7 @@
 ghost use mathlib.Core.Path.{_≡_};
 ghost use Prim.Native.Nat.{_+_, _≤_};
 ghost use lib.ListN.{length};
-ghost use Rattle.words.specs.Bytes.{wordsOf};
+ghost use Rattle.words.specs.Bytes.{wordsOf, afterWords};
 ghost use Rattle.words.specs.Rows.{row, put};
 ghost use Rattle.counting.specs.Totals.{count, sumBelow};
 ghost use Rattle.values.specs.Chain.{chainWord, chainVerdict};
@@ -20,6 +20,7 @@ pub(crate) fn write_sample(
     requires { ⌜ SampleThere (now values) stride offset places × (to + places ≤ length (wordsOf (now answer))) ⌝ }
     ensures written { λ _. ⌜ wordsOf (now (answer .exit)) ≡ put (wordsOf (now (answer .entry))) to (row (λ l. chainWord (entry (now (values .entry)) stride offset l)) places) ⌝ }
     ensures counted { λ r. ⌜ r ≡ sumBelow (λ l. count (chainVerdict (entry (now (values .entry)) stride offset l))) places ⌝ }
+    ensures tail { λ _. ⌜ afterWords (now (answer .exit)) ≡ afterWords (now (answer .entry)) ⌝ }
 {
     let mut yes: u64 = 0;
     for l in 0..places {

@@ -1,16 +1,14 @@
 -- Bytes read as words or as numbers, and written back, are the same bytes where there are only whole words or whole numbers. So the words
--- of a buffer pin every byte of it.
-use Prim.Native.Nat.{ℕ, zero, suc, _+_, _*_, _/_, _%_, _<_, _^_}
+-- of a buffer pin every byte of it. And words of 32 bits or numbers of 64, written as bytes and read back, are the same words or numbers.
+use Prim.Native.Nat.{ℕ, zero, suc, _+_, _*_, _/_, _%_, _^_}
 use mathlib.Core.Path.{_≡_, refl, _∙_, ap}
 use mathlib.Core.List.{List, [], _∷_}
 use native.Mathlib.Omega.{arith}
-use lib.ListN.{length, getD}
+use lib.ListN.{length}
 use Rattle.words.specs.Bytes.{wordOfBytes, wordsOf, numbersOf, bytesOf, halvesOf}
-use Rattle.words.proofs.Words.{words-count}
-
--- every element is below a bound; beyond the end an element counts as 0, as a slice tells it
-abbrev pub Below : ℕ → List ℕ → Type 0
-Below bound b = (i : ℕ) → getD b i 0 < bound
+use Rattle.words.proofs.Below.{Below}
+use Rattle.words.proofs.Words.{words-count, word-bytes}
+use Rattle.words.proofs.Numbers.{number-words}
 
 pub words-bytes : (b : List ℕ) (k : ℕ) → Below (2 ^ 8) b → length b ≡ k * 4 → bytesOf (wordsOf b) ≡ b
 unfolding wordsOf bytesOf
@@ -58,3 +56,32 @@ pub numbers-bytes : (b : List ℕ) (k : ℕ) → Below (2 ^ 8) b → length b �
 numbers-bytes b k l h =
     ap bytesOf (numbers-words (wordsOf b) k (words-below b l) (omega (arith, words-count b)))
     ∙ words-bytes b (k * 2) l (omega arith)
+
+-- ---- written and read back
+pub length-bytes : (w : List ℕ) → length (bytesOf w) ≡ length w * 4
+unfolding bytesOf
+length-bytes [] = refl
+length-bytes (x ∷ w) = omega (arith, length-bytes w)
+
+pub bytes-words : (w : List ℕ) → Below (2 ^ 32) w → wordsOf (bytesOf w) ≡ w
+unfolding wordsOf bytesOf
+bytes-words [] l = refl
+bytes-words (x ∷ w) l =
+    let lx = l 0 in
+    let top : x / 2 ^ 24 % 2 ^ 8 ≡ x / 2 ^ 24 = omega arith in
+    rw (top, word-bytes x, bytes-words w (λ i. l (suc i)))
+
+halves-below : (x : List ℕ) → Below (2 ^ 64) x → Below (2 ^ 32) (halvesOf x)
+unfolding halvesOf
+halves-below [] l i = omega arith
+halves-below (x ∷ r) l zero = omega arith
+halves-below (x ∷ r) l (suc zero) = omega (arith, l 0)
+halves-below (x ∷ r) l (suc (suc i)) = halves-below r (λ j. l (suc j)) i
+
+words-numbers : (x : List ℕ) → numbersOf (halvesOf x) ≡ x
+unfolding numbersOf halvesOf
+words-numbers [] = refl
+words-numbers (x ∷ r) = rw (number-words x, words-numbers r)
+
+pub bytes-numbers : (x : List ℕ) → Below (2 ^ 64) x → numbersOf (wordsOf (bytesOf (halvesOf x))) ≡ x
+bytes-numbers x l = ap numbersOf (bytes-words (halvesOf x) (halves-below x l)) ∙ words-numbers x

@@ -11,8 +11,8 @@ use Rattle.checks.specs.Faults.{faultNumber}
 use Rattle.sheet.specs.Checking.{checkSaid}
 use Rattle.sheet.proofs.Surveys.{refusing}
 use Rattle.answers.specs.Judged.{Result, Judged, answered, judged}
-use Rattle.engine.specs.Lines.{Accepting}
-use Rattle.engine.specs.Lent.{neededIn}
+use Rattle.evaluation.specs.Lines.{Accepting}
+use Rattle.evaluation.specs.Lent.{neededIn}
 use Rattle.engine.specs.Result.{resultSaid}
 use Rattle.engine.proofs.Judging.{accepting, judged-refused, judged-answered, judged-short}
 use Rattle.engine.proofs.judge.Statement.{statement}

@@ -8,7 +8,8 @@ use lib.ListN.{length, getD, take, set}
 use lib.Seq.{take-all, take-suc, take-suc-set}
 use Rattle.words.specs.Bytes.{wordsOf, numbersOf, bytesOf, halvesOf}
 use Rattle.words.proofs.Numbers.{length-numbers}
-use Rattle.words.proofs.RoundTrips.{Below, numbers-bytes}
+use Rattle.words.proofs.Below.{Below}
+use Rattle.words.proofs.RoundTrips.{numbers-bytes}
 use borrow.Author.Needs.{needs}
 use Rattle.host.proofs.put_numbers.Statement.{statement}
 use Rattle.host.proofs.put_numbers.Tie as tie

@@ -1,26 +1,25 @@
 -- Each turn writes one place more.
-use mathlib.Core.Path.{_≡_, subst}
+use mathlib.Core.Path.{subst}
 use Prim.Native.Nat.{ℕ, _<_, _+_, _*_, _-_, _≤_}
 use native.Mathlib.Nat.{le-mul-of-pos-right}
 use native.Mathlib.Omega.{arith}
 use lib.IntN.{ℤ}
-use lib.ListN.{length, getD}
+use lib.ListN.{length}
 use borrow.Author.Needs.{needs}
 use mir.Syntax.{w32}
 use mir.Val.{toZ}
 use mir.Facts.{toZ-ofZ}
-use Rattle.words.specs.Word.{sampleOf}
 use Rattle.words.specs.Bytes.{wordsOf}
 use Rattle.words.proofs.Rows.{in-table}
 use Rattle.words.proofs.Words.{words-count}
 use Rattle.operators.proofs.Bounds.{in-row}
-use Rattle.operators.specs.Rows.{RowLeft, atomValue}
-use Rattle.operators.proofs.RowLaws.{left-none, left-more, left-all}
+use Rattle.operators.specs.Rows.{RowLeft, atomValue, sampleIn}
+use Rattle.operators.proofs.RowLaws.{Passed, none-passed, one-passed, all-passed}
 use Rattle.operators.proofs.atoms.atom_row.Statement.{statement}
 use Rattle.operators.proofs.atoms.atom_row.Tie as tie
 
 abbrev Inv-loop : tie.InvT-loop
-Inv-loop samples places signals signal constant atleast t row₀ l₀ row l = (l ≤ places) × RowLeft l (λ k. atomValue atleast (sampleOf (getD (wordsOf samples) ((t * places + k) * signals + signal) 0)) (toZ w32 constant)) row₀ row
+Inv-loop samples places signals signal constant atleast t row₀ l₀ row l = Passed places (λ k. atomValue atleast (sampleIn (wordsOf samples) places signals signal t k) (toZ w32 constant)) row₀ row l
 
 abbrev μ-loop : tie.MeasureT-loop
 μ-loop samples places signals signal constant atleast t row₀ l₀ row l = places - l
@@ -43,7 +42,7 @@ module _ (c : tie.In-loop Inv-loop μ-loop) where
       (le-mul-of-pos-right point some, omega (arith, inside, words-count (start .args .samples .now)))
 
 loop-holds : tie.Need-loop-holds Inv-loop μ-loop
-loop-holds c = (search needs, left-none _ _)
+loop-holds c = none-passed _ _ _
 
 mul-atom-at : tie.Need-mul-atom-at Inv-loop μ-loop
 mul-atom-at c = omega (arith, fits c)
@@ -61,17 +60,14 @@ atom-at-requires : tie.Need-atom-at-requires Inv-loop μ-loop
 atom-at-requires c κs = (omega (arith, inside c), rw (toZ-ofZ (start c .fits .constant)) (start c .pre .2))
 
 loop-again : tie.Need-loop-again Inv-loop μ-loop
-loop-again c =
-    let loop = c .before .before .loop in
-    (search needs, left-more (c .atom-at .result) (loop .inv .1) (omega arith) (c .atom-at .ensures))
+loop-again c = one-passed _ (c .before .before .loop .inv) (c .before .loop-test .taken) (c .before .before .before .before .before .pre .3) (c .atom-at .ensures)
 
 returns : tie.Need-returns Inv-loop μ-loop
 returns c =
     let start = c .before .before .before .before in
     let a = start .args in
-    let ended : c .before .loop .l ≡ a .places = omega arith in
-    subst (λ (k : ℤ). RowLeft (a .places) (λ l. atomValue (a .atleast) (sampleOf (getD (wordsOf (a .samples .now)) ((a .t * a .places + l) * a .signals + a .signal) 0)) k) (a .row .now) (c .before .loop .row))
-    (toZ-ofZ (start .fits .constant)) (left-all (c .before .loop .inv .1) ended)
+    subst (λ (k : ℤ). RowLeft (a .places) (λ l. atomValue (a .atleast) (sampleIn (wordsOf (a .samples .now)) (a .places) (a .signals) (a .signal) (a .t) l) k) (a .row .now) (c .before .loop .row))
+    (toZ-ofZ (start .fits .constant)) (all-passed (c .before .loop .inv) (c .loop-test .left))
 
 pub atom-row-spec : {M : Type 1} → statement M
 atom-row-spec =

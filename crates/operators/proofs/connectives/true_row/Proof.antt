@@ -1,30 +1,26 @@
 -- Each turn writes one place more.
-use mathlib.Core.Path.{_≡_}
-use Prim.Native.Nat.{_-_, _≤_}
+use Prim.Native.Nat.{_-_}
 use native.Mathlib.Omega.{arith}
 use borrow.Author.Needs.{needs}
 use Rattle.values.specs.Chain.{highest}
-use Rattle.operators.specs.Rows.{RowLeft}
-use Rattle.operators.proofs.RowLaws.{left-none, left-more, left-all}
+use Rattle.operators.proofs.RowLaws.{Passed, none-passed, one-passed, all-passed}
 use Rattle.operators.proofs.connectives.true_row.Statement.{statement}
 use Rattle.operators.proofs.connectives.true_row.Tie as tie
 
 abbrev Inv-loop : tie.InvT-loop
-Inv-loop places row₀ l₀ row l = (l ≤ places) × RowLeft l (λ _. highest) row₀ row
+Inv-loop places row₀ l₀ row l = Passed places (λ _. highest) row₀ row l
 
 abbrev μ-loop : tie.MeasureT-loop
 μ-loop places row₀ l₀ row l = places - l
 
 loop-holds : tie.Need-loop-holds Inv-loop μ-loop
-loop-holds c = (search needs, left-none _ _)
+loop-holds c = none-passed _ _ _
 
 loop-again : tie.Need-loop-again Inv-loop μ-loop
-loop-again c =
-    let loop = c .before .before .loop in
-    (search needs, left-more (c .top .result) (loop .inv .1) (omega arith) (c .top .ensures))
+loop-again c = one-passed _ (c .before .before .loop .inv) (c .before .loop-test .taken) (c .before .before .before .before .pre) (omega arith)
 
 returns : tie.Need-returns Inv-loop μ-loop
-returns c = let ended : c .before .loop .l ≡ c .before .before .before .args .places = omega arith in left-all (c .before .loop .inv .1) ended
+returns c = all-passed (c .before .loop .inv) (c .loop-test .left)
 
 pub true-row-spec : {M : Type 1} → statement M
 true-row-spec =

@@ -5,46 +5,43 @@ use Prim.Native.Nat.{ℕ, _+_, _-_, _≤_}
 use native.Mathlib.Omega.{arith}
 use borrow.Author.Needs.{needs}
 use Rattle.words.specs.Bytes.{wordsOf}
-use Rattle.logic.specs.Table.{Signal}
-use Rattle.values.specs.Chain.{chains, highest}
-use Rattle.values.specs.Signals.{signalIn, turned}
-use Rattle.operators.specs.Reach.{Window}
-use Rattle.operators.specs.Rows.{turnedTo, ahead}
-use Rattle.operators.proofs.Bounds.{turned-bound, ahead-bound}
+use Rattle.values.specs.Chain.{highest}
+use Rattle.operators.specs.Reach.{Reached, aheadOf, eventuallyOf}
+use Rattle.operators.specs.Rows.{turnedTo}
+use Rattle.operators.proofs.Bounds.{ahead-bound}
 use Rattle.operators.proofs.RowLaws.{turned-number, turned-small, turned-back}
 use Rattle.operators.proofs.eventually.eventually_at.Statement.{statement}
 use Rattle.operators.proofs.eventually.eventually_at.Tie as tie
 
 module _ (c : tie.Start) where
-  abbrev signal : Signal chains
-  signal = turned (c .args .dual) (signalIn (wordsOf (c .args .words .now)) (c .args .start) (c .args .places))
+  -- the greatest of a window at the place
+  abbrev window : ℕ → ℕ
+  window t = aheadOf (wordsOf (c .args .words .now)) (c .args .operand) (c .args .bounds) t (c .args .l)
 
-  small : (t : ℕ) → ahead signal (c .args .lower) (c .args .upper) t (c .args .l) ≤ highest
-  small t = ahead-bound signal (c .args .lower) (c .args .upper) t (c .args .l) (λ u. turned-bound (c .args .dual) _ (c .args .start) (c .args .places) u (c .args .l))
+  small : (t : ℕ) → window t ≤ highest
+  small t = ahead-bound _ (c .args .operand) (c .args .bounds) t (c .args .l)
 
   -- the value at the sample before
-  held : (c .args .t ≡ 0 → ⊥) → c .args .former ≡ turned (c .args .dual) (ahead signal (c .args .lower) (c .args .upper)) (c .args .t - 1) (c .args .l)
-  held ne = c .pre .2 (c .args .t - 1) (omega arith)
+  held : (c .args .t ≡ 0 → ⊥) → c .args .former ≡ eventuallyOf (wordsOf (c .args .words .now)) (c .args .operand) (c .args .bounds) (c .args .t - 1) (c .args .l)
+  held ne = c .pre .1 (c .args .t - 1) (omega arith)
 
 turn-requires : tie.Need-turn-requires
-turn-requires c κs = let start = c .before .before in rw (held start (c .if1 .left)) (turned-small (start .args .dual) _ _ _ (small start (start .args .t - 1)))
+turn-requires c κs = let start = c .before .before in rw (held start (c .if1 .left)) (turned-small (start .args .operand .negated) _ _ _ (small start (start .args .t - 1)))
 
 greatest-next-requires : tie.Need-greatest-next-requires
 greatest-next-requires c κs =
     let start = c .before .before .before in
     let a = start .args in
     let same : a .t ≡ a .t - 1 + 1 = omega arith in (
-      subst (λ (t : ℕ). Window (wordsOf (a .words .now)) (a .start) (a .places) (a .lower) (a .upper) t) same (start .pre .0),
-      start .pre .1,
-      c .turn .ensures ∙ ap (turnedTo (a .dual)) (held start (c .before .if1 .left)) ∙ turned-back (a .dual) _ _ _ (small start (a .t - 1)),
+      subst (λ (t : ℕ). Reached (wordsOf (a .words .now)) (a .operand .start) (a .operand .places) (a .bounds) t (a .l)) same (start .pre .0),
+      c .turn .ensures ∙ ap (turnedTo (a .operand .negated)) (held start (c .before .if1 .left)) ∙ turned-back (a .operand .negated) _ _ _ (small start (a .t - 1)),
     )
 
 -- either way
-greatest : (c : tie.Joined1) → c .if1 .greatest ≡ ahead (signal (c .before .before)) (c .before .before .args .lower) (c .before .before .args .upper) (c .before .before .args .t) (c .before .before .args .l)
+greatest : (c : tie.Joined1) → c .if1 .greatest ≡ window (c .before .before) (c .before .before .args .t)
 greatest c =
-    let a = c .before .before .args in
-    let same : a .t - 1 + 1 ≡ a .t → ahead (signal (c .before .before)) (a .lower) (a .upper) (a .t - 1 + 1) (a .l) ≡ ahead (signal (c .before .before)) (a .lower) (a .upper) (a .t) (a .l) =
-    ap (λ (t : ℕ). ahead (signal (c .before .before)) (a .lower) (a .upper) t (a .l)) in
+    let same : c .before .before .args .t - 1 + 1 ≡ c .before .before .args .t → window (c .before .before) (c .before .before .args .t - 1 + 1) ≡ window (c .before .before) (c .before .before .args .t) =
+    ap (window (c .before .before)) in
     ⊎-elim (λ w. w .2 ∙ w .1 .ensures) (λ w. w .3 ∙ w .2 .ensures ∙ same (omega (arith, w .0 .left))) (c .if1 .came)
 
 turn-requires-2 : tie.Need-turn-requires-2
@@ -53,7 +50,7 @@ turn-requires-2 c κs = rw (greatest c) (small (c .before .before) (c .before .b
 returns : tie.Need-returns
 returns c =
     let a = c .before .before .before .args in
-    c .turn2 .ensures ∙ ap (turnedTo (a .dual)) (greatest (c .before)) ∙ turned-number (a .dual) _ (a .t) (a .l)
+    c .turn2 .ensures ∙ ap (turnedTo (a .operand .negated)) (greatest (c .before)) ∙ turned-number (a .operand .negated) _ (a .t) (a .l)
 
 pub eventually-at-spec : {M : Type 1} → statement M
 eventually-at-spec =

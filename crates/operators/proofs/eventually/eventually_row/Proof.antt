@@ -1,37 +1,35 @@
--- Each turn writes one place more.
-use mathlib.Core.Path.{_≡_, _∙_}
-use Prim.Native.Nat.{_-_, _≤_}
+-- Each turn writes one place more; what stands there before is the value at the sample before.
+use mathlib.Core.Path.{_∙_}
+use Prim.Native.Nat.{_-_}
 use native.Mathlib.Omega.{arith}
 use borrow.Author.Needs.{needs}
 use Rattle.words.specs.Bytes.{wordsOf}
-use Rattle.values.specs.Signals.{signalIn}
-use Rattle.operators.specs.Rows.{RowLeft, eventuallyAt}
-use Rattle.operators.proofs.RowLaws.{left-none, left-more, left-all}
+use Rattle.operators.specs.Rows.{eventuallyIn}
+use Rattle.operators.proofs.RowLaws.{Passed, none-passed, one-passed, all-passed}
 use Rattle.operators.proofs.eventually.eventually_row.Statement.{statement}
 use Rattle.operators.proofs.eventually.eventually_row.Tie as tie
 
 abbrev Inv-loop : tie.InvT-loop
-Inv-loop words start places lower upper dual t row₀ from to l₀ row l = (l ≤ places) × RowLeft l (eventuallyAt dual (signalIn (wordsOf words) start places) lower upper t) row₀ row
+Inv-loop words start places lower upper dual t row₀ operand bounds l₀ row l = Passed places (eventuallyIn (wordsOf words) places dual start lower upper t) row₀ row l
 
 abbrev μ-loop : tie.MeasureT-loop
-μ-loop words start places lower upper dual t row₀ from to l₀ row l = places - l
+μ-loop words start places lower upper dual t row₀ operand bounds l₀ row l = places - l
 
 loop-holds : tie.Need-loop-holds Inv-loop μ-loop
-loop-holds c = (search needs, left-none _ _)
+loop-holds c = none-passed _ _ _
 
 eventually-at-requires : tie.Need-eventually-at-requires Inv-loop μ-loop
 eventually-at-requires c κs =
     let start = c .before .before .before .before .before in
     let loop = c .before .before .loop in
-    (start .pre .0, c .before .loop-test .taken, λ u e. loop .inv .1 .kept (loop .l) (omega arith) ∙ start .pre .2 u e .at (loop .l) (c .before .loop-test .taken))
+    let place = c .before .loop-test .taken in
+    (record { window = start .pre .0; place = place }, λ u e. loop .inv .left .kept (loop .l) (omega arith) ∙ start .pre .2 u e .at (loop .l) place)
 
 loop-again : tie.Need-loop-again Inv-loop μ-loop
-loop-again c =
-    let loop = c .before .before .before .loop in
-    (search needs, left-more (c .eventually-at .result) (loop .inv .1) (omega arith) (c .eventually-at .ensures))
+loop-again c = one-passed _ (c .before .before .before .loop .inv) (c .before .before .loop-test .taken) (c .before .before .before .before .before .before .pre .1) (c .eventually-at .ensures)
 
 returns : tie.Need-returns Inv-loop μ-loop
-returns c = let ended : c .before .loop .l ≡ c .before .before .before .before .args .places = omega arith in left-all (c .before .loop .inv .1) ended
+returns c = all-passed (c .before .loop .inv) (c .loop-test .left)
 
 pub eventually-row-spec : {M : Type 1} → statement M
 eventually-row-spec =

@@ -1,61 +1,64 @@
 -- Each turn takes one sample more into the greatest; until with a left operand that is always true comes to that.
 use mathlib.Core.Path.{_≡_, sym, ap, ap₂, _∙_}
 use Prim.Native.Nat.{_+_, _-_, _≤_}
+use native.Mathlib.Nat.{le-refl}
 use native.Mathlib.Omega.{arith}
 use lib.Dec.{leb}
 use lib.ListN.{length}
 use borrow.Author.Needs.{needs}
 use Rattle.words.specs.Bytes.{wordsOf}
-use Rattle.words.proofs.Rows.{in-table}
 use Rattle.logic.specs.Lattice.{greatestOver}
 use Rattle.values.specs.Chain.{chainLattice}
-use Rattle.values.specs.Signals.{signalIn, turned}
-use Rattle.operators.proofs.Bounds.{turned-bound, window-end}
-use Rattle.operators.proofs.Folds.{greatest-none, greatest-more, eventually-all}
+use Rattle.operators.specs.Reach.{operandIn}
+use Rattle.operators.proofs.Bounds.{operand-bound, reached-inside, reached-end}
+use Rattle.operators.proofs.Folds.{Counted, none-counted, one-counted, all-counted, greatest-none, greatest-more, eventually-all}
 use Rattle.operators.proofs.eventually.greatest_ahead.Statement.{statement}
 use Rattle.operators.proofs.eventually.greatest_ahead.Tie as tie
 
 abbrev Inv-loop : tie.InvT-loop
-Inv-loop words start places lower upper t l negated best₀ u₀ u-end best u =
-    (t + lower ≤ u) × (u ≤ u-end) × (best ≡ greatestOver chainLattice (leb (t + lower)) (λ v. turned negated (signalIn (wordsOf words) start places) v l) u)
+Inv-loop words operand t l best₀ u₀ u-end best u =
+    Counted u₀ u-end u × (best ≡ greatestOver chainLattice (leb u₀) (λ v. operandIn (wordsOf words) operand v l) u)
 
 abbrev μ-loop : tie.MeasureT-loop
-μ-loop words start places lower upper t l negated best₀ u₀ u-end best u = u-end - u
+μ-loop words operand t l best₀ u₀ u-end best u = u-end - u
 
-end-fits : (c : tie.Start Inv-loop μ-loop) → c .args .t + c .args .upper + 1 ≤ length (c .args .words .now)
-end-fits c = window-end (c .args .words .now) (c .pre .0) (omega arith)
+end-fits : (c : tie.Start Inv-loop μ-loop) → c .args .t + c .args .bounds .upper + 1 ≤ length (c .args .words .now)
+end-fits c = reached-end (c .args .words .now) (c .pre)
+
+-- from the loop back to the entry
+abbrev entry : tie.At-loop Inv-loop μ-loop → tie.Start Inv-loop μ-loop
+entry c = c .before .before .before .before .before
 
 add-u : tie.Need-add-u Inv-loop μ-loop
-add-u c = omega (arith, end-fits (c .before .before))
+add-u c = omega (arith, end-fits (c .before .before .before))
 
 add-u-end : tie.Need-add-u-end Inv-loop μ-loop
-add-u-end c = omega (arith, end-fits (c .before .before))
+add-u-end c = omega (arith, end-fits (c .before .before .before .before))
 
 add-u-end-2 : tie.Need-add-u-end-2 Inv-loop μ-loop
-add-u-end-2 c = omega (arith, end-fits (c .before .before))
+add-u-end-2 c = omega (arith, end-fits (c .before .before .before .before))
 
 loop-holds : tie.Need-loop-holds Inv-loop μ-loop
 loop-holds c =
-    let a = c .before .before .args in
-    (search needs, search needs, c .bottom .ensures ∙ sym (greatest-none _ _ (a .t + a .lower) (omega arith)))
+    let a = c .before .before .before .before .args in
+    (none-counted (omega arith), c .before .before .bottom .ensures ∙ sym (greatest-none _ _ (a .t + a .bounds .lower) (le-refl _)))
 
-turned-at-requires : tie.Need-turned-at-requires Inv-loop μ-loop
-turned-at-requires c κs = omega (arith, in-table (c .loop-test .taken) (c .before .before .before .before .pre .1))
+operand-at-requires : tie.Need-operand-at-requires Inv-loop μ-loop
+operand-at-requires c κs = reached-inside (entry (c .before) .pre) (c .loop-test .taken)
 
 add-u-2 : tie.Need-add-u-2 Inv-loop μ-loop
-add-u-2 c = omega (arith, end-fits (c .before .before .before .before .before .before))
+add-u-2 c = omega (arith, end-fits (entry (c .before .before .before)))
 
 loop-again : tie.Need-loop-again Inv-loop μ-loop
 loop-again c =
     let loop = c .before .before .before .loop in
-    (search needs, search needs, c .greater .ensures ∙ ap₂ (chainLattice .join) (loop .inv .2) (c .before .turned-at .ensures) ∙ sym (greatest-more _ _ (loop .u) (loop .inv .0)))
+    (one-counted (loop .inv .0) (c .before .before .loop-test .taken), c .greater .ensures ∙ ap₂ (chainLattice .join) (loop .inv .1) (c .before .operand-at .ensures) ∙ sym (greatest-more _ _ (loop .u) (loop .inv .0 .from)))
 
 returns : tie.Need-returns Inv-loop μ-loop
 returns c =
-    let a = c .before .before .before .before .args in
-    let ended : c .before .loop .u ≡ a .t + a .upper + 1 = omega arith in
-    c .before .loop .inv .2 ∙ ap (greatestOver chainLattice _ _) ended
-    ∙ sym (eventually-all _ (a .l) (λ u. turned-bound (a .negated) _ (a .start) (a .places) u (a .l)) (a .lower) (a .upper) (a .t))
+    let a = entry (c .before) .args in
+    c .before .loop .inv .1 ∙ ap (greatestOver chainLattice _ _) (all-counted (c .before .loop .inv .0) (c .loop-test .left))
+    ∙ sym (eventually-all _ (a .l) (λ u. operand-bound _ (a .operand) u (a .l)) (a .bounds .lower) (a .bounds .upper) (a .t))
 
 pub greatest-ahead-spec : {M : Type 1} → statement M
 greatest-ahead-spec =
@@ -68,7 +71,7 @@ greatest-ahead-spec =
     add-u-end
     add-u-end-2
     loop-holds
-    turned-at-requires
+    operand-at-requires
     (λ c κs. search needs)
     add-u-2
     (λ c. search needs)

@@ -1,6 +1,7 @@
 -- Each turn takes one sample more into the least.
 use mathlib.Core.Path.{_≡_, sym, ap, ap₂, _∙_}
-use Prim.Native.Nat.{_-_, _≤_}
+use Prim.Native.Nat.{_-_}
+use native.Mathlib.Nat.{le-refl}
 use native.Mathlib.Omega.{arith}
 use lib.Dec.{leb}
 use borrow.Author.Needs.{needs}
@@ -9,19 +10,19 @@ use Rattle.words.proofs.Rows.{in-table}
 use Rattle.logic.specs.Lattice.{leastOver}
 use Rattle.values.specs.Chain.{chainLattice}
 use Rattle.values.specs.Signals.{signalIn}
-use Rattle.operators.proofs.Folds.{least-none, least-more}
+use Rattle.operators.proofs.Folds.{Counted, none-counted, one-counted, all-counted, least-none, least-more}
 use Rattle.operators.proofs.until.least_between.Statement.{statement}
 use Rattle.operators.proofs.until.least_between.Tie as tie
 
 abbrev Inv-loop : tie.InvT-loop
 Inv-loop words start places first end l least₀ u₀ least u =
-    (first ≤ u) × (u ≤ end) × (least ≡ leastOver chainLattice (leb first) (λ v. signalIn (wordsOf words) start places v l) u)
+    Counted first end u × (least ≡ leastOver chainLattice (leb first) (λ v. signalIn (wordsOf words) start places v l) u)
 
 abbrev μ-loop : tie.MeasureT-loop
 μ-loop words start places first end l least₀ u₀ least u = end - u
 
 loop-holds : tie.Need-loop-holds Inv-loop μ-loop
-loop-holds c = (search needs, search needs, c .top .ensures ∙ sym (least-none _ _ (c .before .before .args .first) (omega arith)))
+loop-holds c = (none-counted (c .before .before .pre .0), c .top .ensures ∙ sym (least-none _ _ (c .before .before .args .first) (le-refl _)))
 
 signal-at-requires : tie.Need-signal-at-requires Inv-loop μ-loop
 signal-at-requires c κs = omega (arith, in-table (c .loop-test .taken) (c .before .before .before .before .pre .1))
@@ -29,12 +30,10 @@ signal-at-requires c κs = omega (arith, in-table (c .loop-test .taken) (c .befo
 loop-again : tie.Need-loop-again Inv-loop μ-loop
 loop-again c =
     let loop = c .before .before .before .loop in
-    (search needs, search needs, c .lesser .ensures ∙ ap₂ (chainLattice .meet) (loop .inv .2) (c .before .signal-at .ensures) ∙ sym (least-more _ _ (loop .u) (loop .inv .0)))
+    (one-counted (loop .inv .0) (c .before .before .loop-test .taken), c .lesser .ensures ∙ ap₂ (chainLattice .meet) (loop .inv .1) (c .before .signal-at .ensures) ∙ sym (least-more _ _ (loop .u) (loop .inv .0 .from)))
 
 returns : tie.Need-returns Inv-loop μ-loop
-returns c =
-    let ended : c .before .loop .u ≡ c .before .before .before .before .args .end = omega arith in
-    c .before .loop .inv .2 ∙ ap (leastOver chainLattice _ _) ended
+returns c = c .before .loop .inv .1 ∙ ap (leastOver chainLattice _ _) (all-counted (c .before .loop .inv .0) (c .loop-test .left))
 
 pub least-between-spec : {M : Type 1} → statement M
 least-between-spec =

@@ -1,18 +1,21 @@
 -- Each arm knows what is asked about the centres, and that what it reads is there.
 use mathlib.Core.Path.{_≡_, sym, subst}
 use mathlib.Core.List.{List}
-use Prim.Native.Nat.{ℕ, _+_}
+use Prim.Native.Nat.{ℕ}
 use borrow.Author.Needs.{needs}
 use Rattle.words.specs.Bytes.{wordsOf, numbersOf}
 use Rattle.verdicts.specs.declared.around.Around.{Around}
-use Rattle.verdicts.specs.Around.{AroundReady, BlockFilled}
+use Rattle.verdicts.specs.Around.{BlockFits, BlockFilled}
 use Rattle.verdicts.proofs.Blocks.{block-ready, range-ready, surround-filled, somewhere-filled}
 use Rattle.verdicts.proofs.around.fill_block.Statement.{statement}
 use Rattle.verdicts.proofs.around.fill_block.Tie as tie
 
 module _ (c : tie.Start) where
-  ready : {around : Around} → c .args .around ≡ around → AroundReady (wordsOf (c .args .words .now)) (c .args .layout) (wordsOf (c .args .sheet .now)) (numbersOf (wordsOf (c .args .distances .now))) around (c .args .first + c .args .size)
-  ready e = subst (λ around. AroundReady (wordsOf (c .args .words .now)) (c .args .layout) (wordsOf (c .args .sheet .now)) (numbersOf (wordsOf (c .args .distances .now))) around (c .args .first + c .args .size)) e (c .pre .0)
+  abbrev Fits : Around → Type 0
+  Fits around = BlockFits (wordsOf (c .args .words .now)) (c .args .layout) (wordsOf (c .args .sheet .now)) (numbersOf (wordsOf (c .args .distances .now))) around (c .args .first) (c .args .size)
+
+  fits : {around : Around} → c .args .around ≡ around → Fits around
+  fits e = subst Fits e (c .pre .0)
 
   abbrev Filled : Around → List ℕ → ℕ → Type 0
   Filled around = BlockFilled (wordsOf (c .args .words .now)) (c .args .layout) (wordsOf (c .args .sheet .now)) (numbersOf (wordsOf (c .args .distances .now))) around (c .args .first) (c .args .size)
@@ -23,12 +26,12 @@ module _ (c : tie.Start) where
 surround-block-requires : tie.Need-surround-block-requires
 surround-block-requires c κs =
     let start = c .before .before .before .before .before .before .before .before in
-    (block-ready (ready start (c .before .before .around .given .1)) (start .pre .1) (start .pre .2), start .pre .3)
+    (block-ready (fits start (c .before .before .around .given .1)), start .pre .1)
 
 somewhere-block-requires : tie.Need-somewhere-block-requires
 somewhere-block-requires c κs =
     let start = c .before .before .before .before .before .before .before .before in
-    (range-ready (ready start (c .before .before .around2 .given .1)) (start .pre .2), start .pre .3)
+    (range-ready (fits start (c .before .before .around2 .given .1)), start .pre .1)
 
 returns : tie.Need-returns
 returns c = told (c .before .before .before .before .before .before .before .before .before .before .before) (c .before .before .before .before .before .around .given .1) (surround-filled (c .before .before .surround-block .ensures))

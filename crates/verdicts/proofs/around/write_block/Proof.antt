@@ -9,7 +9,7 @@ use lib.Seq.{length-take-le}
 use borrow.Author.Needs.{needs}
 use Rattle.words.specs.Bytes.{wordsOf, numbersOf}
 use Rattle.words.proofs.Words.{words-count, words-take}
-use Rattle.verdicts.specs.Around.{AroundReady, BlockFilled}
+use Rattle.verdicts.specs.Around.{BlockFits, BlockFilled}
 use Rattle.verdicts.proofs.Blocks.{lanes-bounded, block-written}
 use Rattle.verdicts.proofs.around.write_block.Statement.{statement}
 use Rattle.verdicts.proofs.around.write_block.Tie as tie
@@ -17,7 +17,7 @@ use Rattle.verdicts.proofs.around.write_block.Tie as tie
 module _ (c : tie.Start) where
   -- the line's words up to the end of the block are there
   room : c .args .begin + c .args .first * c .args .layout .places + c .args .size * c .args .layout .places ≤ length (wordsOf (c .args .answer .now))
-  room = omega (arith, c .pre .3, add-mul (c .args .first) (c .args .size) (c .args .layout .places))
+  room = omega (arith, c .pre .1, add-mul (c .args .first) (c .args .size) (c .args .layout .places))
 
   bytes : c .args .begin * 4 ≤ length (c .args .answer .now)
   bytes = omega (arith, room, words-count (c .args .answer .now))
@@ -25,8 +25,8 @@ module _ (c : tie.Start) where
   before : wordsOf (take (c .args .begin * 4) (c .args .answer .now)) ≡ take (c .args .begin) (wordsOf (c .args .answer .now))
   before = words-take (c .args .answer .now) (c .args .begin)
 
-  abbrev Ready : List ℕ → Type 0
-  Ready words = AroundReady words (c .args .layout) (wordsOf (c .args .sheet .now)) (numbersOf (wordsOf (c .args .distances .now))) (c .args .around) (c .args .first + c .args .size)
+  abbrev Fits : List ℕ → Type 0
+  Fits words = BlockFits words (c .args .layout) (wordsOf (c .args .sheet .now)) (numbersOf (wordsOf (c .args .distances .now))) (c .args .around) (c .args .first) (c .args .size)
 
   abbrev Filled : List ℕ → List ℕ → ℕ → Type 0
   Filled words = BlockFilled words (c .args .layout) (wordsOf (c .args .sheet .now)) (numbersOf (wordsOf (c .args .distances .now))) (c .args .around) (c .args .first) (c .args .size)
@@ -53,7 +53,7 @@ slice-aggregate-fill-block c = sym (length-take-le _ _ (bytes (c .before .before
 fill-block-requires : tie.Need-fill-block-requires
 fill-block-requires c κs =
     let begin = c .before .before .before .before .before in
-    (subst (Ready begin) (sym (before begin)) (begin .pre .0), begin .pre .1, begin .pre .2, omega (arith, begin .pre .0 .few-places))
+    (subst (Fits begin) (sym (before begin)) (begin .pre .0), omega (arith, begin .pre .0 .ready .few-places))
 
 mul-to : tie.Need-mul-to
 mul-to c = let begin = c .before .before .before .before .before .before .before .before in omega (arith, room begin, words-count (begin .args .answer .now))
@@ -65,14 +65,14 @@ write-lanes-requires : tie.Need-write-lanes-requires
 write-lanes-requires c κs =
     let block = c .before .before .before .before in
     let begin = start block in
-    (lanes-bounded (filled block) (begin .pre .0 .few-places .1) (begin .pre .2) (omega (arith, block .fill-block .kept .1 .1 .1 .1 .1 .1 .1 .0, begin .pre .0 .few-places)), room begin)
+    (lanes-bounded (filled block) (begin .pre .0 .ready .few-places .1) (begin .pre .0 .few) (omega (arith, block .fill-block .kept .1 .1 .1 .1 .1 .1 .1 .0, begin .pre .0 .ready .few-places)), room begin)
 
 returns : tie.Need-returns
 returns c =
     let block = c .before .before .before .before .before .before .before in
     let a = start block .args in
-    let (written, counted) = c .before .before .write-lanes .ensures in
-    block-written (filled block) (wordsOf (a .answer .now)) (a .begin + a .first * a .layout .places) _ _ written counted
+    let (written, (counted, tail)) = c .before .before .write-lanes .ensures in
+    (block-written (filled block) (wordsOf (a .answer .now)) (a .begin + a .first * a .layout .places) _ _ written counted, tail)
 
 pub write-block-spec : {M : Type 1} → statement M
 write-block-spec =

@@ -1,10 +1,10 @@
 -- Each turn puts the word of one place more after those of the sample, and counts its verdict.
-use mathlib.Core.Path.{_≡_, sym, ap, ap₂, _∙_}
+use mathlib.Core.Path.{_≡_, refl, sym, ap, ap₂, _∙_}
 use Prim.Native.Nat.{ℕ, _+_, _-_, _*_, _≤_, _<_}
 use native.Mathlib.Omega.{arith}
 use lib.ListN.{length, set}
 use borrow.Author.Needs.{needs}
-use Rattle.words.specs.Bytes.{wordsOf}
+use Rattle.words.specs.Bytes.{wordsOf, afterWords}
 use Rattle.words.specs.Rows.{row, put}
 use Rattle.words.proofs.Puts.{put-nil, put-more}
 use Rattle.words.proofs.Words.{words-count}
@@ -13,6 +13,7 @@ use Rattle.counting.proofs.Totals.{sum-more, yes-bound}
 use Rattle.values.specs.Chain.{chainWord, chainVerdict}
 use Rattle.values.proofs.Machine.{byte-count}
 use Rattle.verdicts.specs.Sample.{entry}
+use Rattle.words.proofs.Tails.{word-tail}
 use Rattle.verdicts.proofs.sample.write_sample.Statement.{statement}
 use Rattle.verdicts.proofs.sample.write_sample.Tie as tie
 
@@ -20,6 +21,7 @@ abbrev Inv-loop : tie.InvT-loop
 Inv-loop values stride offset places answer₀ to yes₀ l₀ answer sum l = (l ≤ places) × (length answer ≡ length answer₀)
     × (wordsOf answer ≡ put (wordsOf answer₀) to (row (λ k. chainWord (entry values stride offset k)) l))
     × (sum ≡ sumBelow (λ k. count (chainVerdict (entry values stride offset k))) l)
+    × (afterWords answer ≡ afterWords answer₀)
 
 abbrev μ-loop : tie.MeasureT-loop
 μ-loop values stride offset places answer₀ to yes₀ l₀ answer sum l = places - l
@@ -36,7 +38,7 @@ room c =
 
 loop-holds : tie.Need-loop-holds Inv-loop μ-loop
 unfolding row sumBelow
-loop-holds c = (search needs, search needs, sym (put-nil _ _), search needs)
+loop-holds c = (search needs, search needs, sym (put-nil _ _), search needs, refl)
 
 -- the index of the value
 inside : (c : tie.In-loop Inv-loop μ-loop) → c .before .loop .l * c .before .before .before .before .args .stride + c .before .before .before .before .args .offset < length (c .before .before .before .before .args .values .now)
@@ -80,14 +82,15 @@ loop-again c =
     let stored = c .before .before .before .put-word .ensures .0 ∙ ap (λ w. set w (start .args .to + loop .l) (word .result)) (loop .inv .2) in
     let more = put-more (wordsOf (start .args .answer .now)) (start .args .to) (λ k. chainWord (Value start k)) (loop .l) (word .result) (room (c .before .before .before .before .before .before .before) .0) (word .ensures) in
     let one = byte-count (c .yes .result) .0 ∙ ap count (c .yes .ensures) in
-    (search needs, search needs, stored ∙ more, ap₂ _+_ (loop .inv .3) one ∙ sym (sum-more _ (loop .l)))
+    let tail = word-tail (loop .answer) _ (start .args .to + loop .l) (word .result) (room (c .before .before .before .before .before .before .before) .1) (c .before .before .before .put-word .ensures .1) in
+    (search needs, search needs, stored ∙ more, ap₂ _+_ (loop .inv .3) one ∙ sym (sum-more _ (loop .l)), tail ∙ loop .inv .4)
 
 returns : tie.Need-returns Inv-loop μ-loop
 returns c =
     let start = c .before .before .before .before in
     let ended : c .before .loop .l ≡ start .args .places = omega arith in (
       c .before .loop .inv .2 ∙ ap (λ n. put (wordsOf (start .args .answer .now)) (start .args .to) (row (λ k. chainWord (Value start k)) n)) ended,
-      c .before .loop .inv .3 ∙ ap (sumBelow _) ended,
+      (c .before .loop .inv .3 ∙ ap (sumBelow _) ended, c .before .loop .inv .4),
     )
 
 pub write-sample-spec : {M : Type 1} → statement M

@@ -1,0 +1,117 @@
+-- Each turn passes one line and adds its words.
+use mathlib.Core.Path.{_≡_, refl, sym, ap₂, _∙_}
+use mathlib.Core.List.{List}
+use Prim.Native.Nat.{ℕ, _+_, _-_, _<_}
+use native.Mathlib.Omega.{arith}
+use lib.ListN.{length}
+use borrow.Author.Needs.{needs}
+use Rattle.words.specs.Bytes.{wordsOf, numbersOf}
+use Rattle.formulas.specs.Formulas.{Line}
+use Rattle.counting.specs.Totals.{sumBelow}
+use Rattle.sheet.specs.declared.check.Layout.{Layout}
+use Rattle.checks.specs.Limits.{mostLines}
+use Rattle.lines.proofs.Walk.{Walk, walk-step}
+use Rattle.answers.specs.Answer.{lineIndex, wordsNeeded}
+use Rattle.evaluation.proofs.AcceptedTable.{linesOf, Table, accepted-table, Passed, never-refused, line-passed, Ends, line-ends}
+use Rattle.evaluation.proofs.walk.words_needed.Statement.{statement}
+use Rattle.evaluation.proofs.walk.words_needed.Tie as tie
+
+abbrev Inv-loop : tie.InvT-loop
+Inv-loop sheet layout distances lengths₀ at₀ needed₀ k₀ k-end lengths at needed k =
+    Walk (wordsOf sheet) (layout .signals) (layout .samples) (linesOf sheet distances) k at lengths
+    × (needed ≡ 1 + lineIndex (layout .places) (linesOf sheet distances) k)
+
+abbrev μ-loop : tie.MeasureT-loop
+μ-loop sheet layout distances lengths₀ at₀ needed₀ k₀ k-end lengths at needed k = layout .lines - k
+
+-- the lines that the check has found, and what is known of them
+abbrev lines : tie.Start Inv-loop μ-loop → List Line
+lines c = linesOf (c .args .sheet .now) (c .args .distances .now)
+
+within : (c : tie.Start Inv-loop μ-loop) → Table (wordsOf (c .args .sheet .now)) (c .args .layout) (numbersOf (wordsOf (c .args .distances .now))) (lines c)
+within c = accepted-table (wordsOf (c .args .sheet .now)) (c .args .layout) (numbersOf (wordsOf (c .args .distances .now))) (c .pre)
+
+more : (c : tie.In-loop Inv-loop μ-loop) → c .before .loop .k < length (lines (c .before .before .before .before))
+more c = omega (arith, within (c .before .before .before .before) .counted, c .loop-test .taken)
+
+few : (c : tie.In-loop Inv-loop μ-loop) → c .before .loop .k < mostLines
+few c = omega (arith, more c, within (c .before .before .before .before) .sizes .count)
+
+-- the line that was decoded
+passed : (c : tie.After-known-told Inv-loop μ-loop)
+    → Passed (wordsOf (c .before .before .before .before .before .before .before .before .before .args .sheet .now)) (c .before .before .before .before .before .before .before .before .before .args .layout .signals) (c .before .before .before .before .before .before .before .before .before .args .layout .samples)
+    (lines (c .before .before .before .before .before .before .before .before .before)) (c .before .before .before .before .before .before .loop .k) (c .before .before .before .before .before .before .loop .lengths) (c .before .line .given .0 .0) (c .before .line .given .0 .1 .0)
+passed c =
+    let turn = c .before .before .before .before .before in
+    line-passed _ _ _ _ _ _ _ (turn .before .loop .inv .0) (more turn) _ (c .before .before .before .decode-line .ensures) _ _ (c .before .line .given .1)
+
+ends : (c : tie.After-known-told Inv-loop μ-loop)
+    → Ends (c .before .before .before .before .before .before .before .before .before .args .layout .places) (lines (c .before .before .before .before .before .before .before .before .before)) (c .before .before .before .before .before .before .loop .k) (c .before .line .given .0 .0 .length)
+ends c =
+    let turn = c .before .before .before .before .before in
+    line-ends _ _ _ _ (more turn) (within (turn .before .before .before .before) .sizes) (passed c .said)
+
+loop-holds : tie.Need-loop-holds Inv-loop μ-loop
+unfolding lineIndex sumBelow
+loop-holds c = (within (c .before .before) .starts, refl)
+
+slice-aggregate-decode-line : tie.Need-slice-aggregate-decode-line Inv-loop μ-loop
+slice-aggregate-decode-line c = sym (c .before .before .loop .inv .0 .room)
+
+decode-line-requires : tie.Need-decode-line-requires Inv-loop μ-loop
+decode-line-requires c κs =
+    let step = walk-step _ _ _ _ _ _ _ (c .before .before .loop .inv .0) (more (c .before)) in
+    (step .there, within (c .before .before .before .before .before) .sizes .samples .1)
+
+returns : tie.Need-returns Inv-loop μ-loop
+returns c =
+    let turn = c .before .before .before .before in
+    absurd (never-refused _ _ _ _ _ _ _ (turn .before .loop .inv .0) (more turn) _ (c .before .before .decode-line .ensures) _ _ (c .enum-told .given .1))
+
+mul-lengths : tie.Need-mul-lengths Inv-loop μ-loop
+mul-lengths c = omega (arith, few (c .before .before .before .before .before))
+
+array-write-lengths : tie.Need-array-write-lengths Inv-loop μ-loop
+array-write-lengths c = few (c .before .before .before .before .before)
+
+mul-needed : tie.Need-mul-needed Inv-loop μ-loop
+mul-needed c = omega (arith, ends (c .before .before), c .before .before .before .before .before .before .before .before .loop .inv .1)
+
+add-needed : tie.Need-add-needed Inv-loop μ-loop
+add-needed c = omega (arith, ends (c .before .before), c .before .before .before .before .before .before .before .before .loop .inv .1)
+
+add-needed-2 : tie.Need-add-needed-2 Inv-loop μ-loop
+add-needed-2 c = omega (arith, ends (c .before .before), c .before .before .before .before .before .before .before .before .loop .inv .1)
+
+loop-again : tie.Need-loop-again Inv-loop μ-loop
+loop-again c = (passed (c .before .before) .walk, omega (arith, ends (c .before .before), c .before .before .before .before .before .before .before .before .loop .inv .1))
+
+returns-2 : tie.Need-returns-2 Inv-loop μ-loop
+unfolding wordsNeeded
+returns-2 c =
+    let start = c .before .before .before .before in
+    let all : c .before .loop .k ≡ length (lines start) = omega (arith, c .loop-test .left, c .before .loop .inv .0 .passed, within start .counted) in
+    c .before .loop .inv .1 ∙ ap₂ (λ (l : Layout) (k : ℕ). 1 + lineIndex (l .places) (lines start) k) (start .pre .laid) all
+
+pub words-needed-spec : {M : Type 1} → statement M
+words-needed-spec =
+    tie.close
+    (tie.spec
+    Inv-loop
+    μ-loop
+    loop-holds
+    slice-aggregate-decode-line
+    decode-line-requires
+    (λ c. search needs)
+    returns
+    (λ c. search needs)
+    mul-lengths
+    array-write-lengths
+    (λ c. search needs)
+    mul-needed
+    add-needed
+    add-needed-2
+    (λ c. search needs)
+    (λ c. search needs)
+    loop-again
+    returns-2)

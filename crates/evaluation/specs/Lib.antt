@@ -1,0 +1,4 @@
+pub mod Writing
+pub mod Line
+pub mod Lines
+pub mod Lent

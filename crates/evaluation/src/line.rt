@@ -1,0 +1,43 @@
+// One line of the answer: its first word, and its verdicts, sample by sample or, over space, in blocks of samples.
+use lines::line::Line;
+use sheet::check::Layout;
+use verdicts::around::write_around;
+use verdicts::located::Located;
+use verdicts::located::locate;
+use verdicts::row::write_rows;
+use verdicts::tally::Tally;
+ghost use mathlib.Core.Path.{_≡_};
+ghost use Prim.Native.Nat.{_+_, _*_, _≤_};
+ghost use lib.ListN.{length};
+ghost use Rattle.words.specs.Bytes.{wordsOf, afterWords};
+ghost use Rattle.lines.specs.Decoding.{lineSaid};
+ghost use Rattle.evaluation.specs.Line.{LineReadyIn, LineWritten};
+
+// Kind 14, in bits 31..28.
+const LINE: u32 = 3758096384;
+
+// Writes a line from index `to` on, after the earlier lines, whose signals begin where `starts` tells.
+pub(crate) fn write_line(
+    line: Line,
+    sheet: &[u8],
+    layout: Layout,
+    distances: &[u8],
+    starts: &[usize],
+    answer: &mut [u8],
+    to: usize,
+) -> Tally
+    requires { ⌜ LineReadyIn (now sheet) layout (now distances) (now answer) (now starts) to (lineSaid line) × (to + (1 + line .length * layout .places) ≤ length (wordsOf (now answer))) ⌝ }
+    ensures written { λ r. ⌜ LineWritten (wordsOf (now (sheet .entry))) layout (wordsOf (now (answer .entry))) (now (starts .entry)) to (lineSaid line) (wordsOf (now (answer .exit))) r ⌝ }
+    ensures tail { λ _. ⌜ afterWords (now (answer .exit)) ≡ afterWords (now (answer .entry)) ⌝ }
+{
+    let operator = line.operator;
+    words::put_word(answer, to, LINE + line.length);
+    let begin = to + 1;
+    let samples = line.length as usize;
+    match locate(operator, starts) {
+        Located::Rows(row) => write_rows(row, sheet, layout, answer, begin, samples),
+        Located::Blocks(around) => {
+            write_around(around, sheet, layout, distances, answer, begin, samples)
+        }
+    }
+}

@@ -1,0 +1,69 @@
+// The lines of an accepted sheet, decoded again one after the other: how many words their answer needs, and their verdicts.
+use crate::line::write_line;
+use checks::limits::MOST_LINES;
+use lines::line::Decoded;
+use lines::line::decode_line;
+use sheet::check::Layout;
+use verdicts::tally::Tally;
+ghost use mathlib.Core.Path.{_≡_};
+ghost use Prim.Native.Nat.{_≤_};
+ghost use lib.ListN.{length};
+ghost use Rattle.words.specs.Bytes.{wordsOf, afterWords};
+ghost use Rattle.answers.specs.Answer.{lineIndex};
+ghost use Rattle.evaluation.specs.Lent.{AcceptingIn, foundIn, neededIn, LinesWrittenIn};
+
+// The index after the last line, and what the lines add to the result.
+pub struct Written {
+    pub end: usize,
+    pub tally: Tally,
+}
+
+// A word more for each line than verdicts, the head and the end.
+pub fn words_needed(sheet: &[u8], layout: Layout, distances: &[u8]) -> usize
+    requires { ⌜ AcceptingIn (now sheet) (now distances) layout ⌝ }
+    ensures { λ r. ⌜ r ≡ neededIn (now (sheet .entry)) (now (distances .entry)) ⌝ }
+{
+    let mut lengths = [0u32; MOST_LINES];
+    let mut at = layout.table;
+    let mut needed: usize = 2;
+    for k in 0..layout.lines {
+        match decode_line(sheet, at, layout.signals, layout.samples, k, &lengths) {
+            // the check has read every line already
+            Decoded::Refused(_, _) => return 0,
+            Decoded::Line(line, next) => {
+                lengths[k] = line.length;
+                needed += 1 + line.length as usize * layout.places;
+                at = next;
+            }
+        }
+    }
+    needed
+}
+
+// Writes every line, from index 1 on.
+pub fn write_lines(sheet: &[u8], layout: Layout, distances: &[u8], answer: &mut [u8]) -> Written
+    requires { ⌜ AcceptingIn (now sheet) (now distances) layout × (lineIndex (layout .places) (foundIn (now sheet) (now distances) .lines) (layout .lines) ≤ length (wordsOf (now answer))) ⌝ }
+    ensures written { λ r. ⌜ LinesWrittenIn (now (sheet .entry)) (now (distances .entry)) (now (answer .entry)) (now (answer .exit)) (r .end) (r .tally) ⌝ }
+    ensures tail { λ _. ⌜ afterWords (now (answer .exit)) ≡ afterWords (now (answer .entry)) ⌝ }
+{
+    let mut lengths = [0u32; MOST_LINES];
+    let mut starts = [0usize; MOST_LINES];
+    let mut at = layout.table;
+    let mut to: usize = 1;
+    let mut tally = Tally::NONE;
+    for k in 0..layout.lines {
+        match decode_line(sheet, at, layout.signals, layout.samples, k, &lengths) {
+            // the check has read every line already
+            Decoded::Refused(_, _) => return Written { end: 0, tally },
+            Decoded::Line(line, next) => {
+                let here = write_line(line, sheet, layout, distances, &starts, answer, to);
+                lengths[k] = line.length;
+                starts[k] = to + 1;
+                to += 1 + line.length as usize * layout.places;
+                at = next;
+                tally = tally.with(here);
+            }
+        }
+    }
+    Written { end: to, tally }
+}
