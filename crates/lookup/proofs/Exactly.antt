@@ -36,6 +36,10 @@ one-or-two (says false m) some = inr refl
 one-or-two nothing some = absurd some
 
 module _ (a : List ℕ) (i t l : ℕ) where
+  -- the word that is asked for
+  abbrev pub asked : ℕ
+  asked = wordAt a (lineStart a i + 1 + (t * headPlaces a + l))
+
   pub whole-looked : T (wholeAnswer a) → lookedUp a i t l ≡ verdictNumber (saidAt a i t l)
   unfolding lookedUp
   whole-looked = chosen (wholeAnswer a) _
@@ -45,7 +49,7 @@ module _ (a : List ℕ) (i t l : ℕ) where
   unfolding wholeAnswer
   whole-line whole line = all-e (λ _. true) (wholeLine a) (headLines a) (and-l (all (wholeLine a) (headLines a)) _ (and-r (wholeHead a) _ whole)) i line tt
 
-  line-says : T (wholeLine a i) → t < lineLength a i → l < headPlaces a → T (isSaid (saidBy (wordAt a (lineStart a i + 1 + (t * headPlaces a + l)))))
+  line-says : T (wholeLine a i) → t < lineLength a i → l < headPlaces a → T (isSaid (saidBy asked))
   unfolding wholeLineAt
   line-says whole sample place =
       let at : ℕ = lineStart a i in
@@ -53,17 +57,18 @@ module _ (a : List ℕ) (i t l : ℕ) where
       all-e (λ _. true) (λ j. isSaid (saidBy (wordAt a (at + 1 + j)))) (lineLength a i * headPlaces a)
       (and-r (between 1 (headSamples a) (lineLength a i)) _ length-good) (t * headPlaces a + l) (in-table sample place) tt
 
-  pub verdict-there : T (wholeAnswer a) → i < headLines a → t < lineLength a i → l < headPlaces a → (lookedUp a i t l ≡ 1) ⊎ (lookedUp a i t l ≡ 2)
+  pub says-there : i < headLines a → t < lineLength a i → l < headPlaces a → saidAt a i t l ≡ saidBy asked
   unfolding saidAt
-  verdict-there whole line sample place =
-      rw (whole-looked whole, lt-ltb i (headLines a) line, lt-ltb t (lineLength a i) sample, lt-ltb l (headPlaces a) place)
-      (one-or-two (saidBy (wordAt a (lineStart a i + 1 + (t * headPlaces a + l)))) (line-says (whole-line whole line) sample place))
+  says-there line sample place = simp (lt-ltb i (headLines a) line, lt-ltb t (lineLength a i) sample, lt-ltb l (headPlaces a) place)
+
+  pub verdict-there : T (wholeAnswer a) → i < headLines a → t < lineLength a i → l < headPlaces a → (lookedUp a i t l ≡ 1) ⊎ (lookedUp a i t l ≡ 2)
+  verdict-there whole line sample place = rw (whole-looked whole, says-there line sample place) (one-or-two (saidBy asked) (line-says (whole-line whole line) sample place))
 
   -- ---- no whole answer, or no such line, sample or place
   abbrev pub NotInIt : Type 0
   NotInIt = (headLines a ≤ i) ⊎ ((lineLength a i ≤ t) ⊎ (headPlaces a ≤ l))
 
-  says-none : NotInIt → verdictNumber (saidAt a i t l) ≡ 0
+  pub says-none : NotInIt → verdictNumber (saidAt a i t l) ≡ 0
   unfolding saidAt
   says-none = ⊎-elim (λ line. rw (le-ltb i (headLines a) line) refl) (⊎-elim
       (λ sample. rw (le-ltb t (lineLength a i) sample, and-false) refl)

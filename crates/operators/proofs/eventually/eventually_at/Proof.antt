@@ -40,9 +40,10 @@ greatest-next-requires c κs =
 -- either way
 greatest : (c : tie.Joined1) → c .if1 .greatest ≡ window (c .before .before) (c .before .before .args .t)
 greatest c =
-    let same : c .before .before .args .t - 1 + 1 ≡ c .before .before .args .t → window (c .before .before) (c .before .before .args .t - 1 + 1) ≡ window (c .before .before) (c .before .before .args .t) =
-    ap (window (c .before .before)) in
-    ⊎-elim (λ w. w .2 ∙ w .1 .ensures) (λ w. w .3 ∙ w .2 .ensures ∙ same (omega (arith, w .0 .left))) (c .if1 .came)
+    let start = c .before .before in
+    let t = start .args .t in
+    let same : t - 1 + 1 ≡ t → window start (t - 1 + 1) ≡ window start t = ap (window start) in
+    ⊎-elim {C = c .if1 .greatest ≡ window start t} (λ w. w .2 ∙ w .1 .ensures) (λ w. w .3 ∙ w .2 .ensures ∙ same (omega (arith, w .0 .left))) (c .if1 .came)
 
 turn-requires-2 : tie.Need-turn-requires-2
 turn-requires-2 c κs = rw (greatest c) (small (c .before .before) (c .before .before .args .t))
