@@ -15,8 +15,10 @@ fn greatest_ahead(words: &[u8], operand: Operand, bounds: Bounds, t: usize, l: u
     requires { ⌜ Reached (wordsOf (now words)) (operand .start) (operand .places) bounds t l ⌝ }
     ensures { λ r. ⌜ r ≡ aheadOf (wordsOf (now (words .entry))) operand bounds t l ⌝ }
 {
+    let first = t + bounds.lower;
+    let end = t + bounds.upper + 1;
     let mut best = values::bottom();
-    for u in t + bounds.lower..t + bounds.upper + 1 {
+    for u in first..end {
         best = values::greater(best, operand_at(words, operand, u, l));
     }
     best

@@ -16,11 +16,11 @@ use Rattle.operators.proofs.eventually.greatest_ahead.Statement.{statem
 use Rattle.operators.proofs.eventually.greatest_ahead.Tie as tie
 
 abbrev Inv-loop : tie.InvT-loop
-Inv-loop words operand t l best₀ u₀ u-end best u =
-    Counted u₀ u-end u × (best ≡ greatestOver chainLattice (leb u₀) (λ v. operandIn (wordsOf words) operand v l) u)
+Inv-loop words operand t l first end best₀ u₀ best u =
+    Counted u₀ end u × (best ≡ greatestOver chainLattice (leb u₀) (λ v. operandIn (wordsOf words) operand v l) u)
 
 abbrev μ-loop : tie.MeasureT-loop
-μ-loop words operand t l best₀ u₀ u-end best u = u-end - u
+μ-loop words operand t l first end best₀ u₀ best u = end - u
 
 end-fits : (c : tie.Start Inv-loop μ-loop) → c .args .t + c .args .bounds .upper + 1 ≤ length (c .args .words .now)
 end-fits c = reached-end (c .args .words .now) (c .pre)
@@ -29,25 +29,23 @@ end-fits c = reached-end (c .args .words .now) (c .pre)
 abbrev entry : tie.At-loop Inv-loop μ-loop → tie.Start Inv-loop μ-loop
 entry c = c .before .before .before .before .before
 
-add-u : tie.Need-add-u Inv-loop μ-loop
-add-u c = omega (arith, end-fits (c .before .before .before))
+add-first : tie.Need-add-first Inv-loop μ-loop
+add-first c = omega (arith, end-fits (c .before .before))
 
-add-u-end : tie.Need-add-u-end Inv-loop μ-loop
-add-u-end c = omega (arith, end-fits (c .before .before .before .before))
+add-end : tie.Need-add-end Inv-loop μ-loop
+add-end c = omega (arith, end-fits (c .before .before .before))
 
-add-u-end-2 : tie.Need-add-u-end-2 Inv-loop μ-loop
-add-u-end-2 c = omega (arith, end-fits (c .before .before .before .before))
+add-end-2 : tie.Need-add-end-2 Inv-loop μ-loop
+add-end-2 c = omega (arith, end-fits (c .before .before .before))
 
 loop-holds : tie.Need-loop-holds Inv-loop μ-loop
-loop-holds c =
-    let a = c .before .before .before .before .args in
-    (none-counted (omega arith), c .before .before .bottom .ensures ∙ sym (greatest-none _ _ (a .t + a .bounds .lower) (le-refl _)))
+loop-holds c = (none-counted (omega arith), c .bottom .ensures ∙ sym (greatest-none _ _ _ (le-refl _)))
 
 operand-at-requires : tie.Need-operand-at-requires Inv-loop μ-loop
 operand-at-requires c κs = reached-inside (entry (c .before) .pre) (c .loop-test .taken)
 
-add-u-2 : tie.Need-add-u-2 Inv-loop μ-loop
-add-u-2 c = omega (arith, end-fits (entry (c .before .before .before)))
+add-u : tie.Need-add-u Inv-loop μ-loop
+add-u c = omega (arith, end-fits (entry (c .before .before .before)))
 
 loop-again : tie.Need-loop-again Inv-loop μ-loop
 loop-again c =
@@ -66,14 +64,14 @@ greatest-ahead-spec =
     (tie.spec
     Inv-loop
     μ-loop
+    add-first
+    add-end
+    add-end-2
     (λ c κs. search needs)
-    add-u
-    add-u-end
-    add-u-end-2
     loop-holds
     operand-at-requires
     (λ c κs. search needs)
-    add-u-2
+    add-u
     (λ c. search needs)
     loop-again
     returns)

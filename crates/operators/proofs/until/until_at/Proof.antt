@@ -57,13 +57,13 @@ returns : tie.Need-returns Inv-loop μ-loop
 returns c =
     let a = entry (c .before .before) .args in
     let loop = c .before .before .loop in
-    loop .inv .2 ∙ sym (until-known _ _ (a .bounds .lower) (a .bounds .upper) (a .t) (a .l) (loop .u) (loop .inv .0 .to) (omega arith))
+    loop .inv .2 ∙ sym (until-known _ _ (a .bounds .lower) (a .bounds .upper) (a .t) (a .l) (loop .u) (omega arith) (omega arith))
 
 signal-at-requires : tie.Need-signal-at-requires Inv-loop μ-loop
-signal-at-requires c κs = reached-inside (entry (c .before .before) .pre .0) (c .before .loop-test .taken)
+signal-at-requires c κs = reached-inside (entry (c .before .before) .pre .0) (omega arith)
 
 signal-at-requires-2 : tie.Need-signal-at-requires-2 Inv-loop μ-loop
-signal-at-requires-2 c κs = reached-inside (entry (c .before .before .before .before) .pre .1) (c .before .before .before .loop-test .taken)
+signal-at-requires-2 c κs = reached-inside (entry (c .before .before .before .before) .pre .1) (omega arith)
 
 add-u : tie.Need-add-u Inv-loop μ-loop
 add-u c = omega (arith, end-fits (entry (c .before .before .before .before .before .before .before)))
