@@ -5,5 +5,5 @@ pub mod AnswerSays
 pub mod WholeAnswer
 pub mod Accepted
 pub mod Steadiness
-pub mod Points
+pub mod Pinned
 pub mod Fitting

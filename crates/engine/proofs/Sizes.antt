@@ -13,7 +13,7 @@ use Rattle.sheet.specs.Layout.{Layout}
 use Rattle.sheet.proofs.Whole.{accepted-sheet}
 use Rattle.answers.specs.Answer.{lineIndex, lineWords}
 use Rattle.answers.proofs.AnswerWords.{lines-size}
-use Rattle.answers.proofs.WholeAnswer.{InAnswer, index-bound}
+use Rattle.answers.proofs.WholeAnswer as Whole
 use Rattle.answers.proofs.Accepted.{sizes}
 use Rattle.evaluation.specs.Lines.{found, Accepting}
 
@@ -26,11 +26,11 @@ module _ {s : List ℕ} {layout : Code.Layout} {distances : List ℕ} (accepting
   abbrev L : Layout
   L = found s (length distances)
 
-  within : InAnswer (L .sizes .places) (L .sizes .samples) (L .lines)
+  within : Whole.InAnswer (L .sizes .places) (L .sizes .samples) (L .lines)
   within = sizes s (length distances) L (accepted-sheet s (length distances) L (accepting .accepts))
 
   pub limits : (layout .places ≤ mostPlaces) × (layout .lines ≤ mostLines) × (layout .samples ≤ mostSamples)
   limits = rw (accepting .laid) (within .places .1, within .count .1, within .samples .1)
 
   pub end-bound : lineIndex (L .sizes .places) (L .lines) (length (L .lines)) < 2 ^ 28
-  end-bound = omega (arith, index-bound (L .sizes .places) (L .sizes .samples) (L .lines) within (length (L .lines)) (omega arith), within .count)
+  end-bound = Whole.end-bound (L .sizes .places) (L .sizes .samples) (L .lines) within

@@ -6,9 +6,10 @@ use verdicts::located::Located;
 use verdicts::located::locate;
 use verdicts::row::write_rows;
 use verdicts::tally::Tally;
+ghost use mathlib.Core.Path.{_≡_};
 ghost use Prim.Native.Nat.{_+_, _*_, _≤_};
 ghost use lib.ListN.{length};
-ghost use Rattle.words.specs.Bytes.{wordsOf};
+ghost use Rattle.words.specs.Bytes.{wordsOf, afterWords};
 ghost use Rattle.lines.specs.Decoding.{lineSaid};
 ghost use Rattle.evaluation.specs.Line.{LineReadyIn, LineWritten};
 
@@ -26,7 +27,8 @@ pub(crate) fn write_line(
     to: usize,
 ) -> Tally
     requires { ⌜ LineReadyIn (now sheet) layout (now distances) (now answer) (now starts) to (lineSaid line) × (to + (1 + line .length * layout .places) ≤ length (wordsOf (now answer))) ⌝ }
-    ensures { λ r. ⌜ LineWritten (wordsOf (now (sheet .entry))) layout (wordsOf (now (answer .entry))) (now (starts .entry)) to (lineSaid line) (wordsOf (now (answer .exit))) r ⌝ }
+    ensures written { λ r. ⌜ LineWritten (wordsOf (now (sheet .entry))) layout (wordsOf (now (answer .entry))) (now (starts .entry)) to (lineSaid line) (wordsOf (now (answer .exit))) r ⌝ }
+    ensures tail { λ _. ⌜ afterWords (now (answer .exit)) ≡ afterWords (now (answer .entry)) ⌝ }
 {
     let operator = line.operator;
     words::put_word(answer, to, LINE + line.length);

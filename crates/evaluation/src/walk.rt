@@ -8,7 +8,7 @@ use verdicts::tally::Tally;
 ghost use mathlib.Core.Path.{_≡_};
 ghost use Prim.Native.Nat.{_≤_};
 ghost use lib.ListN.{length};
-ghost use Rattle.words.specs.Bytes.{wordsOf};
+ghost use Rattle.words.specs.Bytes.{wordsOf, afterWords};
 ghost use Rattle.answers.specs.Answer.{lineIndex};
 ghost use Rattle.evaluation.specs.Lent.{AcceptingIn, foundIn, neededIn, LinesWrittenIn};
 
@@ -43,7 +43,8 @@ pub fn words_needed(sheet: &[u8], layout: Layout, distances: &[u8]) -> usize
 // Writes every line, from index 1 on.
 pub fn write_lines(sheet: &[u8], layout: Layout, distances: &[u8], answer: &mut [u8]) -> Written
     requires { ⌜ AcceptingIn (now sheet) (now distances) layout × (lineIndex (layout .places) (foundIn (now sheet) (now distances) .lines) (layout .lines) ≤ length (wordsOf (now answer))) ⌝ }
-    ensures { λ r. ⌜ LinesWrittenIn (now (sheet .entry)) (now (distances .entry)) (now (answer .entry)) (now (answer .exit)) (r .end) (r .tally) ⌝ }
+    ensures written { λ r. ⌜ LinesWrittenIn (now (sheet .entry)) (now (distances .entry)) (now (answer .entry)) (now (answer .exit)) (r .end) (r .tally) ⌝ }
+    ensures tail { λ _. ⌜ afterWords (now (answer .exit)) ≡ afterWords (now (answer .entry)) ⌝ }
 {
     let mut lengths = [0u32; MOST_LINES];
     let mut starts = [0usize; MOST_LINES];

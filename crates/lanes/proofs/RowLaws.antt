@@ -1,12 +1,13 @@
--- Rows that are written strip by strip, and where the words of a signal and the distances of a centre stand.
-use mathlib.Core.Path.{_≡_, refl, subst, _∙_}
-use mathlib.Core.Bool.{Bool, true, false}
+-- Rows that are written strip by strip, masks and flags, and where the words of a signal and the distances of a centre stand.
+use mathlib.Core.Path.{_≡_, refl, ap, subst, _∙_}
+use mathlib.Core.Bool.{Bool, true, false, cond}
 use mathlib.Core.List.{List}
 use Prim.Native.Nat.{ℕ, _+_, _*_, _<_, _≤_}
 use native.Mathlib.Nat.{le-mul-of-pos-right}
 use native.Mathlib.Omega.{arith}
 use borrow.Author.Count.{below-more}
 use lib.ListN.{length, set}
+use lib.Seq.{getD-set-same, getD-set-other}
 use Rattle.words.specs.Bytes.{wordsOf, numbersOf}
 use Rattle.words.proofs.Numbers.{length-numbers}
 use Rattle.words.proofs.Rows.{in-table}
@@ -14,7 +15,6 @@ use Rattle.logic.specs.Iteration.{masked}
 use Rattle.lanes.specs.Lanes.{lanes, laneOf}
 use Rattle.lanes.specs.Strips.{Written}
 use Rattle.lanes.specs.Rows.{RowOf, RowWritten, flagged, Marked, maskedBy}
-use lib.Seq.{getD-set-same, getD-set-other}
 use Rattle.lanes.proofs.StripLaws.{written-already}
 
 row-none : (f : ℕ → ℕ → ℕ) (row : List ℕ) → RowOf f row 0
@@ -42,6 +42,9 @@ module _ {k : ℕ} {f : ℕ → ℕ → ℕ} {before row : List ℕ} (w : RowWri
     long = long ∙ w .long;
   }
 
+  pub row-written-strip : {row′ : List ℕ} → Written k lanes (λ lane. f lane k) row row′ → length row′ ≡ length row → RowWritten (k + 1) f before row′
+  row-written-strip s long = row-written-more s long (λ _ _. refl)
+
   -- a strip that holds already what would be written
   pub row-written-already : ((lane : ℕ) → laneOf before lane k ≡ f lane k) → RowWritten (k + 1) f before row
   row-written-already e = row-written-more (written-already (λ lane l. w .kept k lane (omega arith) l)) refl (λ lane _. e lane)
@@ -57,6 +60,12 @@ masked-in test row lane place e = rw e refl
 pub masked-out : (test : ℕ → Bool) (row : List ℕ) (lane place : ℕ) → test place ≡ false → 0 ≡ maskedBy test row lane place
 unfolding masked
 masked-out test row lane place e = rw e refl
+
+-- one strip more, masked by the outcome of the test
+pub masked-strip : (test : ℕ → Bool) (from : List ℕ) {k : ℕ} {before row row′ : List ℕ} {r : Bool} → RowWritten k (maskedBy test from) before row
+    → Written k lanes (λ lane. cond r (laneOf from lane k) 0) row row′ → length row′ ≡ length row → r ≡ test k → RowWritten (k + 1) (maskedBy test from) before row′
+unfolding masked
+masked-strip test from {k} w s long e = row-written-more w s long (λ lane _. ap (λ (t : Bool). cond t (laneOf from lane k) 0) e)
 
 pub marked-none : (test : ℕ → Bool) (flags : List Bool) → Marked test flags 0
 marked-none test flags = record { flag = λ p l. absurd (omega arith) }

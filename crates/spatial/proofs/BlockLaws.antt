@@ -16,9 +16,9 @@ use Rattle.values.specs.Signals.{signalIn, inTable}
 use Rattle.values.proofs.Valid.{valid-kept}
 use Rattle.lanes.specs.declared.rows.Block.{Block}
 use Rattle.lanes.specs.Lanes.{lanes, laneOf}
+use Rattle.lanes.specs.Rows.{RowOf, laneSignal}
 use Rattle.spatial.specs.Surround.{joinedBy, surroundValue, surroundRounds, blockRounds}
 use Rattle.spatial.specs.Steps.{ValidRow}
-use Rattle.lanes.specs.Rows.{RowOf, laneSignal}
 use Rattle.spatial.specs.Blocks.{laneSurround, laneRounds, CentresDone, BlockReady, BlockDone}
 use Rattle.counting.proofs.Totals.{most-same, most-front}
 use Rattle.spatial.proofs.Lowest.{surround-low}

@@ -20,12 +20,12 @@ use Rattle.values.proofs.Valid.{valid-kept}
 use Rattle.values.proofs.Projections.{margin-kept}
 use Rattle.values.proofs.ChainSurround.{surround-rested}
 use Rattle.lanes.specs.Lanes.{lanes, laneOf}
-use Rattle.spatial.specs.Surround.{joinedBy}
-use Rattle.spatial.specs.Steps.{RoadsIn, ValidRow, Start, Settled, roundsIn}
 use Rattle.lanes.specs.Rows.{RowOf, within, maskedBy}
-use Rattle.spatial.specs.Blocks.{ballOf, CentreMasked, laneSurround, laneRounds, CentreDone, CentresDone, RowsReady}
 use Rattle.lanes.specs.Strips.{Written}
 use Rattle.lanes.proofs.RowLaws.{row-written-none, row-written-more}
+use Rattle.spatial.specs.Surround.{joinedBy}
+use Rattle.spatial.specs.Steps.{RoadsIn, ValidRow, Start, Settled, roundsIn}
+use Rattle.spatial.specs.Blocks.{ballOf, CentreMasked, laneSurround, laneRounds, CentreDone, CentresDone, RowsReady}
 use Rattle.spatial.proofs.Outside.{masked-low}
 
 abbrev MaskedRow : (ℕ → Bool) → List ℕ → List ℕ → ℕ → Type 0

@@ -20,9 +20,9 @@ use Rattle.roads.specs.Roads.{roadAt, weightAt, firstPlace, secondPlace, joins,
 use Rattle.values.specs.Chain.{chainLattice, highest}
 use Rattle.values.proofs.Naturals.{meet-min}
 use Rattle.lanes.specs.Lanes.{lanes, laneOf}
+use Rattle.lanes.specs.Strips.{Written}
 use Rattle.spatial.specs.Surround.{joinedBy}
 use Rattle.spatial.specs.Steps.{RoadsIn, Bounded, Joined, RoadPulled, LeastOf, Stepped, Round}
-use Rattle.lanes.specs.Strips.{Written}
 
 -- ---- leastOver on chain numbers
 cond-le : (t : Bool) (z a b : ℕ) → (T t → z ≤ a) → z ≤ b → z ≤ cond t a b

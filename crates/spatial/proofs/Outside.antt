@@ -1,4 +1,5 @@
--- Places outside a ball: all rows are lowest there and stay so, so that a round is the same whether or not it touches them.
+-- Places outside a ball: all rows are lowest there and stay so, so that a round, and a comparison of rows, is the same whether or not it touches
+-- them.
 use mathlib.Core.Path.{_≡_, refl, sym, ap, _∙_}
 use mathlib.Core.Bool.{Bool, true, false, _&&_, _||_, and-false, false≢true}
 use mathlib.Core.List.{List}
@@ -13,10 +14,10 @@ use Rattle.values.specs.Signals.{inTable}
 use Rattle.lanes.specs.Lanes.{lanes, laneOf}
 use Rattle.lanes.specs.Strips.{Written, StripsApart}
 use Rattle.lanes.specs.Rows.{RowOf, RowWritten, flagged, Marked, maskedBy}
-use Rattle.spatial.specs.Steps.{LowOutside, LowRows, Joined, RoadPulled, Stepped, RowsApart}
 use Rattle.lanes.proofs.StripLaws.{written-already}
-use Rattle.spatial.proofs.Lowest.{meet-low}
 use Rattle.lanes.proofs.RowLaws.{row-more, masked-out}
+use Rattle.spatial.specs.Steps.{LowOutside, LowRows, Joined, RoadPulled, Stepped, RowsApart}
+use Rattle.spatial.proofs.Lowest.{meet-low}
 
 -- outside a ball nothing is in a range that ends with it
 outside-range : (distances : List ℕ) (n centre lower upper place : ℕ) → inTable distances n centre 0 upper place ≡ false → inTable distances n centre lower upper place ≡ false
@@ -44,27 +45,6 @@ cleared-low {inside} {before} w room = record {
   room = omega (arith, w .long);
   low = λ place lane b l e. w .written .at place lane b l ∙ sym (masked-out (flagged inside) before lane place e);
 }
-
--- ---- strip after strip
-module _ (h : ℕ → ℕ) (a b : List ℕ) where
-  pub rows-none : RowsApart false h a b 0
-  rows-none = record { alike = λ e p lane l. absurd (omega arith); apart = λ e. absurd (false≢true e) }
-
-  pub rows-more : (r : Bool) (k : ℕ) → RowsApart false h a b k → r ≡ false → StripsApart r h a b k lanes → RowsApart false h a b (k + 1)
-  rows-more r k w e s = record {
-    alike = λ z p lane l m. below-more (λ q. h (laneOf a lane q) ≡ h (laneOf b lane q)) k (λ q c. w .alike z q lane c m) (s .alike e lane m) p l;
-    apart = λ z. absurd (false≢true z);
-  }
-
-  pub rows-found : (r : Bool) (k n : ℕ) → k < n → r ≡ true → StripsApart r h a b k lanes → RowsApart true h a b n
-  rows-found r k n l e s = record {
-    alike = λ z. absurd (false≢true (sym z));
-    apart = λ _. let u = s .apart e in (k, u .0, l, u .1, u .2);
-  }
-
--- ---- one strip
-pub strips-alike : (h : ℕ → ℕ) (a b : List ℕ) (place : ℕ) → ((lane : ℕ) → lane < lanes → laneOf a lane place ≡ laneOf b lane place) → StripsApart false h a b place lanes
-strips-alike h a b place e = record { alike = λ _ lane l. ap h (e lane l); apart = λ z. absurd (false≢true z) }
 
 module _ {inside : List Bool} where
   -- a strip inside is written
@@ -94,6 +74,26 @@ module _ {inside : List Bool} where
       neither : (t u : Bool) → (t || u) ≡ false → (t ≡ false) × (u ≡ false)
       neither true u h = absurd (false≢true (sym h))
       neither false u h = (refl, h)
+
+-- ---- comparing, strip after strip
+pub strips-alike : (h : ℕ → ℕ) (a b : List ℕ) (place : ℕ) → ((lane : ℕ) → lane < lanes → laneOf a lane place ≡ laneOf b lane place) → StripsApart false h a b place lanes
+strips-alike h a b place e = record { alike = λ _ lane l. ap h (e lane l); apart = λ z. absurd (false≢true z) }
+
+module _ (h : ℕ → ℕ) (a b : List ℕ) where
+  pub rows-none : RowsApart false h a b 0
+  rows-none = record { alike = λ e p lane l. absurd (omega arith); apart = λ e. absurd (false≢true e) }
+
+  pub rows-more : (r : Bool) (k : ℕ) → RowsApart false h a b k → r ≡ false → StripsApart r h a b k lanes → RowsApart false h a b (k + 1)
+  rows-more r k w e s = record {
+    alike = λ z p lane l m. below-more (λ q. h (laneOf a lane q) ≡ h (laneOf b lane q)) k (λ q c. w .alike z q lane c m) (s .alike e lane m) p l;
+    apart = λ z. absurd (false≢true z);
+  }
+
+  pub rows-found : (r : Bool) (k n : ℕ) → k < n → r ≡ true → StripsApart r h a b k lanes → RowsApart true h a b n
+  rows-found r k n l e s = record {
+    alike = λ z. absurd (false≢true (sym z));
+    apart = λ _. let u = s .apart e in (k, u .0, l, u .1, u .2);
+  }
 
 -- ---- joining, place after place
 pub record Joining (inside : List Bool) (x right old both : List ℕ) (k : ℕ) : Type 0 where

@@ -1,5 +1,5 @@
 -- Somewhere and everywhere in lanes: one place more is taken into the least or the greatest, and what all places come to is the operator's value.
-use mathlib.Core.Path.{_≡_, refl, ap, _∙_}
+use mathlib.Core.Path.{_≡_, refl, sym, ap, _∙_}
 use mathlib.Core.Bool.{Bool, true, false, cond}
 use mathlib.Core.List.{List}
 use Prim.Native.Nat.{ℕ, zero, suc, _+_, _-_, _≤_, _<_, min, max}
@@ -18,8 +18,8 @@ use Rattle.lanes.specs.Lanes.{lanes, laneOf}
 use Rattle.lanes.specs.Strips.{ofTwo, Written}
 use Rattle.lanes.specs.declared.rows.Block.{Block}
 use Rattle.lanes.specs.Rows.{RowOf, RowWritten, laneSignal, within}
-use Rattle.spatial.specs.Ranges.{somewhereIn, ofNone, gathered, gatheredIn, RangeReady, RangeDone}
 use Rattle.lanes.proofs.StripLaws.{written-over}
+use Rattle.spatial.specs.Ranges.{somewhereIn, ofNone, gathered, gatheredIn, RangeReady, RangeDone}
 use Rattle.spatial.proofs.BlockLaws.{lane-signal, lane-zero}
 
 -- ---- the least or the greatest, one number more
@@ -44,20 +44,20 @@ gathered-past true test f k e = rw (add-one k, e, meet-min) (omega (arith, least
 gathered-past false test f k e = rw (add-one k, e, join-max) (omega arith)
 
 -- a strip has taken in one place more
-pub gathering-more : (least : Bool) (test : ℕ → Bool) (row : List ℕ) (centre k : ℕ) {s t u : List ℕ} → test k ≡ true
+pub gathering-more : (least : Bool) (test : ℕ → Bool) (row : List ℕ) (centre k : ℕ) {r : Bool} {s t u : List ℕ} → r ≡ test k → r ≡ true
     → Written centre lanes (λ lane. gathered least test (laneOf row lane) k) s t
     → Written centre lanes (λ lane. ofTwo least (laneOf t lane centre) (laneOf row lane k)) t u
     → Written centre lanes (λ lane. gathered least test (laneOf row lane) (k + 1)) s u
-gathering-more least test row centre k e v w =
+gathering-more least test row centre k told taken v w =
     let over = written-over v w in
     record {
-      written = λ lane l. over .written lane l ∙ ap (λ (c : ℕ). ofTwo least c (laneOf row lane k)) (v .written lane l) ∙ gathered-more least test (laneOf row lane) k e;
+      written = λ lane l. over .written lane l ∙ ap (λ (c : ℕ). ofTwo least c (laneOf row lane k)) (v .written lane l) ∙ gathered-more least test (laneOf row lane) k (sym told ∙ taken);
       kept = over .kept;
     }
 
-pub gathering-past : (least : Bool) (test : ℕ → Bool) (row : List ℕ) (centre k : ℕ) {s t : List ℕ} → test k ≡ false
+pub gathering-past : (least : Bool) (test : ℕ → Bool) (row : List ℕ) (centre k : ℕ) {r : Bool} {s t : List ℕ} → r ≡ test k → r ≡ false
     → Written centre lanes (λ lane. gathered least test (laneOf row lane) k) s t → Written centre lanes (λ lane. gathered least test (laneOf row lane) (k + 1)) s t
-gathering-past least test row centre k e v = record { written = λ lane l. v .written lane l ∙ gathered-past least test (laneOf row lane) k e; kept = v .kept }
+gathering-past least test row centre k told left v = record { written = λ lane l. v .written lane l ∙ gathered-past least test (laneOf row lane) k (sym told ∙ left); kept = v .kept }
 
 -- ---- the dual: the least is the opposite of the greatest of the opposites
 one-more : (t : Bool) (a b c : ℕ) → a ≡ highest - b → a ≤ highest → c ≤ highest → min a (cond t c highest) ≡ highest - max b (cond t (highest - c) 0)

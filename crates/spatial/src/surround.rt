@@ -96,25 +96,19 @@ fn surround_centres(
     let places = network.places;
     let mut most: u64 = 0;
     for centre in 0..places {
+        let flags = &mut inside[..places];
         mask_centre(
             left,
             right,
             distances,
             bounds,
             centre,
-            &mut inside[..places],
+            flags,
             &mut x,
             &mut ring,
         );
-        let rounds = surround_centre(
-            &mut x,
-            &ring,
-            &mut old,
-            &mut both,
-            &inside[..places],
-            sheet,
-            network,
-        );
+        let ball = &inside[..places];
+        let rounds = surround_centre(&mut x, &ring, &mut old, &mut both, ball, sheet, network);
         copy_strip(&x, out, centre);
         most = greater_of(most, rounds);
     }

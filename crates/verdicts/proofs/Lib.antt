@@ -1,4 +1,3 @@
-pub mod Tails
 pub mod Points
 pub mod LineRows
 pub mod Blocks

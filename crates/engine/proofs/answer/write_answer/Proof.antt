@@ -33,7 +33,7 @@ room c = omega (arith, c .pre .1)
 
 -- the index that the lines have come to, and the lengths that stay
 ends : (c : tie.After-struct-known) → (c .before .before .before .before .write-lines .result .end ≡ End (c .before .before .before .before .before .before .before .before .before .before .before .before .before .before)) × (length (c .before .before .before .before .write-lines .last .1 .1 .1 .0) ≡ length (c .before .before .before .before .before .before .before .before .before .before .before .before .before .before .args .answer .now))
-ends c = (c .before .before .before .before .write-lines .ensures .ends, c .before .before .before .before .write-lines .kept .1 .1 .1 .0 ∙ c .before .before .before .before .before .before .before .before .put-word .kept .0)
+ends c = (c .before .before .before .before .write-lines .ensures .0 .ends, c .before .before .before .before .write-lines .kept .1 .1 .1 .0 ∙ c .before .before .before .before .before .before .before .before .put-word .kept .0)
 
 head-word-requires : tie.Need-head-word-requires
 head-word-requires c κs = limits (c .before .before .before .before .pre .0)
@@ -98,7 +98,7 @@ parts c =
     let index : c .before .before .before .before .before .before .before .before .write-lines .result .end ≡ 1 + length middle =
     ends (c .before .before .before .before) .0 ∙ sym (lines-end (network s L) (L .sizes .samples) (recording s L) (L .lines) (length (L .lines))) in
     let head = c .before .before .before .before .before .before .before .before .before .before .before .before .before .head-word .ensures ∙ ap (λ l. wordOf 13 (l .places * 2 ^ 20 + l .lines * 2 ^ 12 + l .samples)) (start .pre .0 .laid) in
-    let lines = c .before .before .before .before .before .before .before .before .write-lines .ensures .written ∙ ap (λ v. put v 1 middle) (c .before .before .before .before .before .before .before .before .before .before .before .before .put-word .ensures .0 ∙ ap (set w 0) head) in
+    let lines = c .before .before .before .before .before .before .before .before .write-lines .ensures .0 .written ∙ ap (λ v. put v 1 middle) (c .before .before .before .before .before .before .before .before .before .before .before .before .put-word .ensures .0 ∙ ap (set w 0) head) in
     c .before .before .before .put-word2 .ensures .0
     ∙ ap₂ (λ v i. set v i (15 * 2 ^ 28 + i)) lines index
     ∙ three-parts w middle (headWord (network s L) (L .sizes .samples) (recording s L) (L .lines)) _ (omega (arith, room start, ends (c .before .before .before .before)))
@@ -112,7 +112,7 @@ returns c =
     let bytes = c .before .before .before .before .before .before .before .put-word2 .last .0 in
     let k = lines .result .end + 1 in
     let fits = inside (c .before .before .before .before) in
-    let count : length (Whole start) ≡ k = whole-length start ∙ ap (λ n. n + 1) (sym (lines .ensures .ends)) in
+    let count : length (Whole start) ≡ k = whole-length start ∙ ap (λ n. n + 1) (sym (lines .ensures .0 .ends)) in
     let same : length (wordsOf bytes) ≡ length (wordsOf (start .args .answer .now)) =
     omega (arith, ends (c .before .before .before .before .before .before .before .before), c .before .before .before .before .before .before .before .put-word2 .kept .0, words-count bytes, words-count (start .args .answer .now)) in
     let zeros = c .before .before .fill-zero .ensures ∙ ap (λ n. replicate n 0) (ap length (tail-list bytes (k * 4) fits) ∙ length-drop (k * 4) bytes) in
@@ -121,9 +121,9 @@ returns c =
       record {
         written = ap wordsOf cleared
             ∙ zeros-behind bytes (wordsOf (start .args .answer .now)) (Whole start) k (parts (c .before .before .before .before)) same count (omega (arith, room start, ends (c .before .before .before .before .before .before .before .before)));
-        ends = lines .ensures .ends;
-        greatest = lines .ensures .greatest;
-        counted = lines .ensures .counted;
+        ends = lines .ensures .0 .ends;
+        greatest = lines .ensures .0 .greatest;
+        counted = lines .ensures .0 .counted;
       },
       cleared-words-tail (start .args .answer .now) bytes _ (k * 4) long (omega (arith, room start, ends (c .before .before .before .before .before .before .before .before))) cleared,
     )

@@ -5,7 +5,8 @@ use Prim.Native.Nat.{ℕ, _+_, _*_, _≤_, _<_}
 use native.Mathlib.Omega.{arith}
 use lib.ListN.{length, take, set}
 use borrow.Author.Needs.{needs}
-use Rattle.words.specs.Bytes.{wordsOf, numbersOf}
+use Rattle.words.specs.Bytes.{wordsOf, numbersOf, afterWords}
+use Rattle.words.proofs.Tails.{word-tail}
 use Rattle.words.proofs.Words.{words-count}
 use Rattle.lines.specs.Decoding.{lineSaid}
 use Rattle.verdicts.specs.declared.located.Located.{Located}
@@ -50,6 +51,10 @@ module _ (c : tie.After-locate) where
     reads : Reads (wordsOf (start .args .sheet .now)) (start .args .layout) (numbersOf (wordsOf (start .args .distances .now))) (take (start .args .to + 1) first) located (start .args .line .length)
     reads = rw before-line (here .reads)
 
+  -- the bytes past the last word
+  tail : afterWords (c .before .before .before .before .put-word .last .0) ≡ afterWords (start .args .answer .now)
+  tail = word-tail (start .args .answer .now) _ (start .args .to) _ room (c .before .before .before .before .put-word .ensures .1)
+
 add-begin : tie.Need-add-begin
 add-begin c = let begin = c .before .before .before .before .before .before .before .before .before in omega (arith, words-count (begin .args .answer .now), begin .pre .1)
 
@@ -71,13 +76,15 @@ returns : tie.Need-returns
 returns c =
     let arm = c .before .before .before .before .before in
     let way = arm .before .before in
-    located-written (answer way) (start way .args .to) (start way .args .line) (room way) (put-first way) _ (Rows (arm .row .given .0 .0)) (here way (arm .row .given .1)) (c .before .before .write-rows .ensures .0)
+    let rows = c .before .before .write-rows .ensures in
+    (located-written (answer way) (start way .args .to) (start way .args .line) (room way) (put-first way) _ (Rows (arm .row .given .0 .0)) (here way (arm .row .given .1)) (rows .0), rows .1 ∙ tail way)
 
 returns-2 : tie.Need-returns-2
 returns-2 c =
     let arm = c .before .before .before .before .before in
     let way = arm .before .before in
-    located-written (answer way) (start way .args .to) (start way .args .line) (room way) (put-first way) _ (Blocks (arm .around .given .0 .0)) (here way (arm .around .given .1)) (c .before .before .write-around .ensures .0)
+    let blocks = c .before .before .write-around .ensures in
+    (located-written (answer way) (start way .args .to) (start way .args .line) (room way) (put-first way) _ (Blocks (arm .around .given .0 .0)) (here way (arm .around .given .1)) (blocks .0), blocks .1 ∙ tail way)
 
 pub write-line-spec : {M : Type 1} → statement M
 write-line-spec =

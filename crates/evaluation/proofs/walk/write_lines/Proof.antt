@@ -5,7 +5,7 @@ use Prim.Native.Nat.{_+_, _*_, _-_, _<_}
 use native.Mathlib.Omega.{arith}
 use lib.ListN.{length, set}
 use borrow.Author.Needs.{needs}
-use Rattle.words.specs.Bytes.{wordsOf, numbersOf}
+use Rattle.words.specs.Bytes.{wordsOf, numbersOf, afterWords}
 use Rattle.formulas.specs.Formulas.{Line}
 use Rattle.checks.specs.Limits.{mostLines}
 use Rattle.lines.proofs.Walk.{Walk, walk-step}
@@ -20,6 +20,7 @@ Inv-loop sheet layout distances answer₀ lengths₀ starts₀ at₀ to₀ tally
     Walk (wordsOf sheet) (layout .signals) (layout .samples) (linesOf sheet distances) k at lengths
     × (length answer ≡ length answer₀)
     × LinesDone (wordsOf sheet) layout (linesOf sheet distances) (wordsOf answer₀) k (wordsOf answer) starts to tally
+    × (afterWords answer ≡ afterWords answer₀)
 
 abbrev μ-loop : tie.MeasureT-loop
 μ-loop sheet layout distances answer₀ lengths₀ starts₀ at₀ to₀ tally₀ k₀ k-end answer lengths starts at to tally k = layout .lines - k
@@ -52,7 +53,7 @@ ends c =
     line-ends _ _ _ _ (more turn) (within (turn .before .before .before .before .before) .sizes) (passed c .said)
 
 loop-holds : tie.Need-loop-holds Inv-loop μ-loop
-loop-holds c = (within (c .before .before .before) .starts, refl, none-done _ _ _ _)
+loop-holds c = (within (c .before .before .before) .starts, refl, none-done _ _ _ _, refl)
 
 slice-aggregate-decode-line : tie.Need-slice-aggregate-decode-line Inv-loop μ-loop
 slice-aggregate-decode-line c = sym (c .before .before .loop .inv .0 .room)
@@ -120,7 +121,7 @@ module _ (c : tie.After-write-line Inv-loop μ-loop) where
   done : LinesDone (wordsOf (start .args .sheet .now)) (start .args .layout) (lines start) (wordsOf (start .args .answer .now)) (turn .before .loop .k + 1)
       (wordsOf (c .write-line .last .1 .1 .1 .1 .1 .0)) (set (turn .before .loop .starts) (turn .before .loop .k) (turn .before .loop .to + 1))
       (turn .before .loop .to + (1 + c .before .before .before .before .line .given .0 .0 .length * start .args .layout .places)) (together (turn .before .loop .tally) (c .write-line .result))
-  done = line-done _ _ _ _ (within start) _ (start .pre .1) _ (more turn) _ _ _ _ (turn .before .loop .inv .2) _ (passed (c .before .before .before) .said) _ _ (c .write-line .ensures)
+  done = line-done _ _ _ _ (within start) _ (start .pre .1) _ (more turn) _ _ _ _ (turn .before .loop .inv .2) _ (passed (c .before .before .before) .said) _ _ (c .write-line .ensures .0)
 
 with-requires : tie.Need-with-requires Inv-loop μ-loop
 with-requires c κs =
@@ -130,13 +131,13 @@ with-requires c κs =
 loop-again : tie.Need-loop-again Inv-loop μ-loop
 loop-again c =
     let line = c .before .before .before .before .before in
-    (passed (line .before .before .before) .walk, line .write-line .kept .1 .1 .1 .1 .1 .0 ∙ turn line .before .loop .inv .1, rw (c .with .ensures) (done line))
+    (passed (line .before .before .before) .walk, line .write-line .kept .1 .1 .1 .1 .1 .0 ∙ turn line .before .loop .inv .1, rw (c .with .ensures) (done line), line .write-line .ensures .1 ∙ turn line .before .loop .inv .3)
 
 returns-2 : tie.Need-returns-2 Inv-loop μ-loop
 returns-2 c =
     let start = c .before .before .before .before .before in
     let all : c .before .loop .k ≡ length (lines start) = omega (arith, c .loop-test .left, c .before .loop .inv .0 .passed, within start .counted) in
-    all-done _ _ _ _ _ _ _ _ _ (start .pre .0) all (c .before .loop .inv .2)
+    (all-done _ _ _ _ _ _ _ _ _ (start .pre .0) all (c .before .loop .inv .2), c .before .loop .inv .3)
 
 pub write-lines-spec : {M : Type 1} → statement M
 write-lines-spec =

@@ -1,10 +1,10 @@
 -- Each turn decodes the strip of one place more.
 use Prim.Native.Nat.{_-_, _≤_}
-use mathlib.Core.Path.{_≡_, refl}
+use mathlib.Core.Path.{_≡_}
 use native.Mathlib.Omega.{arith}
 use Rattle.words.specs.Bytes.{wordsOf}
 use Rattle.lanes.specs.Rows.{RowWritten, laneSignal}
-use Rattle.lanes.proofs.RowLaws.{row-written-none, row-written-more, row-written-all}
+use Rattle.lanes.proofs.RowLaws.{row-written-none, row-written-strip, row-written-all}
 use borrow.Author.Needs.{needs}
 use Rattle.lanes.proofs.rows.load.Statement.{statement}
 use Rattle.lanes.proofs.rows.load.Tie as tie
@@ -21,7 +21,7 @@ loop-holds c = (search needs, row-written-none _ _)
 loop-again : tie.Need-loop-again Inv-loop μ-loop
 loop-again c =
     let strip = c .before .before .load-strip in
-    (search needs, row-written-more (c .before .before .before .before .before .loop .inv .1) (strip .ensures) (strip .kept .1 .1 .1 .1 .1 .0) (λ _ _. refl))
+    (search needs, row-written-strip (c .before .before .before .before .before .loop .inv .1) (strip .ensures) (strip .kept .1 .1 .1 .1 .1 .0))
 
 returns : tie.Need-returns Inv-loop μ-loop
 returns c = let ended : c .before .loop .place ≡ c .before .before .before .before .args .places = omega arith in row-written-all (c .before .loop .inv .1) ended

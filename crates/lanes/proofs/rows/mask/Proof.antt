@@ -1,12 +1,9 @@
 -- Each turn masks the strip of one place more.
 use Prim.Native.Nat.{_-_, _≤_}
-use mathlib.Core.Path.{_≡_, ap}
-use mathlib.Core.Bool.{Bool, cond}
+use mathlib.Core.Path.{_≡_}
 use native.Mathlib.Omega.{arith}
-use Rattle.logic.specs.Iteration.{masked}
-use Rattle.lanes.specs.Lanes.{laneOf}
 use Rattle.lanes.specs.Rows.{RowWritten, within, maskedBy}
-use Rattle.lanes.proofs.RowLaws.{row-written-none, row-written-more, row-written-all}
+use Rattle.lanes.proofs.RowLaws.{row-written-none, row-written-all, masked-strip}
 use borrow.Author.Needs.{needs}
 use Rattle.lanes.proofs.rows.mask.Statement.{statement}
 use Rattle.lanes.proofs.rows.mask.Tie as tie
@@ -21,15 +18,10 @@ loop-holds : tie.Need-loop-holds Inv-loop μ-loop
 loop-holds c = (search needs, row-written-none _ _)
 
 loop-again : tie.Need-loop-again Inv-loop μ-loop
-unfolding masked
 loop-again c =
     let g = c .before .before .before .before .before .before .before .before .before .before .args in
-    let h = c .before .before .before .before .before .before .loop in
-    let strip = c .before .before .mask-strip in (
-      search needs,
-      row-written-more (h .inv .1) (strip .ensures) (strip .kept .1 .0)
-          (λ lane _. ap (λ (t : Bool). cond t (laneOf (g .from .now) lane (h .place)) 0) (c .before .before .before .before .in-range .ensures)),
-    )
+    let strip = c .before .before .mask-strip in
+    (search needs, masked-strip (within (g .distances .now) (g .places) (g .centre) (g .bounds)) (g .from .now) (c .before .before .before .before .before .before .loop .inv .1) (strip .ensures) (strip .kept .1 .0) (c .before .before .before .before .in-range .ensures))
 
 returns : tie.Need-returns Inv-loop μ-loop
 returns c = let ended : c .before .loop .place ≡ c .before .before .before .before .before .args .places = omega arith in row-written-all (c .before .loop .inv .1) ended

@@ -37,17 +37,17 @@ module _ (c : tie.After-round Inv-loop μ-loop) where
   abbrev start : tie.Start Inv-loop μ-loop
   start = c .before .before .before .before .before .before .before .before .before .before .before
 
-  abbrev loop : tie.At-loop Inv-loop μ-loop
-  loop = c .before .before .before .before
+  abbrev head : tie.At-loop Inv-loop μ-loop
+  head = c .before .before .before .before
 
-  turn : let g = start .args in Turn (wordsOf (g .sheet .now)) (g .network .roads) (length (g .inside .now)) (g .right .now) (g .x .now) (loop .loop .x) (c .round .last .1 .1 .0) (c .round .last .0) (loop .loop .rounds)
-  turn = record { valid-start = start .pre .0 .valid; valid-right = start .pre .0 .right-valid; going = loop .loop .inv .4; round = c .round .ensures .0 }
+  turn : let g = start .args in Turn (wordsOf (g .sheet .now)) (g .network .roads) (length (g .inside .now)) (g .right .now) (g .x .now) (head .loop .x) (c .round .last .1 .1 .0) (c .round .last .0) (head .loop .rounds)
+  turn = record { valid-start = start .pre .0 .valid; valid-right = start .pre .0 .right-valid; going = head .loop .inv .4; round = c .round .ensures .0 }
 
   -- the invariant after it, but for the rounds
   again : {r : ℕ} → let g = start .args in Going (wordsOf (g .sheet .now)) (g .network .roads) (length (g .inside .now)) (g .right .now) (g .x .now) (c .round .last .0) r
       → Inv-loop (g .x .now) (g .right .now) (g .old .now) (g .both .now) (g .inside .now) (g .sheet .now) (g .network) 1 (c .round .last .0) (c .round .last .1 .1 .0) (c .round .last .1 .1 .1 .0) r
   again going =
-      let h = loop .loop in
+      let h = head .loop in
       let k = c .round .kept in
       (c .round .ensures .1, k .0 ∙ h .inv .1, k .1 .1 .0 ∙ h .inv .2, k .1 .1 .1 .0 ∙ h .inv .3, going)
 
@@ -59,14 +59,14 @@ module _ (c : tie.Then1 Inv-loop μ-loop) where
   abbrev fell : tie.After-round Inv-loop μ-loop
   fell = c .before .before .before .before .before .before .before .before .before .before
 
-  falls : total (fell .round .last .0) (length (start fell .args .inside .now)) < total (loop fell .loop .x) (length (start fell .args .inside .now))
+  falls : total (fell .round .last .0) (length (start fell .args .inside .now)) < total (head fell .loop .x) (length (start fell .args .inside .now))
   falls = total-falls (turn fell) (λ v. v / 2) (c .before .changed .result) (c .if1 .taken) (c .before .changed .ensures)
 
 add-rounds : tie.Need-add-rounds Inv-loop μ-loop
 add-rounds c =
     let s = start (fell c) in
     let b = total-bound (s .args .x .now) (length (s .args .inside .now)) (record { bound = λ place lane l m. s .pre .0 .valid .valid place lane l m .bounded }) in
-    omega (arith, falls c, loop (fell c) .loop .inv .4 .falls)
+    omega (arith, falls c, head (fell c) .loop .inv .4 .falls)
 
 loop-again : tie.Need-loop-again Inv-loop μ-loop
 loop-again c = again (fell c) (going-fell (turn (fell c)) (c .before .changed .result) (c .if1 .taken) (c .before .changed .ensures))

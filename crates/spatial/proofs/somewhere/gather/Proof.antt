@@ -1,5 +1,5 @@
 -- Each turn takes in one place more, if it is in range.
-use mathlib.Core.Path.{_≡_, sym, subst, _∙_}
+use mathlib.Core.Path.{_≡_, subst, _∙_}
 use mathlib.Core.Logic.{⊎-elim}
 use Prim.Native.Nat.{ℕ, _-_, _≤_}
 use native.Mathlib.Omega.{arith}
@@ -8,8 +8,8 @@ use borrow.Author.Needs.{needs}
 use Rattle.lanes.specs.Lanes.{lanes, laneOf}
 use Rattle.lanes.specs.Strips.{Written}
 use Rattle.lanes.specs.Rows.{within}
-use Rattle.spatial.specs.Ranges.{gathered}
 use Rattle.lanes.proofs.StripLaws.{written-already, written-over}
+use Rattle.spatial.specs.Ranges.{gathered}
 use Rattle.spatial.proofs.Ranges.{gathered-none, gathering-more, gathering-past}
 use Rattle.spatial.proofs.somewhere.gather.Statement.{statement}
 use Rattle.spatial.proofs.somewhere.gather.Tie as tie
@@ -30,10 +30,10 @@ loop-again : tie.Need-loop-again Inv-loop μ-loop
 loop-again c =
     let a = c .before .before .before .before .before .before .before .before .before .before .before .before .args in
     let loop = c .before .before .before .loop in
-    let told = sym (c .before .in-range .ensures) in
+    let told = c .before .in-range .ensures in
     ⊎-elim
-    (λ w. rw (w .5) (search needs, w .2 .kept .0 ∙ loop .inv .1, gathering-more (a .least) _ (a .row .now) (a .centre) (loop .place) (told ∙ w .0 .taken) (loop .inv .2) (w .2 .ensures)))
-    (λ w. rw (w .1) (search needs, loop .inv .1, gathering-past (a .least) _ (a .row .now) (a .centre) (loop .place) (told ∙ w .0 .left) (loop .inv .2)))
+    (λ w. rw (w .5) (search needs, w .2 .kept .0 ∙ loop .inv .1, gathering-more (a .least) _ (a .row .now) (a .centre) (loop .place) told (w .0 .taken) (loop .inv .2) (w .2 .ensures)))
+    (λ w. rw (w .1) (search needs, loop .inv .1, gathering-past (a .least) _ (a .row .now) (a .centre) (loop .place) told (w .0 .left) (loop .inv .2)))
     (c .if1 .came)
 
 returns : tie.Need-returns Inv-loop μ-loop

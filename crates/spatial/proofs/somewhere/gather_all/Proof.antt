@@ -1,11 +1,11 @@
 -- Each turn gathers about one centre more.
-use mathlib.Core.Path.{_≡_, refl}
+use mathlib.Core.Path.{_≡_}
 use Prim.Native.Nat.{_-_, _≤_}
 use native.Mathlib.Omega.{arith}
 use borrow.Author.Needs.{needs}
 use Rattle.lanes.specs.Rows.{RowWritten}
+use Rattle.lanes.proofs.RowLaws.{row-written-none, row-written-strip, row-written-all}
 use Rattle.spatial.specs.Ranges.{gatheredIn}
-use Rattle.lanes.proofs.RowLaws.{row-written-none, row-written-more, row-written-all}
 use Rattle.spatial.proofs.somewhere.gather_all.Statement.{statement}
 use Rattle.spatial.proofs.somewhere.gather_all.Tie as tie
 
@@ -22,7 +22,7 @@ loop-again : tie.Need-loop-again Inv-loop μ-loop
 loop-again c =
     let loop = c .before .before .before .before .before .loop in
     let here = c .before .before .gather in
-    (search needs, row-written-more (loop .inv .1) (here .ensures) (here .kept .1 .0) (λ _ _. refl))
+    (search needs, row-written-strip (loop .inv .1) (here .ensures) (here .kept .1 .0))
 
 returns : tie.Need-returns Inv-loop μ-loop
 returns c =

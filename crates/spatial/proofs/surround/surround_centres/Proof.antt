@@ -6,7 +6,7 @@ use mathlib.Core.List.{List, _++_}
 use native.Mathlib.Omega.{arith}
 use lib.ListN.{length, take, drop}
 use lib.Seq.{length-take-le, length-front, take-at}
-use Rattle.words.specs.Bytes.{wordsOf, numbersOf}
+use Rattle.words.specs.Bytes.{wordsOf}
 use Rattle.checks.specs.Limits.{mostPlaces}
 use Rattle.lanes.specs.Lanes.{lanes}
 use Rattle.spatial.specs.Steps.{Start, Settled}
@@ -33,8 +33,8 @@ loop-holds c = (search needs, search needs, search needs, search needs, search n
 all : (c : tie.In-loop Inv-loop μ-loop) → let n = c .before .before .before .before .before .before .before .args .network .places in length (take n (c .before .loop .inside)) ≡ n
 all c = length-take-le _ (c .before .loop .inside) (omega (arith, c .before .before .before .before .before .before .before .pre .0 .few-places))
 
-slice-aggregate-mask-centre : tie.Need-slice-aggregate-mask-centre Inv-loop μ-loop
-slice-aggregate-mask-centre c = sym (all (c .before))
+slice-aggregate-flags : tie.Need-slice-aggregate-flags Inv-loop μ-loop
+slice-aggregate-flags c = sym (all (c .before))
 
 mask-centre-requires : tie.Need-mask-centre-requires Inv-loop μ-loop
 mask-centre-requires c κs =
@@ -45,6 +45,9 @@ mask-centre-requires c κs =
 module _ (c : tie.After-mask-centre Inv-loop μ-loop) where
   abbrev start : tie.Start Inv-loop μ-loop
   start = c .before .before .before .before .before .before .before .before .before .before .before
+
+  abbrev head : tie.At-loop Inv-loop μ-loop
+  head = c .before .before .before .before .before
 
   abbrev n : ℕ
   n = start .args .network .places
@@ -58,39 +61,41 @@ module _ (c : tie.After-mask-centre Inv-loop μ-loop) where
   abbrev ring : List ℕ
   ring = c .mask-centre .last .1 .1 .1 .1 .1 .1 .1 .0
 
-  masked : CentreMasked n (start .args .left .now) (start .args .right .now) (start .args .distances .now) (start .args .bounds) (c .before .before .before .before .before .loop .centre) flags x ring
-  masked = subst (λ (k : ℕ). CentreMasked k (start .args .left .now) (start .args .right .now) (start .args .distances .now) (start .args .bounds) (c .before .before .before .before .before .loop .centre) flags x ring) (all (c .before .before .before .before)) (c .mask-centre .ensures)
+  masked : CentreMasked n (start .args .left .now) (start .args .right .now) (start .args .distances .now) (start .args .bounds) (head .loop .centre) flags x ring
+  masked = subst (λ (k : ℕ). CentreMasked k (start .args .left .now) (start .args .right .now) (start .args .distances .now) (start .args .bounds) (head .loop .centre) flags x ring) (all (c .before .before .before .before)) (c .mask-centre .ensures)
 
   count : length flags ≡ n
   count = c .mask-centre .kept .1 .1 .1 .1 .1 .0 ∙ all (c .before .before .before .before)
 
-  -- the flags are lent again
-  again : take n (flags ++ drop n (c .before .before .before .before .before .loop .inside)) ≡ flags
+  x-long : length x ≡ mostPlaces * lanes
+  x-long = c .mask-centre .kept .1 .1 .1 .1 .1 .1 .0 ∙ head .loop .inv .1
+
+  ring-long : length ring ≡ mostPlaces * lanes
+  ring-long = c .mask-centre .kept .1 .1 .1 .1 .1 .1 .1 .0 ∙ head .loop .inv .2
+
+  -- the flags are back, and are lent again
+  inside-long : length (flags ++ drop n (head .loop .inside)) ≡ mostPlaces
+  inside-long = length-front (head .loop .inside) flags n (c .mask-centre .kept .1 .1 .1 .1 .1 .0) ∙ head .loop .inv .5
+
+  again : take n (flags ++ drop n (head .loop .inside)) ≡ flags
   again = take-at flags _ n count
 
 array-share-prefix-inside : tie.Need-array-share-prefix-inside Inv-loop μ-loop
-array-share-prefix-inside c =
-    let m = c .before .before .before .before .before .before .before in
-    let h = c .before .before .before .before .before .before .before .before .before .before .before .before .loop in
-    let long : length (flags m ++ drop (n m) (h .inside)) ≡ mostPlaces = length-front (h .inside) (flags m) (n m) (m .mask-centre .kept .1 .1 .1 .1 .1 .0) ∙ h .inv .5 in
-    subst (λ (k : ℕ). n m ≤ k) (sym long) (start m .pre .0 .few-places)
+array-share-prefix-inside c = let m = c .before .before .before in subst (λ (k : ℕ). n m ≤ k) (sym (inside-long m)) (start m .pre .0 .few-places)
 
-slice-aggregate-surround-centre-5 : tie.Need-slice-aggregate-surround-centre-5 Inv-loop μ-loop
-slice-aggregate-surround-centre-5 c = let m = c .before .before .before .before .before .before .before .before in sym (ap length (again m) ∙ count m)
+slice-aggregate-ball : tie.Need-slice-aggregate-ball Inv-loop μ-loop
+slice-aggregate-ball c = let m = c .before .before .before .before in sym (ap length (again m) ∙ count m)
 
 surround-centre-requires : tie.Need-surround-centre-requires Inv-loop μ-loop
 surround-centre-requires c κs =
     let m = c .before .before .before .before .before .before .before .before in
     let g = start m .args in
-    let h = c .before .before .before .before .before .before .before .before .before .before .before .before .before .loop in
-    let kx : length (x m) ≡ length (h .x) = m .mask-centre .kept .1 .1 .1 .1 .1 .1 .0 in
-    let kr : length (ring m) ≡ length (h .ring) = m .mask-centre .kept .1 .1 .1 .1 .1 .1 .1 .0 in
+    let h = head m .loop in
     let few = start m .pre .0 .few-places in
-    let counted = count m in
     subst
     (λ (f : List Bool). Start (wordsOf (g .sheet .now)) (g .network .roads) f (x m) (ring m) × (length f * lanes ≤ length (h .old)) × (length f * lanes ≤ length (h .both)))
     (sym (again m))
-    (centre-start (start m .pre .0) (masked m) counted (omega arith) (omega arith), omega arith, omega arith)
+    (centre-start (start m .pre .0) (masked m) (count m) (omega (arith, x-long m)) (omega (arith, ring-long m)), omega (arith, count m, h .inv .3), omega (arith, count m, h .inv .4))
 
 add-centre : tie.Need-add-centre Inv-loop μ-loop
 add-centre c =
@@ -101,18 +106,18 @@ loop-again : tie.Need-loop-again Inv-loop μ-loop
 loop-again c =
     let m = c .before .before .before .before .before .before .before .before .before .before .before .before .before .before .before .before .before .before in
     let g = start m .args in
-    let h = c .before .before .before .before .before .before .before .before .before .before .before .before .before .before .before .before .before .before .before .before .before .before .before .loop in
+    let h = head m .loop in
+    let here = c .before .before .before .before .before .before .before .before .before .before .before .before .before .before .before .before .before .before .before .before .before .before .loop-test .taken in
     let s = c .before .before .before .before .before .before .before .before .before .surround-centre in
-    let w = c .before .before .before .copy-strip in
+    let copy = c .before .before .before .copy-strip in
     let settled = subst (λ (k : ℕ). Settled (wordsOf (g .sheet .now)) (g .network .roads) k (ring m) (x m) (s .result) (s .last .0)) (ap length (again m) ∙ count m) (s .ensures) in
-    let done = centres-more (h .inv .6) (centre-done (start m .pre .0) (masked m) (c .before .before .before .before .before .before .before .before .before .before .before .before .before .before .before .before .before .before .before .before .before .before .loop-test .taken) settled) (w .ensures) (w .kept .1 .0) in
-    let k = m .mask-centre .kept in (
-      omega (arith, c .before .before .before .before .before .before .before .before .before .before .before .before .before .before .before .before .before .before .before .before .before .before .loop-test .taken),
-      s .kept .0 ∙ k .1 .1 .1 .1 .1 .1 .0 ∙ h .inv .1,
-      k .1 .1 .1 .1 .1 .1 .1 .0 ∙ h .inv .2,
+    let done = centres-more (h .inv .6) (centre-done (start m .pre .0) (masked m) here settled) (copy .ensures) (copy .kept .1 .0) in (
+      omega (arith, here),
+      s .kept .0 ∙ x-long m,
+      ring-long m,
       s .kept .1 .1 .0 ∙ h .inv .3,
       s .kept .1 .1 .1 .0 ∙ h .inv .4,
-      length-front (h .inside) (flags m) (n m) (k .1 .1 .1 .1 .1 .0) ∙ h .inv .5,
+      inside-long m,
       rw (c .greater-of .ensures) done,
     )
 
@@ -131,16 +136,16 @@ surround-centres-spec =
     μ-loop
     loop-holds
     (λ c. search needs)
-    slice-aggregate-mask-centre
+    slice-aggregate-flags
     (λ c. search needs)
     (λ c. search needs)
     mask-centre-requires
-    (λ c. search needs)
-    (λ c. search needs)
-    (λ c. search needs)
-    (λ c. search needs)
     array-share-prefix-inside
-    slice-aggregate-surround-centre-5
+    slice-aggregate-ball
+    (λ c. search needs)
+    (λ c. search needs)
+    (λ c. search needs)
+    (λ c. search needs)
     surround-centre-requires
     (λ c. search needs)
     (λ c κs. search needs)

@@ -13,7 +13,7 @@ use Rattle.counting.proofs.Totals.{sum-more, yes-bound}
 use Rattle.values.specs.Chain.{chainWord, chainVerdict}
 use Rattle.values.proofs.Machine.{byte-count}
 use Rattle.verdicts.specs.Sample.{entry}
-use Rattle.verdicts.proofs.Tails.{word-tail}
+use Rattle.words.proofs.Tails.{word-tail}
 use Rattle.verdicts.proofs.sample.write_sample.Statement.{statement}
 use Rattle.verdicts.proofs.sample.write_sample.Tie as tie
 

@@ -1,5 +1,5 @@
--- A sheet for what the settled examples leave open, worked out from document 01 by hand: in its answer each of the following decides a verdict. Two places
--- with a road of 2, one signal, three samples.
+-- A sheet for what the settled examples leave open, worked out by hand from document 01: until's last sample, lower bounds above 0, codes 2, 4, 8 and 10
+-- and a negative constant each decide a verdict of its answer.
 use mathlib.Core.Path.{_≡_, refl}
 use mathlib.Core.List.{List, [], _∷_}
 use Prim.Native.Nat.{ℕ}
@@ -7,15 +7,16 @@ use lib.ListN.{replicate}
 use Rattle.answers.specs.Judged.{judged}
 use Rattle.answers.proofs.Computing.{answerOf}
 
--- the samples of place 0 are 1, -5 and 4, those of place 1 are -4, 0 and 6
--- 0  at least -3: a constant below 0
--- 1  at most 2: the constant less the sample
+-- Two places with a road of 2 and one signal: 1, -5, 4 at place 0 and -4, 0, 6 at place 1. The lines:
+-- 0  at least -3
+-- 1  at most 2
 -- 2  0 and 1
 -- 3  0 or 1
--- 4  0 until 1, at 1..1: place 0 has 1 at the next sample, but 0 not there, and 1 at the present one, which is too early
--- 5  eventually 0, at 1..1: place 0 has it at the present sample only
--- 6  always 1, at 0..1
--- 7  somewhere 0, at 1..2: a place does not count for itself
+-- 4  0 until 1, in 1..1. At sample 0 of place 0 it is no: line 1 holds at the next sample, but line 0 does not there; both hold at the present one,
+--    which is too early
+-- 5  eventually 0, in 1..1. At sample 0 of place 0 it is no: line 0 holds at the present sample alone
+-- 6  always 1, in 0..1
+-- 7  somewhere 0, in 1..2: a place does not count for itself
 sheetP : List ℕ
 sheetP =
     0x10201003 ∷ 0x20000001 ∷ 0x30000002 ∷ 0x40000001 ∷ 0x47FFFFFC ∷ 0x47FFFFFB ∷ 0x40000000 ∷ 0x40000004 ∷ 0x40000006 ∷ 0x50100000
