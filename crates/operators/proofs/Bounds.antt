@@ -13,12 +13,12 @@ use Rattle.logic.specs.Lattice.{greatestOver}
 use Rattle.logic.proofs.Keeps.{Keeps, greatest-kept}
 use Rattle.logic.proofs.TotalOrder.{each-kept}
 use Rattle.values.specs.Chain.{chainLattice, highest}
-use Rattle.values.specs.Signals.{signalIn}
+use Rattle.values.specs.Signals.{signalIn, turned}
 use Rattle.values.proofs.Naturals.{leb-trans, leb-total}
 use Rattle.values.proofs.ChainWords.{signal-bound}
-use Rattle.operators.specs.Reach.{Reached, operandIn, aheadOf}
-use Rattle.operators.specs.declared.window.Bounds as B
-use Rattle.operators.specs.declared.signals.Operand as O
+use Rattle.operators.specs.Reach.{Reached}
+use Rattle.operators.specs.Rows.{ahead}
+use Rattle.operators.specs.declared.window.Bounds as Code
 use Rattle.operators.proofs.Folds.{eventually-all}
 use Rattle.operators.proofs.RowLaws.{turned-small}
 
@@ -33,27 +33,28 @@ meet-bound a b h k = bounded-kept .keeps-meet a b a b h k
 pub greatest-bound : (test : ℕ → Bool) (f : ℕ → ℕ) (n : ℕ) → ((k : ℕ) → k < n → f k ≤ highest) → greatestOver chainLattice test f n ≤ highest
 greatest-bound test f n h = greatest-kept chainLattice chainLattice (λ c _. c ≤ highest) bounded-kept test f f n h
 
--- ---- nor does an operand have a greater value
+-- ---- nor does what an operator reads
 
-module _ (words : List ℕ) (operand : O.Operand) where
-  pub operand-bound : (t l : ℕ) → operandIn words operand t l ≤ highest
-  operand-bound t l = turned-small (operand .negated) (signalIn words (operand .start) (operand .places)) t l (signal-bound words (operand .start) (operand .places) t l)
+pub turned-bound : (negated : Bool) (words : List ℕ) (start n t l : ℕ) → turned negated (signalIn words start n) t l ≤ highest
+turned-bound negated words start n t l = turned-small negated (signalIn words start n) t l (signal-bound words start n t l)
 
-  pub ahead-bound : (bounds : B.Bounds) (t l : ℕ) → aheadOf words operand bounds t l ≤ highest
-  ahead-bound bounds t l = rw (eventually-all (operandIn words operand) l (λ u. operand-bound u l) (bounds .lower) (bounds .upper) t)
-      (greatest-bound (leb (t + bounds .lower)) (λ u. operandIn words operand u l) (t + bounds .upper + 1) (λ u _. operand-bound u l))
+pub ahead-bound : (negated : Bool) (words : List ℕ) (start n lower upper t l : ℕ) → ahead (turned negated (signalIn words start n)) lower upper t l ≤ highest
+ahead-bound negated words start n lower upper t l =
+    let small : (u : ℕ) → turned negated (signalIn words start n) u l ≤ highest = λ u. turned-bound negated words start n u l in
+    rw (eventually-all (turned negated (signalIn words start n)) l small lower upper t)
+    (greatest-bound (leb (t + lower)) (λ u. turned negated (signalIn words start n) u l) (t + upper + 1) (λ u _. small u))
 
 -- ---- what is read is there, and its index fits the machine
 
 pub in-row : (t : ℕ) {l places : ℕ} → l < places → t * places + l < (t + 1) * places
 in-row t {l} {places} b = let sample : t < t + 1 = omega arith in in-table sample b
 
-pub reached-inside : {words : List ℕ} {start places : ℕ} {bounds : B.Bounds} {t l u : ℕ} → Reached words start places bounds t l → u < t + bounds .upper + 1
+pub reached-inside : {words : List ℕ} {start places : ℕ} {bounds : Code.Bounds} {t l u : ℕ} → Reached words start places bounds t l → u < t + bounds .upper + 1
     → start + (u * places + l) < length words
 reached-inside reached before = omega (arith, in-table before (reached .place), reached .window .inside)
 
 -- each sample has a word, and a word has bytes
-pub reached-end : (bytes : List ℕ) {start places : ℕ} {bounds : B.Bounds} {t l : ℕ} → Reached (wordsOf bytes) start places bounds t l → t + bounds .upper + 1 ≤ length bytes
+pub reached-end : (bytes : List ℕ) {start places : ℕ} {bounds : Code.Bounds} {t l : ℕ} → Reached (wordsOf bytes) start places bounds t l → t + bounds .upper + 1 ≤ length bytes
 reached-end bytes {start} {places} {bounds} {t} reached =
     let some : 0 < places = omega (arith, reached .place) in
     omega (arith, le-mul-of-pos-right (t + bounds .upper + 1) some, words-count bytes, reached .window .inside)

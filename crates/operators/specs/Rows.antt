@@ -62,5 +62,8 @@ module _ (words : List ℕ) (places : ℕ) where
   abbrev pub untilIn : (left right lower upper : ℕ) → Signal chains
   untilIn left right lower upper = untilAt chains (signalIn words left places) (signalIn words right places) lower upper
 
+  abbrev pub aheadIn : Bool → (start lower upper : ℕ) → Signal chains
+  aheadIn negated start lower upper = ahead (turned negated (signalIn words start places)) lower upper
+
   abbrev pub eventuallyIn : Bool → (start lower upper : ℕ) → Signal chains
   eventuallyIn dual start lower upper = eventuallyAt dual (signalIn words start places) lower upper

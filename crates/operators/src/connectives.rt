@@ -1,7 +1,6 @@
 // Codes 0, 3, 4 and 8: true, not, and, or.
-use crate::signals::Operand;
-use crate::signals::operand_at;
 use crate::signals::turn;
+use crate::signals::turned_at;
 ghost use Prim.Native.Nat.{_+_, _*_, _≤_};
 ghost use lib.ListN.{length};
 ghost use Rattle.words.specs.Bytes.{wordsOf};
@@ -31,13 +30,8 @@ pub fn turned_row(
     requires { ⌜ (start + (t + 1) * places ≤ length (wordsOf (now words))) × (places ≤ length (now row)) ⌝ }
     ensures { λ _. ⌜ RowLeft places (turned negated (signalIn (wordsOf (now (words .entry))) start places) t) (now (row .entry)) (now (row .exit)) ⌝ }
 {
-    let operand = Operand {
-        start,
-        places,
-        negated,
-    };
     for l in 0..places {
-        row[l] = operand_at(words, operand, t, l);
+        row[l] = turned_at(words, start, places, t, l, negated);
     }
 }
 
@@ -54,20 +48,10 @@ pub fn and_row(
     requires { ⌜ (left + (t + 1) * places ≤ length (wordsOf (now words))) × (right + (t + 1) * places ≤ length (wordsOf (now words))) × (places ≤ length (now row)) ⌝ }
     ensures { λ _. ⌜ RowLeft places (andIn (wordsOf (now (words .entry))) places dual left right t) (now (row .entry)) (now (row .exit)) ⌝ }
 {
-    let first = Operand {
-        start: left,
-        places,
-        negated: dual,
-    };
-    let second = Operand {
-        start: right,
-        places,
-        negated: dual,
-    };
     for l in 0..places {
         let both = values::lesser(
-            operand_at(words, first, t, l),
-            operand_at(words, second, t, l),
+            turned_at(words, left, places, t, l, dual),
+            turned_at(words, right, places, t, l, dual),
         );
         row[l] = turn(both, dual);
     }

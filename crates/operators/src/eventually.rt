@@ -1,25 +1,32 @@
 // Code 9, eventually, and its dual, code 10, always.
-use crate::signals::Operand;
-use crate::signals::operand_at;
 use crate::signals::turn;
+use crate::signals::turned_at;
 use crate::window::Bounds;
 ghost use mathlib.Core.Path.{_≡_};
 ghost use Prim.Native.Nat.{_+_, _≤_};
 ghost use lib.ListN.{length};
 ghost use Rattle.words.specs.Bytes.{wordsOf};
-ghost use Rattle.operators.specs.Reach.{Window, Reached, aheadOf, eventuallyOf};
-ghost use Rattle.operators.specs.Rows.{RowLeft, Former, Held, eventuallyIn};
+ghost use Rattle.operators.specs.Reach.{Window, Reached};
+ghost use Rattle.operators.specs.Rows.{RowLeft, Former, Held, aheadIn, eventuallyIn};
 
 // The greatest of a window, read from its first sample to its last.
-fn greatest_ahead(words: &[u8], operand: Operand, bounds: Bounds, t: usize, l: usize) -> u32
-    requires { ⌜ Reached (wordsOf (now words)) (operand .start) (operand .places) bounds t l ⌝ }
-    ensures { λ r. ⌜ r ≡ aheadOf (wordsOf (now (words .entry))) operand bounds t l ⌝ }
+fn greatest_ahead(
+    words: &[u8],
+    start: usize,
+    places: usize,
+    bounds: Bounds,
+    t: usize,
+    l: usize,
+    negated: bool,
+) -> u32
+    requires { ⌜ Reached (wordsOf (now words)) start places bounds t l ⌝ }
+    ensures { λ r. ⌜ r ≡ aheadIn (wordsOf (now (words .entry))) places negated start (bounds .lower) (bounds .upper) t l ⌝ }
 {
     let first = t + bounds.lower;
     let end = t + bounds.upper + 1;
     let mut best = values::bottom();
     for u in first..end {
-        best = values::greater(best, operand_at(words, operand, u, l));
+        best = values::greater(best, turned_at(words, start, places, u, l, negated));
     }
     best
 }
@@ -28,42 +35,46 @@ fn greatest_ahead(words: &[u8], operand: Operand, bounds: Bounds, t: usize, l: u
 // exceed it, and long windows need not be read again.
 fn greatest_next(
     words: &[u8],
-    operand: Operand,
+    start: usize,
+    places: usize,
     bounds: Bounds,
     t: usize,
     l: usize,
+    negated: bool,
     former: u32,
 ) -> u32
-    requires { ⌜ Reached (wordsOf (now words)) (operand .start) (operand .places) bounds (t + 1) l × (former ≡ aheadOf (wordsOf (now words)) operand bounds t l) ⌝ }
-    ensures { λ r. ⌜ r ≡ aheadOf (wordsOf (now (words .entry))) operand bounds (t + 1) l ⌝ }
+    requires { ⌜ Reached (wordsOf (now words)) start places bounds (t + 1) l × (former ≡ aheadIn (wordsOf (now words)) places negated start (bounds .lower) (bounds .upper) t l) ⌝ }
+    ensures { λ r. ⌜ r ≡ aheadIn (wordsOf (now (words .entry))) places negated start (bounds .lower) (bounds .upper) (t + 1) l ⌝ }
 {
-    let leaving = operand_at(words, operand, t + bounds.lower, l);
+    let leaving = turned_at(words, start, places, t + bounds.lower, l, negated);
     if leaving < former {
-        let entering = operand_at(words, operand, t + 1 + bounds.upper, l);
+        let entering = turned_at(words, start, places, t + 1 + bounds.upper, l, negated);
         return values::greater(former, entering);
     }
-    greatest_ahead(words, operand, bounds, t + 1, l)
+    greatest_ahead(words, start, places, bounds, t + 1, l, negated)
 }
 
-// At one place, given the value at the sample before, if there is one. The dual turns its operand, and what comes of it.
+// At one place, given the value at the sample before, if there is one.
 fn eventually_at(
     words: &[u8],
-    operand: Operand,
+    start: usize,
+    places: usize,
     bounds: Bounds,
+    dual: bool,
     t: usize,
     l: usize,
     former: u32,
 ) -> u32
-    requires { ⌜ Reached (wordsOf (now words)) (operand .start) (operand .places) bounds t l × Former (eventuallyOf (wordsOf (now words)) operand bounds) t l former ⌝ }
-    ensures { λ r. ⌜ r ≡ eventuallyOf (wordsOf (now (words .entry))) operand bounds t l ⌝ }
+    requires { ⌜ Reached (wordsOf (now words)) start places bounds t l × Former (eventuallyIn (wordsOf (now words)) places dual start (bounds .lower) (bounds .upper)) t l former ⌝ }
+    ensures { λ r. ⌜ r ≡ eventuallyIn (wordsOf (now (words .entry))) places dual start (bounds .lower) (bounds .upper) t l ⌝ }
 {
     let greatest = if t == 0 {
-        greatest_ahead(words, operand, bounds, t, l)
+        greatest_ahead(words, start, places, bounds, t, l, dual)
     } else {
-        let before = turn(former, operand.negated);
-        greatest_next(words, operand, bounds, t - 1, l, before)
+        let before = turn(former, dual);
+        greatest_next(words, start, places, bounds, t - 1, l, dual, before)
     };
-    turn(greatest, operand.negated)
+    turn(greatest, dual)
 }
 
 // The row holds the values at the sample before, if there is one.
@@ -80,16 +91,11 @@ pub fn eventually_row(
     requires { ⌜ Window (wordsOf (now words)) start places lower upper t × (places ≤ length (now row)) × Held places (eventuallyIn (wordsOf (now words)) places dual start lower upper) t (now row) ⌝ }
     ensures { λ _. ⌜ RowLeft places (eventuallyIn (wordsOf (now (words .entry))) places dual start lower upper t) (now (row .entry)) (now (row .exit)) ⌝ }
 {
-    let operand = Operand {
-        start,
-        places,
-        negated: dual,
-    };
     let bounds = Bounds {
         lower: lower as usize,
         upper: upper as usize,
     };
     for l in 0..places {
-        row[l] = eventually_at(words, operand, bounds, t, l, row[l]);
+        row[l] = eventually_at(words, start, places, bounds, dual, t, l, row[l]);
     }
 }

@@ -1,18 +1,11 @@
-// Operands: the signals of earlier lines, where they stand in the words of an answer.
+// Signals where they stand in the words of an answer, turned or not.
 ghost use mathlib.Core.Path.{_≡_};
 ghost use Prim.Native.Nat.{_+_, _*_, _≤_, _<_};
 ghost use lib.ListN.{length};
 ghost use Rattle.words.specs.Bytes.{wordsOf};
 ghost use Rattle.values.specs.Chain.{highest};
+ghost use Rattle.values.specs.Signals.{signalIn, turned};
 ghost use Rattle.operators.specs.Rows.{turnedTo};
-ghost use Rattle.operators.specs.Reach.{operandIn};
-
-// A signal that begins at an index of the words and has `places` words to a sample, or its opposite.
-pub(crate) struct Operand {
-    pub start: usize,
-    pub places: usize,
-    pub negated: bool,
-}
 
 // A value, or its opposite.
 pub(crate) fn turn(c: u32, negated: bool) -> u32
@@ -22,11 +15,17 @@ pub(crate) fn turn(c: u32, negated: bool) -> u32
     if negated { values::opposite(c) } else { c }
 }
 
-// The value of an operand at a sample and a place.
-pub(crate) fn operand_at(words: &[u8], operand: Operand, t: usize, l: usize) -> u32
-    requires { ⌜ operand .start + (t * operand .places + l) < length (wordsOf (now words)) ⌝ }
-    ensures { λ r. ⌜ r ≡ operandIn (wordsOf (now (words .entry))) operand t l ⌝ }
+// The value of a signal, or its opposite.
+pub(crate) fn turned_at(
+    words: &[u8],
+    start: usize,
+    places: usize,
+    t: usize,
+    l: usize,
+    negated: bool,
+) -> u32
+    requires { ⌜ start + (t * places + l) < length (wordsOf (now words)) ⌝ }
+    ensures { λ r. ⌜ r ≡ turned negated (signalIn (wordsOf (now (words .entry))) start places) t l ⌝ }
 {
-    let c = values::signal_at(words, operand.start, operand.places, t, l);
-    turn(c, operand.negated)
+    turn(values::signal_at(words, start, places, t, l), negated)
 }

@@ -63,8 +63,7 @@ module _ (s : List ℕ) (L : Layout) where
   row-bound words (Both left right false) t l reads = meet-bound _ _ (signal-bound words left (L .places) t l) (signal-bound words right (L .places) t l)
   row-bound words (Until left right b) t l reads = until-bound words left right (L .places) (b .lower) (b .upper) t l
   row-bound words (Eventually left b true) t l reads = omega arith
-  row-bound words (Eventually left b false) t l reads =
-      ahead-bound words (record { start = left; places = L .places; negated = false }) (record { lower = b .lower; upper = b .upper }) t l
+  row-bound words (Eventually left b false) t l reads = ahead-bound false words left (L .places) (b .lower) (b .upper) t l
 
 -- ---- a sample of the recording
 

@@ -10,19 +10,19 @@ use Rattle.operators.proofs.connectives.turned_row.Statement.{statement
 use Rattle.operators.proofs.connectives.turned_row.Tie as tie
 
 abbrev Inv-loop : tie.InvT-loop
-Inv-loop words start places negated t row₀ operand l₀ row l = Passed places (turned negated (signalIn (wordsOf words) start places) t) row₀ row l
+Inv-loop words start places negated t row₀ l₀ row l = Passed places (turned negated (signalIn (wordsOf words) start places) t) row₀ row l
 
 abbrev μ-loop : tie.MeasureT-loop
-μ-loop words start places negated t row₀ operand l₀ row l = places - l
+μ-loop words start places negated t row₀ l₀ row l = places - l
 
 loop-holds : tie.Need-loop-holds Inv-loop μ-loop
 loop-holds c = none-passed _ _ _
 
-operand-at-requires : tie.Need-operand-at-requires Inv-loop μ-loop
-operand-at-requires c κs = omega (arith, in-row (c .before .before .before .before .args .t) (c .loop-test .taken))
+turned-at-requires : tie.Need-turned-at-requires Inv-loop μ-loop
+turned-at-requires c κs = omega (arith, in-row (c .before .before .before .before .args .t) (c .loop-test .taken))
 
 loop-again : tie.Need-loop-again Inv-loop μ-loop
-loop-again c = one-passed _ (c .before .before .loop .inv) (c .before .loop-test .taken) (c .before .before .before .before .before .pre .1) (c .operand-at .ensures)
+loop-again c = one-passed _ (c .before .before .loop .inv) (c .before .loop-test .taken) (c .before .before .before .before .before .pre .1) (c .turned-at .ensures)
 
 returns : tie.Need-returns Inv-loop μ-loop
 returns c = all-passed (c .before .loop .inv) (c .loop-test .left)
@@ -34,7 +34,7 @@ turned-row-spec =
     Inv-loop
     μ-loop
     loop-holds
-    operand-at-requires
+    turned-at-requires
     (λ c. search needs)
     (λ c. search needs)
     (λ c. search needs)

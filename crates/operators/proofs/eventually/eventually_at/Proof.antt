@@ -6,8 +6,8 @@ use native.Mathlib.Omega.{arith}
 use borrow.Author.Needs.{needs}
 use Rattle.words.specs.Bytes.{wordsOf}
 use Rattle.values.specs.Chain.{highest}
-use Rattle.operators.specs.Reach.{Reached, aheadOf, eventuallyOf}
-use Rattle.operators.specs.Rows.{turnedTo}
+use Rattle.operators.specs.Reach.{Reached}
+use Rattle.operators.specs.Rows.{turnedTo, aheadIn, eventuallyIn}
 use Rattle.operators.proofs.Bounds.{ahead-bound}
 use Rattle.operators.proofs.RowLaws.{turned-number, turned-small, turned-back}
 use Rattle.operators.proofs.eventually.eventually_at.Statement.{statement}
@@ -16,25 +16,25 @@ use Rattle.operators.proofs.eventually.eventually_at.Tie as tie
 module _ (c : tie.Start) where
   -- the greatest of a window at the place
   abbrev window : ℕ → ℕ
-  window t = aheadOf (wordsOf (c .args .words .now)) (c .args .operand) (c .args .bounds) t (c .args .l)
+  window t = aheadIn (wordsOf (c .args .words .now)) (c .args .places) (c .args .dual) (c .args .start) (c .args .bounds .lower) (c .args .bounds .upper) t (c .args .l)
 
   small : (t : ℕ) → window t ≤ highest
-  small t = ahead-bound _ (c .args .operand) (c .args .bounds) t (c .args .l)
+  small t = ahead-bound (c .args .dual) _ (c .args .start) (c .args .places) (c .args .bounds .lower) (c .args .bounds .upper) t (c .args .l)
 
   -- the value at the sample before
-  held : (c .args .t ≡ 0 → ⊥) → c .args .former ≡ eventuallyOf (wordsOf (c .args .words .now)) (c .args .operand) (c .args .bounds) (c .args .t - 1) (c .args .l)
+  held : (c .args .t ≡ 0 → ⊥) → c .args .former ≡ eventuallyIn (wordsOf (c .args .words .now)) (c .args .places) (c .args .dual) (c .args .start) (c .args .bounds .lower) (c .args .bounds .upper) (c .args .t - 1) (c .args .l)
   held ne = c .pre .1 (c .args .t - 1) (omega arith)
 
 turn-requires : tie.Need-turn-requires
-turn-requires c κs = let start = c .before .before in rw (held start (c .if1 .left)) (turned-small (start .args .operand .negated) _ _ _ (small start (start .args .t - 1)))
+turn-requires c κs = let start = c .before .before in rw (held start (c .if1 .left)) (turned-small (start .args .dual) _ _ _ (small start (start .args .t - 1)))
 
 greatest-next-requires : tie.Need-greatest-next-requires
 greatest-next-requires c κs =
     let start = c .before .before .before in
     let a = start .args in
     let same : a .t ≡ a .t - 1 + 1 = omega arith in (
-      subst (λ (t : ℕ). Reached (wordsOf (a .words .now)) (a .operand .start) (a .operand .places) (a .bounds) t (a .l)) same (start .pre .0),
-      c .turn .ensures ∙ ap (turnedTo (a .operand .negated)) (held start (c .before .if1 .left)) ∙ turned-back (a .operand .negated) _ _ _ (small start (a .t - 1)),
+      subst (λ (t : ℕ). Reached (wordsOf (a .words .now)) (a .start) (a .places) (a .bounds) t (a .l)) same (start .pre .0),
+      c .turn .ensures ∙ ap (turnedTo (a .dual)) (held start (c .before .if1 .left)) ∙ turned-back (a .dual) _ _ _ (small start (a .t - 1)),
     )
 
 -- either way
@@ -51,7 +51,7 @@ turn-requires-2 c κs = rw (greatest c) (small (c .before .before) (c .before .b
 returns : tie.Need-returns
 returns c =
     let a = c .before .before .before .args in
-    c .turn2 .ensures ∙ ap (turnedTo (a .operand .negated)) (greatest (c .before)) ∙ turned-number (a .operand .negated) _ (a .t) (a .l)
+    c .turn2 .ensures ∙ ap (turnedTo (a .dual)) (greatest (c .before)) ∙ turned-number (a .dual) _ (a .t) (a .l)
 
 pub eventually-at-spec : {M : Type 1} → statement M
 eventually-at-spec =

@@ -10,10 +10,10 @@ use Rattle.operators.proofs.eventually.eventually_row.Statement.{statem
 use Rattle.operators.proofs.eventually.eventually_row.Tie as tie
 
 abbrev Inv-loop : tie.InvT-loop
-Inv-loop words start places lower upper dual t row₀ operand bounds l₀ row l = Passed places (eventuallyIn (wordsOf words) places dual start lower upper t) row₀ row l
+Inv-loop words start places lower upper dual t row₀ bounds l₀ row l = Passed places (eventuallyIn (wordsOf words) places dual start lower upper t) row₀ row l
 
 abbrev μ-loop : tie.MeasureT-loop
-μ-loop words start places lower upper dual t row₀ operand bounds l₀ row l = places - l
+μ-loop words start places lower upper dual t row₀ bounds l₀ row l = places - l
 
 loop-holds : tie.Need-loop-holds Inv-loop μ-loop
 loop-holds c = none-passed _ _ _

@@ -9,18 +9,18 @@ use borrow.Author.Needs.{needs}
 use Rattle.words.specs.Bytes.{wordsOf}
 use Rattle.logic.specs.Lattice.{greatestOver}
 use Rattle.values.specs.Chain.{chainLattice}
-use Rattle.operators.specs.Reach.{operandIn}
-use Rattle.operators.proofs.Bounds.{operand-bound, reached-inside, reached-end}
+use Rattle.values.specs.Signals.{signalIn, turned}
+use Rattle.operators.proofs.Bounds.{turned-bound, reached-inside, reached-end}
 use Rattle.operators.proofs.Folds.{Counted, none-counted, one-counted, all-counted, greatest-none, greatest-more, eventually-all}
 use Rattle.operators.proofs.eventually.greatest_ahead.Statement.{statement}
 use Rattle.operators.proofs.eventually.greatest_ahead.Tie as tie
 
 abbrev Inv-loop : tie.InvT-loop
-Inv-loop words operand t l first end best₀ u₀ best u =
-    Counted u₀ end u × (best ≡ greatestOver chainLattice (leb u₀) (λ v. operandIn (wordsOf words) operand v l) u)
+Inv-loop words start places t l negated first end best₀ u₀ best u =
+    Counted u₀ end u × (best ≡ greatestOver chainLattice (leb u₀) (λ v. turned negated (signalIn (wordsOf words) start places) v l) u)
 
 abbrev μ-loop : tie.MeasureT-loop
-μ-loop words operand t l first end best₀ u₀ best u = end - u
+μ-loop words start places t l negated first end best₀ u₀ best u = end - u
 
 end-fits : (c : tie.Start Inv-loop μ-loop) → c .args .t + c .args .bounds .upper + 1 ≤ length (c .args .words .now)
 end-fits c = reached-end (c .args .words .now) (c .pre)
@@ -41,8 +41,8 @@ add-end-2 c = omega (arith, end-fits (c .before .before .before))
 loop-holds : tie.Need-loop-holds Inv-loop μ-loop
 loop-holds c = (none-counted (omega arith), c .bottom .ensures ∙ sym (greatest-none _ _ _ (le-refl _)))
 
-operand-at-requires : tie.Need-operand-at-requires Inv-loop μ-loop
-operand-at-requires c κs = reached-inside (entry (c .before) .pre) (c .loop-test .taken)
+turned-at-requires : tie.Need-turned-at-requires Inv-loop μ-loop
+turned-at-requires c κs = reached-inside (entry (c .before) .pre) (c .loop-test .taken)
 
 add-u : tie.Need-add-u Inv-loop μ-loop
 add-u c = omega (arith, end-fits (entry (c .before .before .before)))
@@ -50,13 +50,13 @@ add-u c = omega (arith, end-fits (entry (c .before .before .before)))
 loop-again : tie.Need-loop-again Inv-loop μ-loop
 loop-again c =
     let loop = c .before .before .before .loop in
-    (one-counted (loop .inv .0) (c .before .before .loop-test .taken), c .greater .ensures ∙ ap₂ (chainLattice .join) (loop .inv .1) (c .before .operand-at .ensures) ∙ sym (greatest-more _ _ (loop .u) (loop .inv .0 .from)))
+    (one-counted (loop .inv .0) (c .before .before .loop-test .taken), c .greater .ensures ∙ ap₂ (chainLattice .join) (loop .inv .1) (c .before .turned-at .ensures) ∙ sym (greatest-more _ _ (loop .u) (loop .inv .0 .from)))
 
 returns : tie.Need-returns Inv-loop μ-loop
 returns c =
     let a = entry (c .before) .args in
     c .before .loop .inv .1 ∙ ap (greatestOver chainLattice _ _) (all-counted (c .before .loop .inv .0) (c .loop-test .left))
-    ∙ sym (eventually-all _ (a .l) (λ u. operand-bound _ (a .operand) u (a .l)) (a .bounds .lower) (a .bounds .upper) (a .t))
+    ∙ sym (eventually-all _ (a .l) (λ u. turned-bound (a .negated) _ (a .start) (a .places) u (a .l)) (a .bounds .lower) (a .bounds .upper) (a .t))
 
 pub greatest-ahead-spec : {M : Type 1} → statement M
 greatest-ahead-spec =
@@ -69,7 +69,7 @@ greatest-ahead-spec =
     add-end-2
     (λ c κs. search needs)
     loop-holds
-    operand-at-requires
+    turned-at-requires
     (λ c κs. search needs)
     add-u
     (λ c. search needs)

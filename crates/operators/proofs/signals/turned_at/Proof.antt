@@ -4,8 +4,8 @@ use borrow.Author.Needs.{needs}
 use Rattle.values.proofs.ChainWords.{signal-bound}
 use Rattle.operators.specs.Rows.{turnedTo}
 use Rattle.operators.proofs.RowLaws.{turned-number}
-use Rattle.operators.proofs.signals.operand_at.Statement.{statement}
-use Rattle.operators.proofs.signals.operand_at.Tie as tie
+use Rattle.operators.proofs.signals.turned_at.Statement.{statement}
+use Rattle.operators.proofs.signals.turned_at.Tie as tie
 
 turn-requires : tie.Need-turn-requires
 turn-requires c κs = rw (c .signal-at .ensures) (signal-bound _ _ _ _ _)
@@ -13,7 +13,7 @@ turn-requires c κs = rw (c .signal-at .ensures) (signal-bound _ _ _ _ _)
 returns : tie.Need-returns
 returns c =
     let a = c .before .before .before .args in
-    c .turn .ensures ∙ ap (turnedTo (a .operand .negated)) (c .before .signal-at .ensures) ∙ turned-number (a .operand .negated) _ (a .t) (a .l)
+    c .turn .ensures ∙ ap (turnedTo (a .negated)) (c .before .signal-at .ensures) ∙ turned-number (a .negated) _ (a .t) (a .l)
 
-pub operand-at-spec : {M : Type 1} → statement M
-operand-at-spec = tie.close (tie.spec (λ c κs. search needs) turn-requires returns)
+pub turned-at-spec : {M : Type 1} → statement M
+turned-at-spec = tie.close (tie.spec (λ c κs. search needs) turn-requires returns)
