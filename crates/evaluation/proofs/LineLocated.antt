@@ -75,9 +75,9 @@ module _ {s : List ℕ} {L : Layout} {distances words starts : List ℕ} (line :
   Known o = LineLocated s L distances words starts o (line .length) (locatedOf starts o)
 
   range-known : (dual : Bool) (i : ℕ) (b : Bounds) → i < ready .earlier → b .upper < 2 ^ 28 → line .length ≤ ready .lengths i
-      → LineLocated s L distances words starts (ranged dual i b) (line .length) (Blocks (Range (getD starts i 0) b dual))
+      → LineLocated s L distances words starts (ranged dual i b) (line .length) (Blocks (Range (record { left = getD starts i 0; bounds = b; dual = dual })))
   range-known dual i b h small enough = record {
-    reads = around-ready (Range (getD starts i 0) b dual) (samples-there h enough);
+    reads = around-ready (Range (record { left = getD starts i 0; bounds = b; dual = dual })) (samples-there h enough);
     values = λ t l. range-by-table s L distances (ready .surveyed) words starts dual i b t l small;
     rounds = λ t l _. no-rounds s L words starts dual i b t l;
   }
@@ -108,7 +108,7 @@ module _ {s : List ℕ} {L : Layout} {distances words starts : List ℕ} (line :
   }
   known (Somewhere i k) h e = range-known false i k (h .0) (h .1 .small) (omega arith)
   known (Surrounded i j k) h e = record {
-    reads = around-ready (Surround (getD starts i 0) (getD starts j 0) k) (surround-reads i j (h .0) (h .1) (omega arith) (omega arith));
+    reads = around-ready (Surround (record { left = getD starts i 0; right = getD starts j 0; bounds = k })) (surround-reads i j (h .0) (h .1) (omega arith) (omega arith));
     values = λ t l. value-by-table s L distances (ready .surveyed) words starts i j (k .lower) (k .upper) t l (h .2 .small);
     rounds = λ t l. rounds-by-table s L distances (ready .surveyed) words starts i j (k .lower) (k .upper) t l (h .2 .small);
   }

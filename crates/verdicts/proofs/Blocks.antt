@@ -12,15 +12,17 @@ use Rattle.words.proofs.Rows.{length-rows, rows-ext}
 use Rattle.counting.specs.Totals.{count, sumBelow, mostBelow}
 use Rattle.counting.proofs.Totals.{sum-parts, sum-same, table-yes-bound, most-parts, most-swap, most-none}
 use Rattle.sheet.specs.declared.check.Layout.{Layout}
-use Rattle.lines.specs.declared.operator.Bounds.{Bounds}
 use Rattle.checks.specs.Limits.{mostPlaces}
 use Rattle.values.specs.Chain.{highest, chainWord, chainVerdict}
+use Rattle.values.specs.Signals.{signalIn}
 use Rattle.values.proofs.ChainWords.{signal-bound}
 use Rattle.operators.proofs.Bounds.{greatest-bound}
 use Rattle.lanes.specs.Lanes.{lanes, laneOf}
 use Rattle.spatial.specs.Surround.{surroundRounds, blockRounds}
 use Rattle.spatial.specs.Blocks.{BlockReady, BlockDone}
-use Rattle.spatial.specs.Ranges.{RangeReady, RangeDone}
+use Rattle.spatial.specs.Ranges.{somewhereIn, RangeReady, RangeDone}
+use Rattle.spatial.specs.declared.somewhere.Range as Within
+use Rattle.spatial.specs.declared.surround.Surround as Asked
 use Rattle.verdicts.specs.declared.tally.Tally.{Tally}
 use Rattle.verdicts.specs.Tally.{together}
 use Rattle.verdicts.specs.declared.around.Around.{Around}
@@ -63,7 +65,7 @@ few-yes {value} w = rw (w .counted) (table-yes-bound (λ t l. chainVerdict (valu
 -- ---- a block
 
 reads-fewer : (words : List ℕ) (L : Layout) (sheet : List ℕ) (around : Around) (samples k : ℕ) → AroundReads words L sheet around samples → k ≤ samples → AroundReads words L sheet around k
-reads-fewer words L sheet (Surround left right b) samples k reads h =
+reads-fewer words L sheet (Surround a) samples k reads h =
     let m = mul-le-mul-right (L .places) h in
     record {
       left-there = omega (arith, reads .left-there);
@@ -72,12 +74,15 @@ reads-fewer words L sheet (Surround left right b) samples k reads h =
       left-valid = λ t l b. reads .left-valid t l (omega arith);
       right-valid = λ t l b. reads .right-valid t l (omega arith);
     }
-reads-fewer words L sheet (Range left b dual) samples k reads h = omega (arith, mul-le-mul-right (L .places) h)
+reads-fewer words L sheet (Range a) samples k reads h = omega (arith, mul-le-mul-right (L .places) h)
+
+range-small : (dual : Bool) (words : List ℕ) (left n : ℕ) (distances : List ℕ) (lower upper t l : ℕ) → somewhereIn dual distances n (signalIn words left n) lower upper t l ≤ highest
+range-small true words left n distances lower upper t l = omega arith
+range-small false words left n distances lower upper t l = greatest-bound _ _ n (λ k _. signal-bound words left n t k)
 
 around-small : (words : List ℕ) (L : Layout) (sheet distances : List ℕ) (around : Around) (t l : ℕ) → aroundValue words L sheet distances around t l ≤ highest
-around-small words L sheet distances (Surround left right b) t l = surround-bound words left right (L .places) sheet (L .roads) distances (b .lower) (b .upper) t l
-around-small words L sheet distances (Range left b true) t l = omega arith
-around-small words L sheet distances (Range left b false) t l = greatest-bound _ _ (L .places) (λ k _. signal-bound words left (L .places) t k)
+around-small words L sheet distances (Surround a) t l = surround-bound words (a .left) (a .right) (L .places) sheet (L .roads) distances (a .bounds .lower) (a .bounds .upper) t l
+around-small words L sheet distances (Range a) t l = range-small (a .dual) words (a .left) (L .places) distances (a .bounds .lower) (a .bounds .upper) t l
 
 module _ {words : List ℕ} {L : Layout} {sheet distances : List ℕ} where
   pub fewer-ready : {around : Around} {samples k : ℕ} → AroundReady words L sheet distances around samples → k ≤ samples → AroundReady words L sheet distances around k
@@ -88,8 +93,8 @@ module _ {words : List ℕ} {L : Layout} {sheet distances : List ℕ} where
     reads = reads-fewer words L sheet around samples k (ready .reads) h;
   }
 
-  pub block-ready : {left right : ℕ} {b : Bounds} {first size : ℕ} → BlockFits words L sheet distances (Surround left right b) first size
-      → BlockReady words left right (L .places) sheet (L .roads) distances first size
+  pub block-ready : {a : Asked.Surround} {first size : ℕ} → BlockFits words L sheet distances (Surround a) first size
+      → BlockReady words (a .left) (a .right) (L .places) sheet (L .roads) distances first size
   block-ready fits = record {
     few-places = fits .ready .few-places .1;
     some = fits .some;
@@ -102,22 +107,22 @@ module _ {words : List ℕ} {L : Layout} {sheet distances : List ℕ} where
     right-valid = λ t l _. fits .ready .reads .right-valid t l;
   }
 
-  pub range-ready : {left : ℕ} {b : Bounds} {dual : Bool} {first size : ℕ} → BlockFits words L sheet distances (Range left b dual) first size
-      → RangeReady words left (L .places) distances first size
+  pub range-ready : {a : Within.Range} {first size : ℕ} → BlockFits words L sheet distances (Range a) first size
+      → RangeReady words (a .left) (L .places) distances first size
   range-ready fits = record { few-places = fits .ready .few-places .1; few = fits .few; there = fits .ready .reads; distances-there = fits .ready .distances-there }
 
-  pub surround-filled : {left right : ℕ} {b : Bounds} {first size : ℕ} {before out : List ℕ} {r : ℕ}
-      → BlockDone words left right (L .places) sheet (L .roads) distances first size (b .lower) (b .upper) before out r
-      → BlockFilled words L sheet distances (Surround left right b) first size out r
+  pub surround-filled : {a : Asked.Surround} {first size : ℕ} {before out : List ℕ} {r : ℕ}
+      → BlockDone words (a .left) (a .right) (L .places) sheet (L .roads) distances first size (a .bounds .lower) (a .bounds .upper) before out r
+      → BlockFilled words L sheet distances (Surround a) first size out r
   unfolding blockRounds
-  surround-filled {left} {right} {b} {first} {size} done = record {
+  surround-filled {a} {first} {size} done = record {
     values = done .values;
-    rounds = done .rounds ∙ most-swap (λ centre lane. surroundRounds words left right (L .places) sheet (L .roads) distances (b .lower) (b .upper) (first + lane) centre) (L .places) size;
+    rounds = done .rounds ∙ most-swap (λ centre lane. surroundRounds words (a .left) (a .right) (L .places) sheet (L .roads) distances (a .bounds .lower) (a .bounds .upper) (first + lane) centre) (L .places) size;
   }
 
-  pub somewhere-filled : {left : ℕ} {b : Bounds} {dual : Bool} {first size : ℕ} {before out : List ℕ}
-      → RangeDone words left (L .places) distances first size (b .lower) (b .upper) dual before out
-      → BlockFilled words L sheet distances (Range left b dual) first size out 0
+  pub somewhere-filled : {a : Within.Range} {first size : ℕ} {before out : List ℕ}
+      → RangeDone words (a .left) (L .places) distances first size (a .bounds .lower) (a .bounds .upper) (a .dual) before out
+      → BlockFilled words L sheet distances (Range a) first size out 0
   somewhere-filled {size = size} done = record { values = done .values; rounds = most-none size (L .places) }
 
   module _ {around : Around} {first size : ℕ} {out : List ℕ} {r : ℕ} (done : BlockFilled words L sheet distances around first size out r) where

@@ -34,8 +34,8 @@ pub record SurroundReads (words : List ℕ) (left right : ℕ) (L : Code.Layout)
   pub right-valid : (t l : ℕ) → t < samples → l < L .places → Valid (signalIn words right (L .places) t l)
 
 abbrev pub AroundReads : List ℕ → Code.Layout → List ℕ → Around → ℕ → Type 0
-AroundReads words L sheet (Surround left right b) samples = SurroundReads words left right L sheet samples
-AroundReads words L sheet (Range left b dual) samples = left + samples * L .places ≤ length words
+AroundReads words L sheet (Surround a) samples = SurroundReads words (a .left) (a .right) L sheet samples
+AroundReads words L sheet (Range a) samples = a .left + samples * L .places ≤ length words
 
 pub record AroundReady (words : List ℕ) (L : Code.Layout) (sheet distances : List ℕ) (around : Around) (samples : ℕ) : Type 0 where
   pub few-places : (1 ≤ L .places) × (L .places ≤ mostPlaces)
@@ -52,12 +52,12 @@ pub record BlockFits (words : List ℕ) (L : Code.Layout) (sheet distances : Lis
 module _ (words : List ℕ) (L : Code.Layout) (sheet distances : List ℕ) where
   -- the chain number at a sample and a centre, and the rounds there
   abbrev pub aroundValue : Around → ℕ → ℕ → ℕ
-  aroundValue (Surround left right b) = surroundValue words left right (L .places) sheet (L .roads) distances (b .lower) (b .upper)
-  aroundValue (Range left b dual) = somewhereIn dual distances (L .places) (signalIn words left (L .places)) (b .lower) (b .upper)
+  aroundValue (Surround a) = surroundValue words (a .left) (a .right) (L .places) sheet (L .roads) distances (a .bounds .lower) (a .bounds .upper)
+  aroundValue (Range a) = somewhereIn (a .dual) distances (L .places) (signalIn words (a .left) (L .places)) (a .bounds .lower) (a .bounds .upper)
 
   abbrev pub aroundRounds : Around → ℕ → ℕ → ℕ
-  aroundRounds (Surround left right b) = surroundRounds words left right (L .places) sheet (L .roads) distances (b .lower) (b .upper)
-  aroundRounds (Range left b dual) = λ _ _. 0
+  aroundRounds (Surround a) = surroundRounds words (a .left) (a .right) (L .places) sheet (L .roads) distances (a .bounds .lower) (a .bounds .upper)
+  aroundRounds (Range a) = λ _ _. 0
 
   -- samples `first` to first + size - 1 side by side
   pub record BlockFilled (around : Around) (first size : ℕ) (out : List ℕ) (r : ℕ) : Type 0 where

@@ -5,7 +5,6 @@ use crate::tally::Tally;
 use lanes::LANES;
 use lanes::ROW;
 use lanes::rows::Block;
-use lines::operator::Bounds;
 use roads::road::Network;
 use sheet::check::Layout;
 use spatial::somewhere::Range;
@@ -22,18 +21,10 @@ ghost use Rattle.values.specs.Chain.{chainWord, chainVerdict};
 ghost use Rattle.lanes.specs.Lanes.{lanes, laneOf};
 ghost use Rattle.verdicts.specs.Around.{LanesBounded, BlockFits, BlockFilled, AroundReadyIn, BlockFitsIn, BlockWrittenIn, AroundWrittenIn};
 
-// What is asked about every centre. Operands are the indices at which their signals begin.
+// What is asked about every centre.
 pub enum Around {
-    Surround {
-        left: usize,
-        right: usize,
-        bounds: Bounds,
-    },
-    Range {
-        left: usize,
-        bounds: Bounds,
-        dual: bool,
-    },
+    Surround(Surround),
+    Range(Range),
 }
 
 // Writes the samples of a block, one lane after the other.
@@ -67,17 +58,9 @@ fn fill_block(
     ensures { λ r. ⌜ BlockFilled (wordsOf (now (words .entry))) layout (wordsOf (now (sheet .entry))) (numbersOf (wordsOf (now (distances .entry)))) around first size (now (out .exit)) r ⌝ }
 {
     match around {
-        Around::Surround {
-            left,
-            right,
-            bounds,
-        } => surround_block(
+        Around::Surround(surround) => surround_block(
             words,
-            Surround {
-                left,
-                right,
-                bounds,
-            },
+            surround,
             sheet,
             Network {
                 places: layout.places,
@@ -87,10 +70,10 @@ fn fill_block(
             Block { first, count: size },
             out,
         ),
-        Around::Range { left, bounds, dual } => {
+        Around::Range(range) => {
             somewhere_block(
                 words,
-                Range { left, bounds, dual },
+                range,
                 layout.places,
                 distances,
                 Block { first, count: size },

@@ -1,7 +1,7 @@
 // A line of the answer: its verdicts and margins as words, sample by sample or, over space, in blocks of samples, and what they add to the result.
 pub mod around;
-mod evaluation;
 pub mod located;
 pub mod row;
+mod row_values;
 mod sample;
 pub mod tally;

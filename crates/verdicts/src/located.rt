@@ -3,6 +3,8 @@
 use crate::around::Around;
 use lines::operator::Bounds;
 use lines::operator::Operator;
+use spatial::somewhere::Range;
+use spatial::surround::Surround;
 ghost use mathlib.Core.Path.{_≡_};
 ghost use lib.ListN.{getD};
 ghost use Rattle.verdicts.specs.Located.{locatedOf};
@@ -94,24 +96,24 @@ fn eventually(starts: &[usize], left: usize, bounds: Bounds, dual: bool) -> Loca
 
 // Code 7.
 fn surround(starts: &[usize], left: usize, right: usize, bounds: Bounds) -> Located
-    ensures { λ r. ⌜ r ≡ Located.Blocks (Around.Surround (getD (now (starts .entry)) left 0) (getD (now (starts .entry)) right 0) bounds) ⌝ }
+    ensures { λ r. ⌜ r ≡ Located.Blocks (Around.Surround (record { left = getD (now (starts .entry)) left 0; right = getD (now (starts .entry)) right 0; bounds = bounds })) ⌝ }
 {
-    Located::Blocks(Around::Surround {
+    Located::Blocks(Around::Surround(Surround {
         left: start_of(starts, left),
         right: start_of(starts, right),
         bounds,
-    })
+    }))
 }
 
 // Codes 6 and 11.
 fn range(starts: &[usize], left: usize, bounds: Bounds, dual: bool) -> Located
-    ensures { λ r. ⌜ r ≡ Located.Blocks (Around.Range (getD (now (starts .entry)) left 0) bounds dual) ⌝ }
+    ensures { λ r. ⌜ r ≡ Located.Blocks (Around.Range (record { left = getD (now (starts .entry)) left 0; bounds = bounds; dual = dual })) ⌝ }
 {
-    Located::Blocks(Around::Range {
+    Located::Blocks(Around::Range(Range {
         left: start_of(starts, left),
         bounds,
         dual,
-    })
+    }))
 }
 
 // `starts` tells at which index the signal of each earlier line begins.

@@ -1,6 +1,6 @@
 // The verdicts of a line, sample by sample, for every operator but those over space.
-use crate::evaluation::value_row;
 use crate::located::RowOperator;
+use crate::row_values::value_row;
 use crate::sample::write_sample;
 use crate::tally::Tally;
 use checks::limits::MOST_PLACES;

@@ -16,8 +16,8 @@ use Rattle.operators.specs.Rows.{atomValue}
 use Rattle.operators.proofs.RowLaws.{left-same}
 use Rattle.verdicts.specs.Rows.{sheetRecording}
 use Rattle.verdicts.proofs.Points.{sample-inside, sample-index, words-part}
-use Rattle.verdicts.proofs.evaluation.recorded_row.Statement.{statement}
-use Rattle.verdicts.proofs.evaluation.recorded_row.Tie as tie
+use Rattle.verdicts.proofs.row_values.recorded_row.Statement.{statement}
+use Rattle.verdicts.proofs.row_values.recorded_row.Tie as tie
 
 module _ (c : tie.Start) where
   abbrev begin : ℕ

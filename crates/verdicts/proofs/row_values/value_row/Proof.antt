@@ -9,8 +9,8 @@ use Rattle.operators.proofs.RowLaws.{left-same}
 use Rattle.verdicts.specs.declared.located.RowOperator.{RowOperator}
 use Rattle.verdicts.specs.Rows.{sheetRecording, rowValue, RowReady}
 use Rattle.verdicts.proofs.Points.{constant-kept}
-use Rattle.verdicts.proofs.evaluation.value_row.Statement.{statement}
-use Rattle.verdicts.proofs.evaluation.value_row.Tie as tie
+use Rattle.verdicts.proofs.row_values.value_row.Statement.{statement}
+use Rattle.verdicts.proofs.row_values.value_row.Tie as tie
 
 -- before the match, where every arm has come from
 module _ (c : tie.After-slice-known) where
