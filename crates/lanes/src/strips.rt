@@ -53,9 +53,9 @@ fn of_two(a: u32, b: u32, least: bool) -> u32
     if least { lesser(a, b) } else { greater(a, b) }
 }
 
-// What stands at another place comes to this one: the lesser of both stays here, or the greater.
+// What stands at another place of a row comes to this place of x, which has both places: the lesser of both stays here, or the greater.
 pub fn pull_strip(x: &mut [u32], from: &[u32], place: usize, other: usize, least: bool)
-    requires { ⌜ (place * lanes + lanes ≤ length (now x)) × (other * lanes + lanes ≤ length (now from)) ⌝ }
+    requires { ⌜ (place * lanes + lanes ≤ length (now x)) × (other * lanes + lanes ≤ length (now x)) × (other * lanes + lanes ≤ length (now from)) ⌝ }
     ensures { λ _. ⌜ Written place lanes (λ lane. ofTwo least (laneOf (now (x .entry)) lane place) (laneOf (now (from .entry)) lane other)) (now (x .entry)) (now (x .exit)) ⌝ }
 {
     for lane in 0..LANES {
