@@ -17,7 +17,7 @@ use Rattle.checks.proofs.Checks.{mapped-accepted, mapped-refused}
 use Rattle.answers.specs.Answer.{wordsNeeded}
 use Rattle.answers.specs.Judged.{Result, refusal, answered, judgedBy, judged}
 use Rattle.answers.proofs.Accepted.{judged-by-room}
-use Rattle.verdicts.specs.declared.tally.Tally.{Tally}
+use Rattle.samples.specs.declared.tally.Tally.{Tally}
 use Rattle.evaluation.specs.Lines.{foundBy, found, Accepting}
 use Rattle.engine.specs.Answer.{AnswerWritten}
 

@@ -7,7 +7,7 @@ use Rattle.words.specs.Rows.{padded}
 use Rattle.logic.specs.Counts.{greatestRounds, yesCount}
 use Rattle.sheet.specs.Layout.{Layout}
 use Rattle.sheet.specs.Recording.{network, recording}
-use Rattle.verdicts.specs.declared.tally.Tally.{Tally}
+use Rattle.samples.specs.declared.tally.Tally.{Tally}
 use Rattle.answers.specs.Answer.{lineIndex, answerWords}
 
 module _ (s : List ℕ) (L : Layout) (answer : List ℕ) where

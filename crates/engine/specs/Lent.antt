@@ -4,7 +4,7 @@ use mathlib.Core.List.{List}
 use Prim.Native.Nat.{ℕ}
 use lib.ListN.{length}
 use Rattle.words.specs.Bytes.{wordsOf, numbersOf}
-use Rattle.verdicts.specs.declared.tally.Tally.{Tally}
+use Rattle.samples.specs.declared.tally.Tally.{Tally}
 use Rattle.answers.specs.Judged.{Judged, answered, judged}
 use Rattle.evaluation.specs.Lent.{foundIn}
 use Rattle.engine.specs.Answer.{AnswerWritten}

@@ -14,9 +14,9 @@ use Rattle.sheet.specs.declared.check.Layout.{Layout}
 use Rattle.lines.specs.declared.line.Line.{Line}
 use Rattle.lines.specs.Decoding.{lineSaid}
 use Rattle.values.specs.Chain.{chainWord, chainVerdict}
-use Rattle.verdicts.specs.declared.tally.Tally.{Tally}
+use Rattle.samples.specs.declared.tally.Tally.{Tally}
 use Rattle.verdicts.specs.declared.located.Located.{Located}
-use Rattle.verdicts.specs.Written.{SamplesWritten}
+use Rattle.samples.specs.Written.{SamplesWritten}
 use Rattle.answers.specs.Answer.{firstWord}
 use Rattle.evaluation.specs.Line.{wordsUpTo, valueHere, roundsHere, LineWritten}
 use Rattle.evaluation.proofs.LineLocated.{valueOf, roundsOf, LineLocated}

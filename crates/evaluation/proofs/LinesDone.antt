@@ -25,8 +25,8 @@ use Rattle.sheet.specs.Recording.{network, recording}
 use Rattle.lines.proofs.AcceptedLines.{good-length, good-constants}
 use Rattle.values.specs.Chain.{chains, Valid}
 use Rattle.values.proofs.ChainTable.{chains-valid}
-use Rattle.verdicts.specs.declared.tally.Tally.{Tally}
-use Rattle.verdicts.specs.Tally.{together}
+use Rattle.samples.specs.declared.tally.Tally.{Tally}
+use Rattle.samples.specs.Tally.{together}
 use Rattle.answers.specs.Answer.{lineIndex, firstWord, lineWords}
 use Rattle.verdicts.specs.Rows.{sheetRecording}
 use Rattle.answers.proofs.AnswerWords.{lines-size, sizes-below}

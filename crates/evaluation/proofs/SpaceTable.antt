@@ -27,8 +27,8 @@ use Rattle.lines.specs.Decoding.{operatorSaid}
 use Rattle.roads.specs.Roads.{distanceNumber}
 use Rattle.values.specs.Chain.{chains, chainLattice, chainOpposite, chainMargin}
 use Rattle.values.specs.Signals.{turned, inTable}
-use Rattle.spatial.specs.Surround.{joinedBy, surroundValue, surroundRounds}
-use Rattle.spatial.specs.Ranges.{somewhereIn}
+use Rattle.surrounds.specs.Surround.{joinedBy, surroundValue, surroundRounds}
+use Rattle.ranges.specs.Ranges.{somewhereIn}
 use Rattle.evaluation.specs.Writing.{sheetNetwork, earlier, lineValue, lineRounds, Surveyed}
 
 -- ---- any tests that are the same below n

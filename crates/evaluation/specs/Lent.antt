@@ -5,7 +5,7 @@ use lib.ListN.{length}
 use Rattle.words.specs.Bytes.{wordsOf, numbersOf}
 use Rattle.sheet.specs.declared.check.Layout as Code
 use Rattle.sheet.specs.Layout.{Layout}
-use Rattle.verdicts.specs.declared.tally.Tally.{Tally}
+use Rattle.samples.specs.declared.tally.Tally.{Tally}
 use Rattle.answers.specs.Answer.{wordsNeeded}
 use Rattle.evaluation.specs.Lines.{found, Accepting, LinesWritten}
 

@@ -11,7 +11,7 @@ use Rattle.sheet.specs.Layout.{Layout, checked}
 use Rattle.roads.specs.Roads.{distanceTable}
 use Rattle.sheet.specs.Recording.{network, recording}
 use Rattle.sheet.specs.Checking.{layoutOf}
-use Rattle.verdicts.specs.declared.tally.Tally.{Tally}
+use Rattle.samples.specs.declared.tally.Tally.{Tally}
 use Rattle.answers.specs.Answer.{lineIndex, lineWords}
 
 abbrev pub foundBy : Checked Layout → Layout

@@ -1,11 +1,11 @@
 // One line of the answer: its first word, and its verdicts, sample by sample or, over space, in blocks of samples.
 use lines::line::Line;
+use samples::tally::Tally;
 use sheet::check::Layout;
 use verdicts::around::write_around;
 use verdicts::located::Located;
 use verdicts::located::locate;
 use verdicts::row::write_rows;
-use verdicts::tally::Tally;
 ghost use mathlib.Core.Path.{_≡_};
 ghost use Prim.Native.Nat.{_+_, _*_, _≤_};
 ghost use lib.ListN.{length};

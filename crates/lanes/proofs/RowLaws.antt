@@ -6,15 +6,18 @@ use Prim.Native.Nat.{ℕ, _+_, _*_, _<_, _≤_}
 use native.Mathlib.Nat.{le-mul-of-pos-right}
 use native.Mathlib.Omega.{arith}
 use borrow.Author.Count.{below-more}
+use borrow.Author.Tests.{lt-ltb, le-ltb}
 use lib.ListN.{length, set}
 use lib.Seq.{getD-set-same, getD-set-other}
 use Rattle.words.specs.Bytes.{wordsOf, numbersOf}
 use Rattle.words.proofs.Numbers.{length-numbers}
 use Rattle.words.proofs.Rows.{in-table}
 use Rattle.logic.specs.Iteration.{masked}
+use Rattle.values.specs.Signals.{signalIn}
+use Rattle.lanes.specs.declared.rows.Block.{Block}
 use Rattle.lanes.specs.Lanes.{lanes, laneOf}
 use Rattle.lanes.specs.Strips.{Written}
-use Rattle.lanes.specs.Rows.{RowOf, RowWritten, flagged, Marked, maskedBy}
+use Rattle.lanes.specs.Rows.{RowOf, RowWritten, laneSignal, flagged, Marked, maskedBy}
 use Rattle.lanes.proofs.StripLaws.{written-already}
 
 row-none : (f : ℕ → ℕ → ℕ) (row : List ℕ) → RowOf f row 0
@@ -92,3 +95,11 @@ DistanceThere bytes n centre place = (centre * n + place < length (numbersOf (wo
 
 pub distance-there : (bytes : List ℕ) {n centre place : ℕ} → centre < n → place < n → n * n ≤ length (numbersOf (wordsOf bytes)) → DistanceThere bytes n centre place
 distance-there bytes b c room = let t = in-table b c in (omega arith, omega (arith, length-numbers bytes))
+
+-- ---- a row that was read from the words: its lanes below `count` have the samples, and the others are lowest
+module _ (words : List ℕ) (start n : ℕ) (block : Block) (row : List ℕ) (w : RowOf (laneSignal words start n block) row n) where
+  pub lane-signal : (lane l : ℕ) → block .count ≤ lanes → lane < block .count → l < n → laneOf row lane l ≡ signalIn words start n (block .first + lane) l
+  lane-signal lane l h c b = w .at l lane b (omega arith) ∙ simp (lt-ltb lane (block .count) c)
+
+  pub lane-zero : (lane l : ℕ) → lane < lanes → block .count ≤ lane → l < n → laneOf row lane l ≡ 0
+  lane-zero lane l h c b = w .at l lane b h ∙ simp (le-ltb lane (block .count) c)

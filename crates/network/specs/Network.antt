@@ -1,5 +1,5 @@
 -- Definition 2.1: a network is its places (the source's locations), numbered from 0, and the weight of the road (edge) between two of them. A
--- sheet's roads run both ways and have weights above 0: that is said where they are read (sheet/specs/Roads.antt).
+-- sheet's roads run both ways and have weights above 0: that is said where they are read (roads/specs/Roads.antt).
 use mathlib.Core.Bool.{Bool, true, false}
 use Prim.Native.Nat.{ℕ}
 use Rattle.network.specs.Distance.{Distance, dist, none, inRange, distance}

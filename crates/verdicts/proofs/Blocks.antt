@@ -18,16 +18,16 @@ use Rattle.values.specs.Signals.{signalIn}
 use Rattle.values.proofs.ChainWords.{signal-bound}
 use Rattle.operators.proofs.Bounds.{greatest-bound}
 use Rattle.lanes.specs.Lanes.{lanes, laneOf}
-use Rattle.spatial.specs.Surround.{surroundRounds, blockRounds}
-use Rattle.spatial.specs.Blocks.{BlockReady, BlockDone}
-use Rattle.spatial.specs.Ranges.{somewhereIn, RangeReady, RangeDone}
-use Rattle.spatial.specs.declared.somewhere.Range as Within
-use Rattle.spatial.specs.declared.surround.Surround as Asked
-use Rattle.verdicts.specs.declared.tally.Tally.{Tally}
-use Rattle.verdicts.specs.Tally.{together}
+use Rattle.surrounds.specs.Surround.{surroundRounds, blockRounds}
+use Rattle.surrounds.specs.Blocks.{BlockReady, BlockDone}
+use Rattle.ranges.specs.Ranges.{somewhereIn, RangeReady, RangeDone}
+use Rattle.ranges.specs.declared.Range as Within
+use Rattle.surrounds.specs.declared.surround.Surround as Asked
+use Rattle.samples.specs.declared.tally.Tally.{Tally}
+use Rattle.samples.specs.Tally.{together}
 use Rattle.verdicts.specs.declared.around.Around.{Around}
 use Rattle.verdicts.specs.declared.around.Around.the-variants.{Surround, Range}
-use Rattle.verdicts.specs.Written.{SamplesWritten}
+use Rattle.samples.specs.Written.{SamplesWritten}
 use Rattle.verdicts.specs.Around.{LanesBounded, AroundReads, AroundReady, BlockFits, aroundValue, aroundRounds, BlockFilled}
 use Rattle.verdicts.proofs.Points.{surround-bound}
 

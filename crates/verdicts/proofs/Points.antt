@@ -26,7 +26,7 @@ use Rattle.values.proofs.Machine.{small-fits}
 use Rattle.values.proofs.Valid.{valid-difference}
 use Rattle.values.proofs.ChainWords.{signal-bound}
 use Rattle.operators.proofs.Bounds.{bounded-kept, meet-bound, greatest-bound, ahead-bound}
-use Rattle.spatial.specs.Surround.{joinedBy, surroundValue}
+use Rattle.surrounds.specs.Surround.{joinedBy, surroundValue}
 use Rattle.verdicts.specs.declared.located.RowOperator.{RowOperator}
 use Rattle.verdicts.specs.declared.located.RowOperator.the-variants.{True, Atom, Not, Both, Until, Eventually}
 use Rattle.verdicts.specs.Rows.{sheetRecording, rowValue, RowReads}

@@ -10,13 +10,13 @@ use Rattle.checks.specs.Limits.{mostPlaces, mostSamples}
 use Rattle.values.specs.Chain.{highest, Valid}
 use Rattle.values.specs.Signals.{signalIn}
 use Rattle.lanes.specs.Lanes.{lanes, laneOf}
-use Rattle.spatial.specs.Surround.{surroundValue, surroundRounds}
-use Rattle.spatial.specs.Steps.{RoadsIn}
-use Rattle.spatial.specs.Ranges.{somewhereIn}
+use Rattle.surrounds.specs.Surround.{surroundValue, surroundRounds}
+use Rattle.surrounds.specs.Steps.{RoadsIn}
+use Rattle.ranges.specs.Ranges.{somewhereIn}
 use Rattle.verdicts.specs.declared.around.Around.{Around}
 use Rattle.verdicts.specs.declared.around.Around.the-variants.{Surround, Range}
-use Rattle.verdicts.specs.declared.tally.Tally.{Tally}
-use Rattle.verdicts.specs.Written.{SamplesWritten}
+use Rattle.samples.specs.declared.tally.Tally.{Tally}
+use Rattle.samples.specs.Written.{SamplesWritten}
 
 -- a row has room for the places, and its first lanes hold chain numbers
 pub record LanesBounded (row : List ℕ) (places samples : ℕ) : Type 0 where

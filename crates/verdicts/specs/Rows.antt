@@ -19,8 +19,8 @@ use Rattle.operators.specs.Reach.{Window}
 use Rattle.operators.specs.Rows.{Filled, atomValue, andAt, eventuallyAt}
 use Rattle.verdicts.specs.declared.located.RowOperator.{RowOperator}
 use Rattle.verdicts.specs.declared.located.RowOperator.the-variants.{True, Atom, Not, Both, Until, Eventually}
-use Rattle.verdicts.specs.declared.tally.Tally.{Tally}
-use Rattle.verdicts.specs.Written.{SamplesWritten}
+use Rattle.samples.specs.declared.tally.Tally.{Tally}
+use Rattle.samples.specs.Written.{SamplesWritten}
 
 -- ---- values
 

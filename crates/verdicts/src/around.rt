@@ -1,16 +1,16 @@
 // The verdicts of a line over space, a surround or somewhere or everywhere: the samples of a block are evaluated side by side about every centre,
 // and then written sample by sample.
-use crate::sample::write_sample;
-use crate::tally::Tally;
 use lanes::LANES;
 use lanes::ROW;
 use lanes::rows::Block;
+use ranges::Range;
+use ranges::somewhere_block;
 use roads::road::Network;
+use samples::sample::write_sample;
+use samples::tally::Tally;
 use sheet::check::Layout;
-use spatial::somewhere::Range;
-use spatial::somewhere::somewhere_block;
-use spatial::surround::Surround;
-use spatial::surround::surround_block;
+use surrounds::surround::Surround;
+use surrounds::surround::surround_block;
 ghost use mathlib.Core.Path.{_≡_};
 ghost use Prim.Native.Nat.{_+_, _*_, _≤_};
 ghost use lib.ListN.{length};

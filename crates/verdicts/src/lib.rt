@@ -3,5 +3,3 @@ pub mod around;
 pub mod located;
 pub mod row;
 mod row_values;
-mod sample;
-pub mod tally;

@@ -3,8 +3,8 @@
 use crate::around::Around;
 use lines::operator::Bounds;
 use lines::operator::Operator;
-use spatial::somewhere::Range;
-use spatial::surround::Surround;
+use ranges::Range;
+use surrounds::surround::Surround;
 ghost use mathlib.Core.Path.{_≡_};
 ghost use lib.ListN.{getD};
 ghost use Rattle.verdicts.specs.Located.{locatedOf};

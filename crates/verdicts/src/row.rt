@@ -1,9 +1,9 @@
 // The verdicts of a line, sample by sample, for every operator but those over space.
 use crate::located::RowOperator;
 use crate::row_values::value_row;
-use crate::sample::write_sample;
-use crate::tally::Tally;
 use checks::limits::MOST_PLACES;
+use samples::sample::write_sample;
+use samples::tally::Tally;
 use sheet::check::Layout;
 ghost use mathlib.Core.Path.{_≡_};
 ghost use Prim.Native.Nat.{_+_, _≤_};

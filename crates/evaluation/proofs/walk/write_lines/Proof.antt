@@ -9,7 +9,7 @@ use Rattle.words.specs.Bytes.{wordsOf, numbersOf, afterWords}
 use Rattle.formulas.specs.Formulas.{Line}
 use Rattle.checks.specs.Limits.{mostLines}
 use Rattle.lines.proofs.Walk.{Walk, walk-step}
-use Rattle.verdicts.specs.Tally.{together}
+use Rattle.samples.specs.Tally.{together}
 use Rattle.evaluation.proofs.AcceptedTable.{linesOf, Table, accepted-table, Passed, never-refused, line-passed, Ends, line-ends}
 use Rattle.evaluation.proofs.LinesDone.{LinesDone, none-done, all-done, yes-few, line-fits, line-ready, line-done}
 use Rattle.evaluation.proofs.walk.write_lines.Statement.{statement}

@@ -9,9 +9,9 @@ use borrow.Author.Needs.{needs}
 use Rattle.words.specs.Bytes.{wordsOf, numbersOf, afterWords}
 use Rattle.words.proofs.Puts.{take-put}
 use Rattle.words.proofs.Words.{words-count}
-use Rattle.verdicts.specs.declared.tally.Tally.{Tally}
-use Rattle.verdicts.specs.Tally.{together}
-use Rattle.verdicts.specs.Written.{SamplesWritten}
+use Rattle.samples.specs.declared.tally.Tally.{Tally}
+use Rattle.samples.specs.Tally.{together}
+use Rattle.samples.specs.Written.{SamplesWritten}
 use Rattle.verdicts.specs.Around.{BlockFits, aroundValue, aroundRounds, AroundWrittenIn}
 use Rattle.verdicts.proofs.Blocks.{no-samples, more-samples, few-yes, fewer-ready}
 use Rattle.verdicts.proofs.around.write_around.Statement.{statement}

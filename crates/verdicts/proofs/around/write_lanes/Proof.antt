@@ -7,7 +7,7 @@ use borrow.Author.Needs.{needs}
 use Rattle.words.specs.Bytes.{wordsOf}
 use Rattle.words.proofs.Words.{words-count}
 use Rattle.lanes.specs.Lanes.{laneOf}
-use Rattle.verdicts.proofs.LineRows.{RowsDone, none-done, few-yes, row-room, one-more}
+use Rattle.samples.proofs.LineRows.{RowsDone, none-done, few-yes, row-room, one-more}
 use Rattle.verdicts.proofs.around.write_lanes.Statement.{statement}
 use Rattle.verdicts.proofs.around.write_lanes.Tie as tie
 

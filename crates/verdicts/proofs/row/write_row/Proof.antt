@@ -14,9 +14,9 @@ use Rattle.counting.specs.Totals.{count}
 use Rattle.counting.proofs.Totals.{sum-same}
 use Rattle.values.specs.Chain.{chainWord, chainVerdict}
 use Rattle.operators.specs.Rows.{Filled}
-use Rattle.verdicts.specs.Sample.{entry}
+use Rattle.samples.specs.Sample.{entry}
 use Rattle.verdicts.specs.Rows.{rowValue, RowReady}
-use Rattle.verdicts.proofs.LineRows.{entry-one}
+use Rattle.samples.proofs.LineRows.{entry-one}
 use Rattle.verdicts.proofs.Points.{row-bound}
 use Rattle.verdicts.proofs.row.write_row.Statement.{statement}
 use Rattle.verdicts.proofs.row.write_row.Tie as tie

@@ -13,7 +13,7 @@ use Rattle.counting.proofs.Totals.{most-none}
 use Rattle.checks.specs.Limits.{mostPlaces}
 use Rattle.operators.specs.Rows.{Filled}
 use Rattle.verdicts.specs.Rows.{rowValue, RowReady, valueIn}
-use Rattle.verdicts.proofs.LineRows.{RowsDone, none-done, few-yes, row-room, one-more}
+use Rattle.samples.proofs.LineRows.{RowsDone, none-done, few-yes, row-room, one-more}
 use Rattle.verdicts.proofs.row.write_rows.Statement.{statement}
 use Rattle.verdicts.proofs.row.write_rows.Tie as tie
 

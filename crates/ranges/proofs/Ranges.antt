@@ -1,0 +1,100 @@
+-- Somewhere and everywhere in lanes: one place more is taken into the least or the greatest, and what all places come to is the operator's value.
+use mathlib.Core.Path.{_≡_, refl, sym, ap, _∙_}
+use mathlib.Core.Bool.{Bool, true, false, cond}
+use mathlib.Core.List.{List}
+use Prim.Native.Nat.{ℕ, zero, suc, _+_, _-_, _≤_, _<_, min, max}
+use native.Mathlib.Numerals.{add-one}
+use native.Mathlib.Omega.{arith}
+use Rattle.words.specs.Bytes.{wordsOf, numbersOf}
+use Rattle.lines.specs.declared.operator.Bounds.{Bounds}
+use Rattle.logic.specs.Lattice.{leastOver, greatestOver}
+use Rattle.logic.specs.Table.{Signal}
+use Rattle.logic.proofs.Keeps.{same-kept, least-kept, greatest-kept}
+use Rattle.values.specs.Chain.{chains, chainLattice, chainOpposite, highest}
+use Rattle.values.specs.Signals.{signalIn, inTable}
+use Rattle.values.proofs.ChainWords.{signal-bound}
+use Rattle.values.proofs.Naturals.{meet-min, join-max}
+use Rattle.lanes.specs.Lanes.{lanes, laneOf}
+use Rattle.lanes.specs.Strips.{ofTwo, Written}
+use Rattle.lanes.specs.declared.rows.Block.{Block}
+use Rattle.lanes.specs.Rows.{RowOf, RowWritten, laneSignal, within}
+use Rattle.lanes.proofs.StripLaws.{written-over}
+use Rattle.ranges.specs.Ranges.{somewhereIn, ofNone, gathered, gatheredIn, RangeReady, RangeDone}
+use Rattle.lanes.proofs.RowLaws.{lane-signal, lane-zero}
+
+-- ---- the least or the greatest, one number more
+pub gathered-none : (least : Bool) (test : ℕ → Bool) (f : ℕ → ℕ) → ofNone least ≡ gathered least test f 0
+unfolding leastOver greatestOver
+gathered-none true test f = refl
+gathered-none false test f = refl
+
+least-small : (test : ℕ → Bool) (f : ℕ → ℕ) (n : ℕ) → leastOver chainLattice test f n ≤ highest
+unfolding leastOver
+least-small test f zero = omega arith
+least-small test f (suc n) = rw meet-min (omega (arith, least-small test f n))
+
+pub gathered-more : (least : Bool) (test : ℕ → Bool) (f : ℕ → ℕ) (k : ℕ) → test k ≡ true → ofTwo least (gathered least test f k) (f k) ≡ gathered least test f (k + 1)
+unfolding leastOver greatestOver
+gathered-more true test f k e = rw (add-one k, e) refl
+gathered-more false test f k e = rw (add-one k, e) refl
+
+pub gathered-past : (least : Bool) (test : ℕ → Bool) (f : ℕ → ℕ) (k : ℕ) → test k ≡ false → gathered least test f k ≡ gathered least test f (k + 1)
+unfolding leastOver greatestOver
+gathered-past true test f k e = rw (add-one k, e, meet-min) (omega (arith, least-small test f k))
+gathered-past false test f k e = rw (add-one k, e, join-max) (omega arith)
+
+-- a strip has taken in one place more
+pub gathering-more : (least : Bool) (test : ℕ → Bool) (row : List ℕ) (centre k : ℕ) {r : Bool} {s t u : List ℕ} → r ≡ test k → r ≡ true
+    → Written centre lanes (λ lane. gathered least test (laneOf row lane) k) s t
+    → Written centre lanes (λ lane. ofTwo least (laneOf t lane centre) (laneOf row lane k)) t u
+    → Written centre lanes (λ lane. gathered least test (laneOf row lane) (k + 1)) s u
+gathering-more least test row centre k told taken v w =
+    let over = written-over v w in
+    record {
+      written = λ lane l. over .written lane l ∙ ap (λ (c : ℕ). ofTwo least c (laneOf row lane k)) (v .written lane l) ∙ gathered-more least test (laneOf row lane) k (sym told ∙ taken);
+      kept = over .kept;
+    }
+
+pub gathering-past : (least : Bool) (test : ℕ → Bool) (row : List ℕ) (centre k : ℕ) {r : Bool} {s t : List ℕ} → r ≡ test k → r ≡ false
+    → Written centre lanes (λ lane. gathered least test (laneOf row lane) k) s t → Written centre lanes (λ lane. gathered least test (laneOf row lane) (k + 1)) s t
+gathering-past least test row centre k told left v = record { written = λ lane l. v .written lane l ∙ gathered-past least test (laneOf row lane) k (sym told ∙ left); kept = v .kept }
+
+-- ---- the dual: the least is the opposite of the greatest of the opposites
+one-more : (t : Bool) (a b c : ℕ) → a ≡ highest - b → a ≤ highest → c ≤ highest → min a (cond t c highest) ≡ highest - max b (cond t (highest - c) 0)
+one-more true a b c e h k = omega arith
+one-more false a b c e h k = omega arith
+
+least-dual : (test : ℕ → Bool) (f : ℕ → ℕ) (n : ℕ) → ((k : ℕ) → f k ≤ highest)
+    → leastOver chainLattice test f n ≡ chainOpposite (greatestOver chainLattice test (λ k. chainOpposite (f k)) n)
+unfolding leastOver greatestOver
+least-dual test f zero h = refl
+least-dual test f (suc n) h = rw (meet-min, join-max) (one-more (test n) _ _ (f n) (least-dual test f n h) (least-small test f n) (h n))
+
+-- ---- the block
+module _ (test : ℕ → Bool) (f g : ℕ → ℕ) (n : ℕ) (same : (k : ℕ) → k < n → f k ≡ g k) where
+  gathered-same : (least : Bool) → gathered least test f n ≡ gathered least test g n
+  gathered-same true = least-kept chainLattice chainLattice (λ u v. u ≡ v) (same-kept chainLattice) test f g n same
+  gathered-same false = greatest-kept chainLattice chainLattice (λ u v. u ≡ v) (same-kept chainLattice) test f g n same
+
+gathered-meant : (dual : Bool) (f : Signal chains) (n : ℕ) (distances : List ℕ) (lower upper t centre : ℕ) → ((k : ℕ) → f t k ≤ highest)
+    → gathered dual (inTable distances n centre lower upper) (f t) n ≡ somewhereIn dual distances n f lower upper t centre
+gathered-meant true f n distances lower upper t centre small = least-dual (inTable distances n centre lower upper) (f t) n small
+gathered-meant false f n distances lower upper t centre small = refl
+
+pub range-done : (words : List ℕ) (left n : ℕ) (distances : List ℕ) (block : Block) (bounds : Bounds) (dual : Bool) (row before after : List ℕ)
+    → RangeReady words left n (numbersOf (wordsOf distances)) (block .first) (block .count)
+    → RowOf (laneSignal words left n block) row n → RowWritten n (gatheredIn dual distances n bounds row) before after
+    → RangeDone words left n (numbersOf (wordsOf distances)) (block .first) (block .count) (bounds .lower) (bounds .upper) dual before after
+range-done words left n distances block bounds dual row before after ready decoded done = record {
+  values = λ centre lane b c.
+      done .written .at centre lane b (omega (arith, ready .few))
+      ∙ gathered-same (within distances n centre bounds) (laneOf row lane) (signalIn words left n (block .first + lane)) n
+      (λ k d. lane-signal words left n block row decoded lane k (ready .few) c d) dual
+      ∙ gathered-meant dual (signalIn words left n) n _ (bounds .lower) (bounds .upper) (block .first + lane) centre (signal-bound words left n (block .first + lane));
+  idle = λ centre lane b c h.
+      done .written .at centre lane b h
+      ∙ gathered-same (within distances n centre bounds) (laneOf row lane) (λ _. 0) n (λ k d. lane-zero words left n block row decoded lane k h c d) dual
+      ∙ gathered-meant dual (λ _ _. 0) n _ (bounds .lower) (bounds .upper) lane centre (λ _. omega arith);
+  kept = done .kept;
+  long = done .long;
+}

@@ -1,0 +1,4 @@
+pub mod Surround
+pub mod Steps
+pub mod Blocks
+pub mod Lent

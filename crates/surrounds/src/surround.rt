@@ -1,0 +1,139 @@
+// The surround by Definition 4.4's iteration, for several samples side by side, from the words of an answer.
+ghost use mathlib.Core.Path.{_≡_};
+ghost use Prim.Native.Nat.{_*_, _≤_, _<_, max};
+ghost use lib.ListN.{length};
+ghost use Rattle.words.specs.Bytes.{wordsOf};
+ghost use Rattle.lanes.specs.Lanes.{lanes};
+ghost use Rattle.lanes.specs.Rows.{TableThere};
+ghost use Rattle.surrounds.specs.Steps.{Start, Settled};
+ghost use Rattle.surrounds.specs.Blocks.{Rooms, CentreMasked};
+ghost use Rattle.surrounds.specs.Lent.{RowsReadyIn, CentresDoneIn, BlockReadyIn, BlockDoneIn};
+use crate::iteration::settle;
+use checks::limits::MOST_PLACES;
+use lanes::ROW;
+use lanes::rows::Block;
+use lanes::rows::clear_outside;
+use lanes::rows::load;
+use lanes::rows::mark_ball;
+use lanes::rows::mask;
+use lanes::strips::copy_strip;
+use lines::operator::Bounds;
+use roads::road::Network;
+
+// What is asked about every centre. The operands are the indices at which their signals begin.
+pub struct Surround {
+    pub left: usize,
+    pub right: usize,
+    pub bounds: Bounds,
+}
+
+fn greater_of(a: u64, b: u64) -> u64
+    ensures { λ r. ⌜ r ≡ max a b ⌝ }
+{
+    if a < b { b } else { a }
+}
+
+// Flags the ball about a centre, and masks the left operand by it and the right one by both bounds.
+fn mask_centre(
+    left: &[u32],
+    right: &[u32],
+    distances: &[u8],
+    bounds: Bounds,
+    centre: usize,
+    inside: &mut [bool],
+    x: &mut [u32],
+    ring: &mut [u32],
+)
+    requires { ⌜ (centre < length (now inside)) × TableThere (now distances) (length (now inside)) × Rooms (length (now inside)) (now left) (now right) (now x) (now ring) ⌝ }
+    ensures { λ _. ⌜ CentreMasked (length (now (inside .entry))) (now (left .entry)) (now (right .entry)) (now (distances .entry)) bounds centre (now (inside .exit)) (now (x .exit)) (now (ring .exit)) ⌝ }
+{
+    let places = inside.len();
+    let ball = Bounds {
+        lower: 0,
+        upper: bounds.upper,
+    };
+    mark_ball(inside, distances, centre, ball);
+    mask(left, x, distances, centre, places, ball);
+    mask(right, ring, distances, centre, places, bounds);
+}
+
+// The surround about a centre whose rows are masked: x has it at the centre, and no more than that.
+fn surround_centre(
+    x: &mut [u32],
+    ring: &[u32],
+    old: &mut [u32],
+    both: &mut [u32],
+    inside: &[bool],
+    sheet: &[u8],
+    network: Network,
+) -> u64
+    requires { ⌜ Start (wordsOf (now sheet)) (network .roads) (now inside) (now x) (now ring) × (length (now inside) * lanes ≤ length (now old)) × (length (now inside) * lanes ≤ length (now both)) ⌝ }
+    ensures { λ r. ⌜ Settled (wordsOf (now (sheet .entry))) (network .roads) (length (now (inside .entry))) (now (ring .entry)) (now (x .entry)) r (now (x .exit)) ⌝ }
+{
+    clear_outside(inside, old);
+    clear_outside(inside, both);
+    settle(x, ring, old, both, inside, sheet, network)
+}
+
+// The surrounds about all centres, and the greatest rounds of one.
+fn surround_centres(
+    left: &[u32],
+    right: &[u32],
+    sheet: &[u8],
+    network: Network,
+    distances: &[u8],
+    bounds: Bounds,
+    out: &mut [u32],
+) -> u64
+    requires { ⌜ RowsReadyIn (now left) (now right) (now sheet) network (now distances) × (network .places * lanes ≤ length (now out)) ⌝ }
+    ensures { λ r. ⌜ CentresDoneIn (now (left .entry)) (now (right .entry)) (now (sheet .entry)) network (now (distances .entry)) bounds (network .places) (now (out .entry)) (now (out .exit)) r ⌝ }
+{
+    let mut x: [u32; ROW] = [0; ROW];
+    let mut ring: [u32; ROW] = [0; ROW];
+    let mut old: [u32; ROW] = [0; ROW];
+    let mut both: [u32; ROW] = [0; ROW];
+    let mut inside: [bool; MOST_PLACES] = [false; MOST_PLACES];
+    let places = network.places;
+    let mut most: u64 = 0;
+    for centre in 0..places {
+        let flags = &mut inside[..places];
+        mask_centre(
+            left,
+            right,
+            distances,
+            bounds,
+            centre,
+            flags,
+            &mut x,
+            &mut ring,
+        );
+        let ball = &inside[..places];
+        let rounds = surround_centre(&mut x, &ring, &mut old, &mut both, ball, sheet, network);
+        copy_strip(&x, out, centre);
+        most = greater_of(most, rounds);
+    }
+    most
+}
+
+// The surround of two signals, which stand in the words of an answer, at samples first to first + count - 1: entry
+// centre * LANES + lane of `out` is the chain number of sample first + lane about the centre, and from lane `count` on the lowest. The result is
+// the greatest rounds.
+pub fn surround_block(
+    words: &[u8],
+    surround: Surround,
+    sheet: &[u8],
+    network: Network,
+    distances: &[u8],
+    block: Block,
+    out: &mut [u32],
+) -> u64
+    requires { ⌜ BlockReadyIn (now words) surround (now sheet) network (now distances) block × (network .places * lanes ≤ length (now out)) ⌝ }
+    ensures { λ r. ⌜ BlockDoneIn (now (words .entry)) surround (now (sheet .entry)) network (now (distances .entry)) block (now (out .entry)) (now (out .exit)) r ⌝ }
+{
+    let mut left: [u32; ROW] = [0; ROW];
+    let mut right: [u32; ROW] = [0; ROW];
+    load(words, surround.left, network.places, block, &mut left);
+    load(words, surround.right, network.places, block, &mut right);
+    let bounds = surround.bounds;
+    surround_centres(&left, &right, sheet, network, distances, bounds, out)
+}
