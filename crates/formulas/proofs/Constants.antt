@@ -10,12 +10,12 @@ any-constant (AtLeast s c) = tt
 any-constant (AtMost s c) = tt
 any-constant (Not i) = tt
 any-constant (And i j) = tt
-any-constant (Until i j lower upper) = tt
+any-constant (Until side i j lower upper) = tt
 any-constant (Somewhere i lower upper) = tt
 any-constant (Surrounded i j lower upper) = tt
 any-constant (Or i j) = tt
-any-constant (Eventually i lower upper) = tt
-any-constant (Always i lower upper) = tt
+any-constant (Eventually side i lower upper) = tt
+any-constant (Always side i lower upper) = tt
 any-constant (Everywhere i lower upper) = tt
 
 pub any-constants : (lines : List Line) → ConstantsIn (λ _. Unit {0}) lines

@@ -1,10 +1,14 @@
 -- What the lines of a table say and what is recorded, without what it means: operators with their operands, constants and bounds, and the samples
--- for which a line has verdicts ("Codes" of document 01).
+-- for which a line has verdicts ("Codes" of document 01, request M-100).
 use mathlib.Core.List.{List}
-use Prim.Native.Nat.{ℕ, _-_, _<_, _^_, min}
+use Prim.Native.Nat.{ℕ, _+_, _-_, _<_, _^_, min, max}
 use lib.ListN.{getD}
 use lib.IntN.{ℤ, pos, negsuc}
 use Rattle.counting.specs.Lists.{All}
+
+-- An operator over time looks forward or backward from a sample.
+pub data Direction : Type 0 where
+  forward backward : Direction
 
 -- What a line says, in the order of the codes 0 to 11. Atoms have a signal and a constant; operands are numbers of earlier lines; bounds
 -- come last, lower before upper.
@@ -13,35 +17,64 @@ pub data Operator : Type 0 where
   AtLeast AtMost : ℕ → ℤ → Operator
   Not : ℕ → Operator
   And : ℕ → ℕ → Operator
-  Until : ℕ → ℕ → ℕ → ℕ → Operator
+  Until : Direction → ℕ → ℕ → ℕ → ℕ → Operator
   Somewhere : ℕ → ℕ → ℕ → Operator
   Surrounded : ℕ → ℕ → ℕ → ℕ → Operator
   Or : ℕ → ℕ → Operator
-  Eventually Always Everywhere : ℕ → ℕ → ℕ → Operator
+  Eventually Always : Direction → ℕ → ℕ → ℕ → Operator
+  Everywhere : ℕ → ℕ → ℕ → Operator
 
--- Length of a line, given T and the operands' lengths: verdicts are for the samples 0 to length - 1. A difference stops at 0, where no sample is
--- left (13).
-abbrev pub lengthOf : ℕ → (ℕ → ℕ) → Operator → ℕ
-lengthOf T operand True = T
-lengthOf T operand (AtLeast x c) = T
-lengthOf T operand (AtMost x c) = T
-lengthOf T operand (Not i) = operand i
-lengthOf T operand (And i j) = min (operand i) (operand j)
-lengthOf T operand (Until i j lower upper) = min (operand i) (operand j) - upper
-lengthOf T operand (Somewhere i lower upper) = operand i
-lengthOf T operand (Surrounded i j lower upper) = min (operand i) (operand j)
-lengthOf T operand (Or i j) = min (operand i) (operand j)
-lengthOf T operand (Eventually i lower upper) = operand i - upper
-lengthOf T operand (Always i lower upper) = operand i - upper
-lengthOf T operand (Everywhere i lower upper) = operand i
+-- codes 12 to 14 (M-100)
+abbrev pub Since : ℕ → ℕ → ℕ → ℕ → Operator
+Since = Until backward
+
+abbrev pub Once : ℕ → ℕ → ℕ → Operator
+Once = Eventually backward
+
+abbrev pub Historically : ℕ → ℕ → ℕ → Operator
+Historically = Always backward
+
+-- The samples for which a line has verdicts, by their numbers in the recording: so many from the first on (M-100). Without a sample the line is
+-- refused (13), so a difference may stop at 0.
+pub record Extent : Type 0 where
+  pub first : ℕ
+  pub length : ℕ
+
+-- the sample after the last
+abbrev pub endOf : Extent → ℕ
+endOf e = e .first + e .length
+
+-- the samples of both: from the later first one to the earlier end
+abbrev pub common : Extent → Extent → Extent
+common a b = let first : ℕ = max (a .first) (b .first) in record { first = first; length = min (endOf a) (endOf b) - first }
+
+-- the samples that have `upper` more of them on that side
+abbrev pub looking : Direction → ℕ → Extent → Extent
+looking forward upper e = record { first = e .first; length = e .length - upper }
+looking backward upper e = record { first = e .first + upper; length = e .length - upper }
+
+-- Extent of a line, given T and the operands' extents
+abbrev pub extentOf : ℕ → (ℕ → Extent) → Operator → Extent
+extentOf T operand True = record { first = 0; length = T }
+extentOf T operand (AtLeast x c) = record { first = 0; length = T }
+extentOf T operand (AtMost x c) = record { first = 0; length = T }
+extentOf T operand (Not i) = operand i
+extentOf T operand (And i j) = common (operand i) (operand j)
+extentOf T operand (Until side i j lower upper) = looking side upper (common (operand i) (operand j))
+extentOf T operand (Somewhere i lower upper) = operand i
+extentOf T operand (Surrounded i j lower upper) = common (operand i) (operand j)
+extentOf T operand (Or i j) = common (operand i) (operand j)
+extentOf T operand (Eventually side i lower upper) = looking side upper (operand i)
+extentOf T operand (Always side i lower upper) = looking side upper (operand i)
+extentOf T operand (Everywhere i lower upper) = operand i
 
 pub record Line : Type 0 where
   pub operator : Operator
-  pub length : ℕ
+  pub extent : Extent
 
 -- line i of a table; one that is not there has no sample
 abbrev pub lineIn : List Line → ℕ → Line
-lineIn lines i = getD lines i (record { operator = True; length = 0 })
+lineIn lines i = getD lines i (record { operator = True; extent = record { first = 0; length = 0 } })
 
 -- What is recorded (the source's trace): signal, then sample, then place
 abbrev pub Recording : Type 0
@@ -59,12 +92,12 @@ ConstantIn Fit (AtLeast s c) = Fit c
 ConstantIn Fit (AtMost s c) = Fit c
 ConstantIn Fit (Not i) = Unit {0}
 ConstantIn Fit (And i j) = Unit {0}
-ConstantIn Fit (Until i j lower upper) = Unit {0}
+ConstantIn Fit (Until side i j lower upper) = Unit {0}
 ConstantIn Fit (Somewhere i lower upper) = Unit {0}
 ConstantIn Fit (Surrounded i j lower upper) = Unit {0}
 ConstantIn Fit (Or i j) = Unit {0}
-ConstantIn Fit (Eventually i lower upper) = Unit {0}
-ConstantIn Fit (Always i lower upper) = Unit {0}
+ConstantIn Fit (Eventually side i lower upper) = Unit {0}
+ConstantIn Fit (Always side i lower upper) = Unit {0}
 ConstantIn Fit (Everywhere i lower upper) = Unit {0}
 
 abbrev pub ConstantsIn : (ℤ → Type 0) → List Line → Type 0

@@ -1,5 +1,5 @@
 -- Examples on the definitions of the logic alone, so that they are pinned where they stand: K of document 01 for the bounds of a surround, H for its
--- rounds, an until and an always for the samples that they look at. All examples on whole sheets are in the crate answers.
+-- rounds, an until, a since, an always and a historically for the samples that they look at. All examples on whole sheets are in the crate answers.
 use mathlib.Core.Path.{_≡_, refl}
 use mathlib.Core.Bool.{cond, _||_}
 use mathlib.Core.List.{List, [], _∷_}
@@ -9,12 +9,12 @@ use lib.ListN.{getD}
 use lib.IntN.{ℤ, pos, negsuc}
 use Rattle.logic.specs.Lattice.{leastOver, greatestOver}
 use Rattle.logic.specs.Margin.{finite}
-use Rattle.formulas.specs.Formulas.{Surrounded, Always}
+use Rattle.formulas.specs.Formulas.{forward, backward, Surrounded, Always, Historically}
 use Rattle.network.specs.Distance.{dist, none, direct, distance}
 use Rattle.network.specs.Network.{Network, joined, distanceIn, within}
 use Rattle.logic.specs.Iteration.{iterate, masked, first, atRest, rounds}
 use Rattle.logic.specs.Surround.{greatestRegion, boundary, allowed, regionValue, surround}
-use Rattle.logic.specs.Table.{Signal, margins, untilAt, surroundAt, value}
+use Rattle.logic.specs.Table.{Signal, margins, windowAt, untilAt, surroundAt, value}
 use Rattle.logic.specs.Counts.{roundsAt}
 
 -- places 0-1-2 with weights 1
@@ -43,11 +43,28 @@ overTime xs t l = finite (getD xs t (pos 0))
 
 -- Until at 1..1, the present sample and the next: right is 7 at the next, but left is -2 there. With left up to the sample before t' alone it would be 4,
 -- and with the present sample in the window 1.
-until-next : untilAt margins (overTime (pos 4 ∷ negsuc 1 ∷ [])) (overTime (pos 1 ∷ pos 7 ∷ [])) 1 1 0 0 ≡ finite (negsuc 1)
-unfolding untilAt leastOver greatestOver
+until-next : untilAt margins forward (overTime (pos 4 ∷ negsuc 1 ∷ [])) (overTime (pos 1 ∷ pos 7 ∷ [])) 1 1 0 0 ≡ finite (negsuc 1)
+unfolding untilAt windowAt leastOver greatestOver
 until-next = refl
 
 -- Always at 0..1 is the least of the window: 1, where without the inner not it would be -7.
-always-least : value margins path (λ _ _ _. pos 0) (λ _. overTime (pos 1 ∷ pos 7 ∷ [])) (Always 0 0 1) 0 0 ≡ finite (pos 1)
-unfolding value untilAt leastOver greatestOver
+always-least : value margins path (λ _ _ _. pos 0) (λ _. overTime (pos 1 ∷ pos 7 ∷ [])) (Always forward 0 0 1) 0 0 ≡ finite (pos 1)
+unfolding value untilAt windowAt leastOver greatestOver
 always-least = refl
+
+-- Since at 1..2, from two samples back to the sample before: right is 9 two samples back, but left is 1 at the sample between. With the present
+-- sample in the window it would be 2.
+since-refill : untilAt margins backward (overTime (pos 5 ∷ pos 1 ∷ pos 4 ∷ [])) (overTime (pos 9 ∷ negsuc 2 ∷ pos 2 ∷ [])) 1 2 2 0 ≡ finite (pos 1)
+unfolding untilAt windowAt leastOver greatestOver
+since-refill = refl
+
+-- Since at 0..2: right is 3 at the sample before, and left is above that from there on. With left asked for from two samples back on, whatever t' is,
+-- it would be -5.
+since-late : untilAt margins backward (overTime (negsuc 4 ∷ pos 6 ∷ pos 4 ∷ [])) (overTime (pos 9 ∷ pos 3 ∷ negsuc 0 ∷ [])) 0 2 2 0 ≡ finite (pos 3)
+unfolding untilAt windowAt leastOver greatestOver
+since-late = refl
+
+-- Historically at 1..2 is the least of its window: 1, where the present sample has -3.
+historically-least : value margins path (λ _ _ _. pos 0) (λ _. overTime (pos 7 ∷ pos 1 ∷ negsuc 2 ∷ [])) (Historically 0 1 2) 2 0 ≡ finite (pos 1)
+unfolding value untilAt windowAt leastOver greatestOver
+historically-least = refl

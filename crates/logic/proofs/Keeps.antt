@@ -5,6 +5,7 @@ use mathlib.Core.Bool.{Bool, true, false, cond}
 use mathlib.Core.List.{List, [], _∷_}
 use Prim.Native.Nat.{ℕ, zero, suc, _<_}
 use native.Mathlib.Nat.{lt-suc-self, le-suc, le-trans}
+use lib.Dec.{T}
 use Rattle.logic.specs.Lattice.{Lattice, leastOver, greatestOver}
 use Rattle.logic.specs.Surround.{holds, greatestRegion, allowed, regionValue, surround}
 use Rattle.logic.specs.Iteration.{iterate, masked}
@@ -25,16 +26,16 @@ same-kept L = record {
 }
 
 module _ (L M : Lattice) (R : L.Value → M.Value → Type 0) (K : Keeps L M R) where
-  pub cond-kept : (t : Bool) (a b : L.Value) (c d : M.Value) → R a c → R b d → R (cond t a b) (cond t c d)
-  cond-kept true a b c d h k = h
+  pub cond-kept : (t : Bool) (a b : L.Value) (c d : M.Value) → (T t → R a c) → R b d → R (cond t a b) (cond t c d)
+  cond-kept true a b c d h k = h tt
   cond-kept false a b c d h k = k
 
-  pub least-kept : (t : ℕ → Bool) (f : ℕ → L.Value) (g : ℕ → M.Value) (n : ℕ) → ((l : ℕ) → l < n → R (f l) (g l)) → R (leastOver L t f n) (leastOver M t g n)
+  pub least-kept : (t : ℕ → Bool) (f : ℕ → L.Value) (g : ℕ → M.Value) (n : ℕ) → ((l : ℕ) → l < n → T (t l) → R (f l) (g l)) → R (leastOver L t f n) (leastOver M t g n)
   unfolding leastOver
   least-kept t f g zero h = K.keeps-top
   least-kept t f g (suc n) h = K.keeps-meet _ _ _ _ (least-kept t f g n (λ l b. h l (le-trans b (le-suc n)))) (cond-kept (t n) _ _ _ _ (h n (lt-suc-self n)) K.keeps-top)
 
-  pub greatest-kept : (t : ℕ → Bool) (f : ℕ → L.Value) (g : ℕ → M.Value) (n : ℕ) → ((l : ℕ) → l < n → R (f l) (g l)) → R (greatestOver L t f n) (greatestOver M t g n)
+  pub greatest-kept : (t : ℕ → Bool) (f : ℕ → L.Value) (g : ℕ → M.Value) (n : ℕ) → ((l : ℕ) → l < n → T (t l) → R (f l) (g l)) → R (greatestOver L t f n) (greatestOver M t g n)
   unfolding greatestOver
   greatest-kept t f g zero h = K.keeps-bottom
   greatest-kept t f g (suc n) h = K.keeps-join _ _ _ _ (greatest-kept t f g n (λ l b. h l (le-trans b (le-suc n)))) (cond-kept (t n) _ _ _ _ (h n (lt-suc-self n)) K.keeps-bottom)
@@ -46,19 +47,19 @@ module _ (L M : Lattice) (R : L.Value → M.Value → Type 0) (K : Keeps L M R) 
 
   pub masked-kept : (t : ℕ → Bool) (f : ℕ → L.Value) (g : ℕ → M.Value) (n : ℕ) → ((l : ℕ) → l < n → R (f l) (g l)) → (l : ℕ) → l < n → R (masked L t f l) (masked M t g l)
   unfolding masked
-  masked-kept t f g n h l b = cond-kept (t l) _ _ _ _ (h l b) K.keeps-bottom
+  masked-kept t f g n h l b = cond-kept (t l) _ _ _ _ (λ _. h l b) K.keeps-bottom
 
   module _ (joined : ℕ → ℕ → Bool) (n : ℕ) (p q : ℕ → L.Value) (p′ q′ : ℕ → M.Value)
       (hp : (l : ℕ) → l < n → R (p l) (p′ l)) (hq : (l : ℕ) → l < n → R (q l) (q′ l)) where
     pub regionValue-kept : (A : ℕ → Bool) → R (regionValue L joined n p q A) (regionValue M joined n p′ q′ A)
     unfolding regionValue
-    regionValue-kept A = K.keeps-meet _ _ _ _ (least-kept A p p′ n hp) (least-kept _ q q′ n hq)
+    regionValue-kept A = K.keeps-meet _ _ _ _ (least-kept A p p′ n (λ l b _. hp l b)) (least-kept _ q q′ n (λ l b _. hq l b))
 
     pub surround-kept : (inside edge : ℕ → Bool) (l : ℕ) → R (surround L joined n inside edge p q l) (surround M joined n inside edge p′ q′ l)
     unfolding surround
-    surround-kept inside edge l = region-kept n _ _ (λ A. cond-kept (allowed joined n inside edge l (holds A)) _ _ _ _ (regionValue-kept (holds A)) K.keeps-bottom)
+    surround-kept inside edge l = region-kept n _ _ (λ A. cond-kept (allowed joined n inside edge l (holds A)) _ _ _ _ (λ _. regionValue-kept (holds A)) K.keeps-bottom)
 
     pub iterate-kept : (i l : ℕ) → l < n → R (iterate L joined n p q i l) (iterate M joined n p′ q′ i l)
     unfolding iterate
     iterate-kept zero l b = hp l b
-    iterate-kept (suc i) l b = K.keeps-meet _ _ _ _ (iterate-kept i l b) (least-kept (joined l) _ _ n (λ k c. K.keeps-join _ _ _ _ (iterate-kept i k c) (hq k c)))
+    iterate-kept (suc i) l b = K.keeps-meet _ _ _ _ (iterate-kept i l b) (least-kept (joined l) _ _ n (λ k c _. K.keeps-join _ _ _ _ (iterate-kept i k c) (hq k c)))

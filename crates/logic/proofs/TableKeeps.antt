@@ -1,11 +1,12 @@
 -- One induction over the lines of a table, for every relation that the operations keep. Steadiness and the agreement of margin and verdict
 -- are its instances.
 use mathlib.Core.List.{List, [], _∷_}
-use Prim.Native.Nat.{ℕ, _<_}
+use Prim.Native.Nat.{ℕ, suc, _+_, _-_, _<_}
+use lib.Dec.{leb}
 use lib.IntN.{ℤ, _-ℤ_}
 use Rattle.network.specs.Network.{Network, joined, within}
-use Rattle.formulas.specs.Formulas.{Operator, True, AtLeast, AtMost, Not, And, Until, Somewhere, Surrounded, Or, Eventually, Always, Everywhere, Line, Recording, ConstantIn, ConstantsIn}
-use Rattle.logic.specs.Table.{Reading, Signal, untilAt, somewhereAt, surroundAt, value, valuesAfter, valueAt}
+use Rattle.formulas.specs.Formulas.{Direction, forward, backward, Operator, True, AtLeast, AtMost, Not, And, Until, Somewhere, Surrounded, Or, Eventually, Always, Everywhere, Line, Recording, ConstantIn, ConstantsIn}
+use Rattle.logic.specs.Table.{Reading, Signal, windowAt, untilAt, somewhereAt, surroundAt, value, valuesAfter, valueAt}
 use Rattle.counting.specs.Lists.{Each, none, more}
 use Rattle.counting.proofs.Lists.{each-append, each-at}
 use Rattle.logic.proofs.Keeps.{Keeps, least-kept, greatest-kept, surround-kept}
@@ -15,14 +16,20 @@ module _ (R M : Reading) (N : Network) (Rel : R.lattice.Value → M.lattice.Valu
   abbrev Alike : Signal R → Signal M → Type 0
   Alike f g = (t l : ℕ) → l < N.places → Rel (f t l) (g t l)
 
-  until-kept : (p q : Signal R) (p′ q′ : Signal M) → Alike p p′ → Alike q q′ → (lower upper : ℕ) → Alike (untilAt R p q lower upper) (untilAt M p′ q′ lower upper)
+  window-kept : (p q : Signal R) (p′ q′ : Signal M) → Alike p p′ → Alike q q′ → (first last : ℕ) (from to : ℕ → ℕ) (l : ℕ) → l < N.places
+      → Rel (windowAt R p q first last from to l) (windowAt M p′ q′ first last from to l)
+  unfolding windowAt
+  window-kept p q p′ q′ hp hq first last from to l b = greatest-kept R.lattice M.lattice Rel K (leb first) _ _ (suc last)
+      (λ u _ _. K.keeps-meet _ _ _ _ (hq u l b) (least-kept R.lattice M.lattice Rel K (leb (from u)) _ _ (suc (to u)) (λ v _ _. hp v l b)))
+
+  until-kept : (side : Direction) (p q : Signal R) (p′ q′ : Signal M) → Alike p p′ → Alike q q′ → (lower upper : ℕ) → Alike (untilAt R side p q lower upper) (untilAt M side p′ q′ lower upper)
   unfolding untilAt
-  until-kept p q p′ q′ hp hq lower upper t l b = greatest-kept R.lattice M.lattice Rel K _ _ _ _
-      (λ u _. K.keeps-meet _ _ _ _ (hq u l b) (least-kept R.lattice M.lattice Rel K _ _ _ _ (λ v _. hp v l b)))
+  until-kept forward p q p′ q′ hp hq lower upper t = window-kept p q p′ q′ hp hq (t + lower) (t + upper) (λ _. t) (λ u. u)
+  until-kept backward p q p′ q′ hp hq lower upper t = window-kept p q p′ q′ hp hq (t - upper) (t - lower) (λ u. u) (λ _. t)
 
   somewhere-kept : (p : Signal R) (p′ : Signal M) → Alike p p′ → (lower upper : ℕ) → Alike (somewhereAt R N p lower upper) (somewhereAt M N p′ lower upper)
   unfolding somewhereAt
-  somewhere-kept p p′ hp lower upper t l b = greatest-kept R.lattice M.lattice Rel K (within N l lower upper) _ _ N.places (λ k c. hp t k c)
+  somewhere-kept p p′ hp lower upper t l b = greatest-kept R.lattice M.lattice Rel K (within N l lower upper) _ _ N.places (λ k c _. hp t k c)
 
   surroundAt-kept : (p q : Signal R) (p′ q′ : Signal M) → Alike p p′ → Alike q q′ → (lower upper : ℕ) → Alike (surroundAt R N p q lower upper) (surroundAt M N p′ q′ lower upper)
   unfolding surroundAt
@@ -40,13 +47,13 @@ module _ (R M : Reading) (N : Network) (Rel : R.lattice.Value → M.lattice.Valu
     value-kept line line′ h (AtMost s c) fit t l b = atMost-kept s t l c fit
     value-kept line line′ h (Not i) fit t l b = opposite-kept _ _ (h i t l b)
     value-kept line line′ h (And i j) fit t l b = K.keeps-meet _ _ _ _ (h i t l b) (h j t l b)
-    value-kept line line′ h (Until i j lower upper) fit t l b = until-kept _ _ _ _ (h i) (h j) lower upper t l b
+    value-kept line line′ h (Until side i j lower upper) fit t l b = until-kept side _ _ _ _ (h i) (h j) lower upper t l b
     value-kept line line′ h (Somewhere i lower upper) fit t l b = somewhere-kept _ _ (h i) lower upper t l b
     value-kept line line′ h (Surrounded i j lower upper) fit t l b = surroundAt-kept _ _ _ _ (h i) (h j) lower upper t l b
     value-kept line line′ h (Or i j) fit t l b = opposite-kept _ _ (K.keeps-meet _ _ _ _ (opposite-kept _ _ (h i t l b)) (opposite-kept _ _ (h j t l b)))
-    value-kept line line′ h (Eventually i lower upper) fit t l b = until-kept _ _ _ _ (λ u k e. K.keeps-top) (h i) lower upper t l b
-    value-kept line line′ h (Always i lower upper) fit t l b =
-        opposite-kept _ _ (until-kept _ _ _ _ (λ u k e. K.keeps-top) (λ u k e. opposite-kept _ _ (h i u k e)) lower upper t l b)
+    value-kept line line′ h (Eventually side i lower upper) fit t l b = until-kept side _ _ _ _ (λ u k e. K.keeps-top) (h i) lower upper t l b
+    value-kept line line′ h (Always side i lower upper) fit t l b =
+        opposite-kept _ _ (until-kept side _ _ _ _ (λ u k e. K.keeps-top) (λ u k e. opposite-kept _ _ (h i u k e)) lower upper t l b)
     value-kept line line′ h (Everywhere i lower upper) fit t l b = opposite-kept _ _ (somewhere-kept _ _ (λ u k e. opposite-kept _ _ (h i u k e)) lower upper t l b)
 
     values-kept : (known : List (Signal R)) (known′ : List (Signal M)) → Each Alike known known′ → (lines : List Line) → ConstantsIn Fit lines

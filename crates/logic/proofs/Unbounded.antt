@@ -12,4 +12,4 @@ pub unbounded-kept : (L M : Lattice) (R : L.Value → M.Value → Type 0) → Ke
     → ((l : ℕ) → l < n → R (p l) (p′ l)) → ((l : ℕ) → l < n → R (q l) (q′ l)) → (l : ℕ) → R (unboundedSurround L joined n p q l) (unboundedSurround M joined n p′ q′ l)
 unfolding unboundedSurround
 unbounded-kept L M R K joined n p q p′ q′ hp hq l =
-    region-kept L M R K n _ _ (λ A. cond-kept L M R K (holds A l) _ _ _ _ (regionValue-kept L M R K joined n p q p′ q′ hp hq (holds A)) (K.keeps-bottom))
+    region-kept L M R K n _ _ (λ A. cond-kept L M R K (holds A l) _ _ _ _ (λ _. regionValue-kept L M R K joined n p q p′ q′ hp hq (holds A)) (K.keeps-bottom))

@@ -1,13 +1,13 @@
--- The meaning of a table of lines, codes 0 to 11 (Definitions 3.1 and 3.4), once for verdicts and margins: a reading says what values
+-- The meaning of a table of lines, codes 0 to 14 (Definitions 3.1 and 3.4, request M-100), once for verdicts and margins: a reading says what values
 -- are, how they are negated and what an atom is worth by its margin.
 use mathlib.Core.Bool.{not}
 use mathlib.Core.List.{List, [], _∷_, _++_}
-use Prim.Native.Nat.{ℕ, suc, _+_}
+use Prim.Native.Nat.{ℕ, suc, _+_, _-_}
 use lib.Dec.{leb}
 use lib.ListN.{getD}
 use lib.IntN.{ℤ, pos, _-ℤ_}
 use lib.Signed.{leZ}
-use Rattle.formulas.specs.Formulas.{Operator, True, AtLeast, AtMost, Not, And, Until, Somewhere, Surrounded, Or, Eventually, Always, Everywhere, Line, Recording}
+use Rattle.formulas.specs.Formulas.{Direction, forward, backward, Operator, True, AtLeast, AtMost, Not, And, Until, Somewhere, Surrounded, Or, Eventually, Always, Everywhere, Line, Recording}
 use Rattle.logic.specs.Lattice.{Lattice, verdictLattice, leastOver, greatestOver}
 use Rattle.logic.specs.Margin.{finite, negate, marginLattice}
 use Rattle.network.specs.Network.{Network, joined, within}
@@ -31,10 +31,15 @@ abbrev pub Signal : Reading → Type 0
 Signal R = ℕ → ℕ → R.lattice.Value
 
 module _ (R : Reading) where
-  -- some t' from t + lower to t + upper has right at t' and left at every sample from t to t', t' included
-  unfoldable pub untilAt : Signal R → Signal R → ℕ → ℕ → Signal R
-  untilAt left right lower upper t l = greatestOver R.lattice (leb (t + lower))
-      (λ u. R.lattice.meet (right u l) (leastOver R.lattice (leb t) (λ v. left v l) (suc u))) (suc (t + upper))
+  -- some sample u from `first` to `last` has right at u and left at every sample from `from u` to `to u`, both included
+  unfoldable pub windowAt : Signal R → Signal R → (first last : ℕ) → (from to : ℕ → ℕ) → ℕ → R.lattice.Value
+  windowAt left right first last from to l = greatestOver R.lattice (leb first)
+      (λ u. R.lattice.meet (right u l) (leastOver R.lattice (leb (from u)) (λ v. left v l) (suc (to u)))) (suc last)
+
+  -- until: right at some u from t + lower to t + upper, left from t to u; since: right at some u from t - upper to t - lower, left from u to t
+  unfoldable pub untilAt : Direction → Signal R → Signal R → ℕ → ℕ → Signal R
+  untilAt forward left right lower upper t = windowAt left right (t + lower) (t + upper) (λ _. t) (λ u. u)
+  untilAt backward left right lower upper t = windowAt left right (t - upper) (t - lower) (λ u. u) (λ _. t)
 
   abbrev pub opposite : Signal R → Signal R
   opposite left t l = R.opposite (left t l)
@@ -59,12 +64,12 @@ module _ (R : Reading) (N : Network) where
   value x line (AtMost signal c) = λ t l. R.atom (c -ℤ x signal t l)
   value x line (Not i) = opposite R (line i)
   value x line (And i j) = λ t l. R.lattice.meet (line i t l) (line j t l)
-  value x line (Until i j lower upper) = untilAt R (line i) (line j) lower upper
+  value x line (Until side i j lower upper) = untilAt R side (line i) (line j) lower upper
   value x line (Somewhere i lower upper) = somewhereAt (line i) lower upper
   value x line (Surrounded i j lower upper) = surroundAt (line i) (line j) lower upper
   value x line (Or i j) = λ t l. R.opposite (R.lattice.meet (R.opposite (line i t l)) (R.opposite (line j t l)))
-  value x line (Eventually i lower upper) = untilAt R (everTrue R) (line i) lower upper
-  value x line (Always i lower upper) = opposite R (untilAt R (everTrue R) (opposite R (line i)) lower upper)
+  value x line (Eventually side i lower upper) = untilAt R side (everTrue R) (line i) lower upper
+  value x line (Always side i lower upper) = opposite R (untilAt R side (everTrue R) (opposite R (line i)) lower upper)
   value x line (Everywhere i lower upper) = opposite R (somewhereAt (opposite R (line i)) lower upper)
 
   -- the values of all lines, line 0 first, after those already known. An operand that is not there counts as ever true; no accepted sheet has one
