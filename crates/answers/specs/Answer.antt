@@ -1,11 +1,11 @@
--- Document 01, "The answer": the words of the answer to an accepted sheet.
+-- Document 01, "The answer", and request M-100: the words of the answer to an accepted sheet.
 use Prim.Native.Nat.{ℕ, _+_, _*_, _^_}
 use mathlib.Core.List.{List, [], _∷_, _++_}
 use lib.ListN.{length}
 use Rattle.words.specs.Word.{wordOf}
 use Rattle.words.specs.Rows.{concat, rows}
 use Rattle.network.specs.Network.{Network}
-use Rattle.formulas.specs.Formulas.{Line, lineIn, Recording}
+use Rattle.formulas.specs.Formulas.{Extent, Line, lineIn, Recording}
 use Rattle.logic.specs.Table.{verdicts, margins, valueAt}
 use Rattle.counting.specs.Totals.{sumBelow}
 use Rattle.values.specs.Said.{verdictWord}
@@ -13,15 +13,15 @@ use Rattle.values.specs.Said.{verdictWord}
 module _ (n : ℕ) (lines : List Line) where
   -- the index of line i's first word: after the head and the earlier lines
   unfoldable pub lineIndex : ℕ → ℕ
-  lineIndex i = 1 + sumBelow (λ k. 1 + lineIn lines k .length * n) i
+  lineIndex i = 1 + sumBelow (λ k. 1 + lineIn lines k .extent .length * n) i
 
   -- head, lines and end
   unfoldable pub wordsNeeded : ℕ
   wordsNeeded = 1 + lineIndex (length lines)
 
--- kind 14, bits 11..0 the length
+-- kind 14: bits 23..12 the first sample, 11..0 the length
 abbrev pub firstWord : Line → ℕ
-firstWord line = wordOf 14 (line .length)
+firstWord line = wordOf 14 (line .extent .first * 2 ^ 12 + line .extent .length)
 
 module _ (N : Network) (T : ℕ) (x : Recording) (lines : List Line) where
   -- verdict and margin of line i at sample t and place l
@@ -30,7 +30,9 @@ module _ (N : Network) (T : ℕ) (x : Recording) (lines : List Line) where
 
   -- then the verdicts, sample outermost, then place
   unfoldable pub lineWords : ℕ → List ℕ
-  lineWords i = firstWord (lineIn lines i) ∷ rows (wordFor i) (lineIn lines i .length) N.places
+  lineWords i =
+      let e : Extent = lineIn lines i .extent in
+      firstWord (lineIn lines i) ∷ rows (λ u. wordFor i (e .first + u)) (e .length) N.places
 
   -- kind 13: bits 27..20 n, 19..12 line count, 11..0 T
   unfoldable pub headWord : ℕ

@@ -6,13 +6,13 @@ use Prim.Native.Nat.{ℕ}
 use lib.Dec.{ltb}
 use lib.ListN.{length}
 use Rattle.network.specs.Network.{Network}
-use Rattle.formulas.specs.Formulas.{Line, lineIn, Recording}
+use Rattle.formulas.specs.Formulas.{has, Line, lineIn, Recording}
 use Rattle.logic.specs.Table.{verdicts, margins, valueAt}
 use Rattle.values.specs.Said.{Said, says, nothing}
 
 -- the line, the sample and the place are there
 abbrev pub present : Network → List Line → ℕ → ℕ → ℕ → Bool
-present N lines i t l = ltb i (length lines) && (ltb t (lineIn lines i .length) && ltb l (N.places))
+present N lines i t l = ltb i (length lines) && (has (lineIn lines i .extent) t && ltb l (N.places))
 
 abbrev pub meantAt : Network → Recording → List Line → ℕ → ℕ → ℕ → Said
 meantAt N x lines i t l = cond (present N lines i t l) (says (valueAt verdicts N x lines i t l) (valueAt margins N x lines i t l)) nothing

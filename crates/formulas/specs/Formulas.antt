@@ -1,7 +1,9 @@
 -- What the lines of a table say and what is recorded, without what it means: operators with their operands, constants and bounds, and the samples
 -- for which a line has verdicts ("Codes" of document 01, request M-100).
 use mathlib.Core.List.{List}
+use mathlib.Core.Bool.{Bool, _&&_}
 use Prim.Native.Nat.{ℕ, _+_, _-_, _<_, _^_, min, max}
+use lib.Dec.{leb, ltb}
 use lib.ListN.{getD}
 use lib.IntN.{ℤ, pos, negsuc}
 use Rattle.counting.specs.Lists.{All}
@@ -43,6 +45,10 @@ pub record Extent : Type 0 where
 -- the sample after the last
 abbrev pub endOf : Extent → ℕ
 endOf e = e .first + e .length
+
+-- t is one of the samples
+abbrev pub has : Extent → ℕ → Bool
+has e t = leb (e .first) t && ltb t (endOf e)
 
 -- the samples of both: from the later first one to the earlier end
 abbrev pub common : Extent → Extent → Extent

@@ -1,9 +1,9 @@
--- The codes 0 to 11: which fields and parameters a line with the code has, and what it then says.
+-- The codes 0 to 14: which fields and parameters a line with the code has, and what it then says.
 use Prim.Native.Nat.{ℕ}
 use mathlib.Core.List.{List, [], _∷_}
 use lib.ListN.{getD}
 use lib.IntN.{ℤ}
-use Rattle.formulas.specs.Formulas.{Operator, True, AtLeast, AtMost, Not, And, Until, Somewhere, Surrounded, Or, Eventually, Always, Everywhere}
+use Rattle.formulas.specs.Formulas.{forward, Operator, True, AtLeast, AtMost, Not, And, Until, Somewhere, Surrounded, Or, Eventually, Always, Everywhere, Since, Once, Historically}
 
 pub data Code : Type 0 where
   -- no field
@@ -18,7 +18,7 @@ pub data Code : Type 0 where
   binaryBounded : (ℕ → ℕ → ℕ → ℕ → Operator) → Code
   unknown : Code
 
--- the table "Codes" of document 01, code 0 first
+-- the table "Codes" of document 01, code 0 first; 12 to 14 by request M-100
 unfoldable pub codes : List Code
 codes =
     constant True ∷
@@ -26,13 +26,16 @@ codes =
     atom AtMost ∷
     unary Not ∷
     binary And ∷
-    binaryBounded Until ∷
+    binaryBounded (Until forward) ∷
     unaryBounded Somewhere ∷
     binaryBounded Surrounded ∷
     binary Or ∷
-    unaryBounded Eventually ∷
-    unaryBounded Always ∷
+    unaryBounded (Eventually forward) ∷
+    unaryBounded (Always forward) ∷
     unaryBounded Everywhere ∷
+    binaryBounded Since ∷
+    unaryBounded Once ∷
+    unaryBounded Historically ∷
     []
 
 abbrev pub codeOf : ℕ → Code
@@ -40,4 +43,4 @@ codeOf number = getD codes number unknown
 
 -- a code above it says nothing (11)
 abbrev pub lastCode : ℕ
-lastCode = 11
+lastCode = 14

@@ -2,12 +2,15 @@
 -- code reads an operator.
 use Prim.Native.Nat.{ℕ}
 use mathlib.Core.List.{List}
-use lib.ListN.{length}
+use lib.ListN.{length, getD}
 use lib.IntN.{ℤ, pos}
 use Rattle.formulas.specs.Formulas as Formulas
 use Rattle.lines.specs.declared.operator.Bounds.{Bounds}
+use Rattle.lines.specs.declared.operator.Direction.{Direction}
+use Rattle.lines.specs.declared.operator.Direction.the-variants.{Forward, Backward}
 use Rattle.lines.specs.declared.operator.Operator.{Operator}
 use Rattle.lines.specs.declared.operator.Operator.the-variants.{True, AtLeast, AtMost, Not, And, Until, Somewhere, Surrounded, Or, Eventually, Always, Everywhere}
+use Rattle.lines.specs.declared.extent.Extent.{Extent}
 use Rattle.lines.specs.declared.line.Line.{Line}
 use Rattle.lines.specs.declared.operator.Fields.{Fields}
 use Rattle.lines.specs.declared.line.Decoded as D
@@ -23,22 +26,33 @@ use Rattle.lines.specs.Lines.{codeField, leftField, rightField, Read, un
 
 -- ---- what the enums and structs of the code say
 
+abbrev pub sideSaid : Direction → Formulas.Direction
+sideSaid Forward = Formulas.forward
+sideSaid Backward = Formulas.backward
+
 abbrev pub operatorSaid : Operator → Formulas.Operator
 operatorSaid True = Formulas.True
 operatorSaid (AtLeast signal c) = Formulas.AtLeast signal c
 operatorSaid (AtMost signal c) = Formulas.AtMost signal c
 operatorSaid (Not left) = Formulas.Not left
 operatorSaid (And left right) = Formulas.And left right
-operatorSaid (Until left right b) = Formulas.Until left right (b .lower) (b .upper)
+operatorSaid (Until side left right b) = Formulas.Until (sideSaid side) left right (b .lower) (b .upper)
 operatorSaid (Somewhere left b) = Formulas.Somewhere left (b .lower) (b .upper)
 operatorSaid (Surrounded left right b) = Formulas.Surrounded left right (b .lower) (b .upper)
 operatorSaid (Or left right) = Formulas.Or left right
-operatorSaid (Eventually left b) = Formulas.Eventually left (b .lower) (b .upper)
-operatorSaid (Always left b) = Formulas.Always left (b .lower) (b .upper)
+operatorSaid (Eventually side left b) = Formulas.Eventually (sideSaid side) left (b .lower) (b .upper)
+operatorSaid (Always side left b) = Formulas.Always (sideSaid side) left (b .lower) (b .upper)
 operatorSaid (Everywhere left b) = Formulas.Everywhere left (b .lower) (b .upper)
 
+abbrev pub extentSaid : Extent → Formulas.Extent
+extentSaid e = record { first = e .first; length = e .length }
+
 abbrev pub lineSaid : Line → Formulas.Line
-lineSaid l = record { operator = operatorSaid (l .operator); length = l .length }
+lineSaid l = record { operator = operatorSaid (l .operator); extent = extentSaid (l .extent) }
+
+-- the extents that two arrays have, without a sample past their ends
+abbrev pub extentIn : List ℕ → List ℕ → ℕ → Formulas.Extent
+extentIn firsts lengths i = record { first = getD firsts i 0; length = getD lengths i 0 }
 
 abbrev pub decodedSaid : D.Decoded → Checked (Formulas.Line × ℕ)
 decodedSaid (D.the-variants.Line line next) = accepted (lineSaid line, next)

@@ -6,7 +6,7 @@ use lib.Dec.{ltb, leb, eqb}
 use lib.ListN.{length}
 use lib.IntN.{ℤ}
 use Rattle.words.specs.Word.{bits, payloadOf, sampleOf}
-use Rattle.formulas.specs.Formulas.{Operator, Line, lineIn, lengthOf}
+use Rattle.formulas.specs.Formulas.{Operator, Extent, Line, lineIn, extentOf}
 use Rattle.checks.specs.Checked.{Checked, accepted, refused, _>>=_, require, wordAt, isKind}
 use Rattle.lines.specs.Codes.{Code, constant, atom, unary, binary, unaryBounded, binaryBounded, unknown, codeOf}
 
@@ -72,18 +72,18 @@ module _ (s : List ℕ) where
       let w : ℕ = wordAt s at in
       operatorBy (codeOf (codeField w)) at (leftField w) (rightField w) v lines
 
-  -- the line at an index, after `lines` earlier ones of the lengths given, and the index after it; a length below 1 is told at the line word,
-  -- after its parameters
-  unfoldable pub lineAt : ℕ → ℕ → ℕ → (ℕ → ℕ) → ℕ → Checked (Line × ℕ)
-  lineAt v T lines lengthOfLine at = operatorAt v lines at >>= λ read.
-      let samples : ℕ = lengthOf T lengthOfLine (read .0) in
-      require (leb 1 samples) 13 at (accepted (record { operator = read .0; length = samples }, read .1))
+  -- the line at an index, after `lines` earlier ones of the extents given, and the index after it; a line without a sample is told at the line
+  -- word, after its parameters
+  unfoldable pub lineAt : ℕ → ℕ → ℕ → (ℕ → Extent) → ℕ → Checked (Line × ℕ)
+  lineAt v T lines extents at = operatorAt v lines at >>= λ read.
+      let extent : Extent = extentOf T extents (read .0) in
+      require (leb 1 (extent .length)) 13 at (accepted (record { operator = read .0; extent = extent }, read .1))
 
   -- the lines from an index on, after the earlier ones, and the index after the last; `room` more may come. The first word that is not of
   -- kind 5 ends them.
   unfoldable pub linesFrom : ℕ → ℕ → ℕ → List Line → ℕ → Checked (List Line × ℕ)
   linesFrom v T zero lines at = require (not (isKind 5 s at)) 10 at (accepted (lines, at))
   linesFrom v T (suc room) lines at = elim (isKind 5 s at) [
-    | true ↦ lineAt v T (length lines) (λ i. lineIn lines i .length) at >>= (λ read. linesFrom v T room (lines ++ (read .0 ∷ [])) (read .1))
+    | true ↦ lineAt v T (length lines) (λ i. lineIn lines i .extent) at >>= (λ read. linesFrom v T room (lines ++ (read .0 ∷ [])) (read .1))
     | false ↦ require (ltb 0 (length lines)) 10 at (accepted (lines, at))
   ]

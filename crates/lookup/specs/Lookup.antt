@@ -1,10 +1,11 @@
--- Document 01, "The answer": whether words are a whole answer as laid out, and what the lookup in it gives at a line, sample and place.
-use Prim.Native.Nat.{ℕ, zero, suc, _+_, _*_}
+-- Document 01, "The answer", and request M-100: whether words are a whole answer as laid out, and what the lookup in it gives at a line, sample and place.
+use Prim.Native.Nat.{ℕ, zero, suc, _+_, _-_, _*_}
 use mathlib.Core.Bool.{Bool, true, false, cond, _&&_}
 use mathlib.Core.List.{List}
-use lib.Dec.{ltb, eqb}
+use lib.Dec.{leb, ltb, eqb}
 use lib.ListN.{length}
 use Rattle.words.specs.Word.{bits, payloadOf}
+use Rattle.formulas.specs.Formulas.{Extent, endOf, has}
 use Rattle.logic.specs.Lattice.{verdictLattice, leastOver}
 use Rattle.checks.specs.Limits.{mostPlaces, mostSamples, mostLines}
 use Rattle.checks.specs.Checked.{between, wordAt, isKind}
@@ -34,26 +35,27 @@ module _ (a : List ℕ) where
   abbrev pub headSamples : ℕ
   headSamples = bits 0 12 (wordAt a 0)
 
-  -- the length that a line's first word gives
-  abbrev pub lengthAt : ℕ → ℕ
-  lengthAt at = bits 0 12 (wordAt a at)
+  -- the first sample and the length that a line's first word gives
+  abbrev pub extentAt : ℕ → Extent
+  extentAt at = record { first = bits 12 12 (wordAt a at); length = bits 0 12 (wordAt a at) }
 
   -- the index of line i's first word, by the lengths that the earlier lines' words give; of the end, where i is the line count
   unfoldable pub lineStart : ℕ → ℕ
   lineStart zero = 1
-  lineStart (suc i) = lineStart i + 1 + lengthAt (lineStart i) * headPlaces
+  lineStart (suc i) = lineStart i + 1 + extentAt (lineStart i) .length * headPlaces
 
-  abbrev pub lineLength : ℕ → ℕ
-  lineLength i = lengthAt (lineStart i)
+  abbrev pub lineExtent : ℕ → Extent
+  lineExtent i = extentAt (lineStart i)
 
   unfoldable pub wholeHead : Bool
   wholeHead = isKind 13 a 0 && (between 1 mostPlaces headPlaces && (between 1 mostLines headLines && between 1 mostSamples headSamples))
 
-  -- a line whose first word stands at this index: kind 14, bits 27..12 zero, a length of 1 to T, and a verdict for each sample and place
+  -- a line whose first word stands at this index: kind 14, bits 27..24 zero, at least one sample and none beyond T, and a verdict for each sample
+  -- and place
   unfoldable pub wholeLineAt : ℕ → Bool
   wholeLineAt at =
-      isKind 14 a at && (eqb (bits 12 16 (wordAt a at)) 0 && (between 1 headSamples (lengthAt at)
-      && all (λ j. isSaid (saidBy (wordAt a (at + 1 + j)))) (lengthAt at * headPlaces)))
+      isKind 14 a at && (eqb (bits 24 4 (wordAt a at)) 0 && (leb 1 (extentAt at .length) && (leb (endOf (extentAt at)) headSamples
+      && all (λ j. isSaid (saidBy (wordAt a (at + 1 + j)))) (extentAt at .length * headPlaces))))
 
   abbrev pub wholeLine : ℕ → Bool
   wholeLine i = wholeLineAt (lineStart i)
@@ -67,7 +69,8 @@ module _ (a : List ℕ) where
 
   -- what the answer says at a line, sample and place, nothing where it has no such line, sample or place
   unfoldable pub saidAt : ℕ → ℕ → ℕ → Said
-  saidAt i t l = cond (ltb i headLines && (ltb t (lineLength i) && ltb l headPlaces)) (saidBy (wordAt a (lineStart i + 1 + (t * headPlaces + l)))) nothing
+  saidAt i t l = cond (ltb i headLines && (has (lineExtent i) t && ltb l headPlaces))
+      (saidBy (wordAt a (lineStart i + 1 + ((t - lineExtent i .first) * headPlaces + l)))) nothing
 
   unfoldable pub lookedUp : ℕ → ℕ → ℕ → ℕ
   lookedUp i t l = cond wholeAnswer (verdictNumber (saidAt i t l)) 0

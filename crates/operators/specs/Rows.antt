@@ -7,7 +7,7 @@ use Prim.Native.Nat.{ℕ, suc, _+_, _*_, _<_, _≤_}
 use lib.IntN.{ℤ, _-ℤ_}
 use lib.ListN.{length, getD}
 use Rattle.words.specs.Word.{sampleOf}
-use Rattle.formulas.specs.Formulas.{Recording}
+use Rattle.formulas.specs.Formulas.{forward, backward, Recording}
 use Rattle.logic.specs.Table.{Signal, untilAt, everTrue}
 use Rattle.values.specs.Chain.{chains, chainLattice, chainOpposite}
 use Rattle.values.specs.Signals.{signalIn, turned}
@@ -48,7 +48,7 @@ andAt dual left right = turned dual (λ t l. chainLattice .meet (turned dual lef
 
 -- the greatest value of a window: until with a left signal that is true everywhere
 abbrev pub ahead : Signal chains → ℕ → ℕ → Signal chains
-ahead right = untilAt chains (everTrue chains) right
+ahead right = untilAt chains forward (everTrue chains) right
 
 -- codes 9 and 10: eventually, or the dual
 abbrev pub eventuallyAt : Bool → Signal chains → ℕ → ℕ → Signal chains
@@ -60,7 +60,11 @@ module _ (words : List ℕ) (places : ℕ) where
   andIn dual left right = andAt dual (signalIn words left places) (signalIn words right places)
 
   abbrev pub untilIn : (left right lower upper : ℕ) → Signal chains
-  untilIn left right lower upper = untilAt chains (signalIn words left places) (signalIn words right places) lower upper
+  untilIn left right lower upper = untilAt chains forward (signalIn words left places) (signalIn words right places) lower upper
+
+  -- since has values from sample `upper` on, and this is the first of them
+  abbrev pub sinceIn : (left right lower upper : ℕ) → Signal chains
+  sinceIn left right lower upper t = untilAt chains backward (signalIn words left places) (signalIn words right places) lower upper (t + upper)
 
   abbrev pub aheadIn : Bool → (start lower upper : ℕ) → Signal chains
   aheadIn negated start lower upper = ahead (turned negated (signalIn words start places)) lower upper
