@@ -70,18 +70,17 @@ module _ (left right : Signal chains) (present l : ℕ) where
           before (omega arith) (omega (arith, falls, low, same)) ∙ same
 
 module _ (left right : Signal chains) (lower upper t l : ℕ) (bounds : lower ≤ upper) where
-  pub since-all : untilAt chains backward left right lower upper (t + upper) l ≡ greatestFrom (sinceOffer left right (t + upper) l) t (t + upper + 1 - lower)
+  pub since-all : untilAt chains backward left right lower upper (t + upper) l ≡ greatestFrom (sinceOffer left right (t + upper) l) t (t + upper - lower + 1)
   unfolding untilAt
   since-all =
       let from : t + upper - upper ≡ t = omega arith in
-      let to : t + upper - lower + 1 ≡ t + upper + 1 - lower = omega arith in
-      window-all left right (t + upper - upper) (t + upper - lower) (λ u. u) (λ _. t + upper) l ∙ ap₂ (greatestFrom (sinceOffer left right (t + upper) l)) from to
+      window-all left right (t + upper - upper) (t + upper - lower) (λ u. u) (λ _. t + upper) l ∙ ap (λ (first : ℕ). greatestFrom (sinceOffer left right (t + upper) l) first (t + upper - lower + 1)) from
 
   -- no sample before u offers more than the least of left from u on, so where that is no more than since so far, since is known
-  pub since-known : (u : ℕ) → t ≤ u → u ≤ t + upper + 1 - lower
-      → leastFrom (λ v. left v l) u (t + upper + 1) ≤ greatestFrom (sinceOffer left right (t + upper) l) u (t + upper + 1 - lower)
-      → untilAt chains backward left right lower upper (t + upper) l ≡ greatestFrom (sinceOffer left right (t + upper) l) u (t + upper + 1 - lower)
-  since-known u from to low = since-all ∙ since-stays left right (t + upper) l t (t + upper + 1 - lower) u (omega arith) from to low
+  pub since-known : (u : ℕ) → t ≤ u → u ≤ t + upper - lower + 1
+      → leastFrom (λ v. left v l) u (t + upper + 1) ≤ greatestFrom (sinceOffer left right (t + upper) l) u (t + upper - lower + 1)
+      → untilAt chains backward left right lower upper (t + upper) l ≡ greatestFrom (sinceOffer left right (t + upper) l) u (t + upper - lower + 1)
+  since-known u from to low = since-all ∙ since-stays left right (t + upper) l t (t + upper - lower + 1) u (omega arith) from to low
 
 -- ---- a left operand that is always true, which holds nothing back
 least-true : (test : ℕ → Bool) (n : ℕ) → leastOver chainLattice test (λ _. highest) n ≡ highest

@@ -24,9 +24,9 @@ fn since_at(
     ensures { λ r. ⌜ r ≡ sinceIn (wordsOf (now (words .entry))) places left right (bounds .lower) (bounds .upper) t l ⌝ }
 {
     let present = t + bounds.upper;
-    let end = present + 1;
-    let mut u = end - bounds.lower;
-    let mut least = least_between(words, left, places, u, end, l);
+    let latest = present - bounds.lower;
+    let mut u = latest + 1;
+    let mut least = least_between(words, left, places, u, present + 1, l);
     let mut best = values::bottom();
     while t < u {
         // every earlier sample offers at most the least of left so far

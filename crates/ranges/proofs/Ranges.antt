@@ -73,8 +73,8 @@ least-dual test f (suc n) h = rw (meet-min, join-max) (one-more (test n) _ _ (f 
 -- ---- the block
 module _ (test : ℕ → Bool) (f g : ℕ → ℕ) (n : ℕ) (same : (k : ℕ) → k < n → f k ≡ g k) where
   gathered-same : (least : Bool) → gathered least test f n ≡ gathered least test g n
-  gathered-same true = least-kept chainLattice chainLattice (λ u v. u ≡ v) (same-kept chainLattice) test f g n same
-  gathered-same false = greatest-kept chainLattice chainLattice (λ u v. u ≡ v) (same-kept chainLattice) test f g n same
+  gathered-same true = least-kept chainLattice chainLattice (λ u v. u ≡ v) (same-kept chainLattice) test f g n (λ k b _. same k b)
+  gathered-same false = greatest-kept chainLattice chainLattice (λ u v. u ≡ v) (same-kept chainLattice) test f g n (λ k b _. same k b)
 
 gathered-meant : (dual : Bool) (f : Signal chains) (n : ℕ) (distances : List ℕ) (lower upper t centre : ℕ) → ((k : ℕ) → f t k ≤ highest)
     → gathered dual (inTable distances n centre lower upper) (f t) n ≡ somewhereIn dual distances n f lower upper t centre

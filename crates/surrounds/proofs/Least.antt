@@ -196,5 +196,5 @@ round-made sheet roads n right x old both x′ i b j s = record {
       least-over (joinedBy sheet roads place) (laneOf both lane) (laneOf x′ lane place) (laneOf x lane place) n
       (b .bound place lane l m) (joined-inside sheet roads n i roads (omega arith) place) (s .least place lane m)
       ∙ ap (chainLattice .meet (laneOf x lane place))
-      (least-kept chainLattice chainLattice (λ u v. u ≡ v) (same-kept chainLattice) (joinedBy sheet roads place) _ _ n (λ k c. j .handed k lane c m));
+      (least-kept chainLattice chainLattice (λ u v. u ≡ v) (same-kept chainLattice) (joinedBy sheet roads place) _ _ n (λ k c _. j .handed k lane c m));
 }

@@ -105,7 +105,7 @@ module _ {sheet : List ℕ} {roads n : ℕ} {right x₀ x old y : List ℕ} {r :
   unfolding iterate
   next place lane b l = w .stepped place lane b l ∙ ap₂ (chainLattice .meet) (g .reached place lane b l)
       (least-kept chainLattice chainLattice (λ u v. u ≡ v) (same-kept chainLattice) (joinedBy sheet roads place) _ _ n
-      (λ k c. ap₂ (chainLattice .join) (g .reached k lane c l) refl))
+      (λ k c _. ap₂ (chainLattice .join) (g .reached k lane c l) refl))
 
   former : (place lane : ℕ) → place < n → lane < lanes → laneOf old lane place ≡ stepIn sheet roads n right x₀ lane (g .steps) place
   former place lane b l = w .former place lane b l ∙ g .reached place lane b l

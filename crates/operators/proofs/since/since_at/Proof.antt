@@ -17,13 +17,13 @@ use Rattle.operators.proofs.since.since_at.Statement.{statement}
 use Rattle.operators.proofs.since.since_at.Tie as tie
 
 abbrev Inv-loop : tie.InvT-loop
-Inv-loop words left right places t l present end u₀ least₀ best₀ u least best =
-    Counted t u₀ u
-    × (least ≡ leastFrom (λ v. signalIn (wordsOf words) left places v l) u end)
-    × (best ≡ greatestFrom (sinceOffer (signalIn (wordsOf words) left places) (signalIn (wordsOf words) right places) present l) u u₀)
+Inv-loop words left right places t l present latest u₀ least₀ best₀ u least best =
+    Counted t (latest + 1) u
+    × (least ≡ leastFrom (λ v. signalIn (wordsOf words) left places v l) u (present + 1))
+    × (best ≡ greatestFrom (sinceOffer (signalIn (wordsOf words) left places) (signalIn (wordsOf words) right places) present l) u (latest + 1))
 
 abbrev μ-loop : tie.MeasureT-loop
-μ-loop words left right places t l present end u₀ least₀ best₀ u least best = u
+μ-loop words left right places t l present latest u₀ least₀ best₀ u least best = u
 
 module _ (c : tie.Start Inv-loop μ-loop) where
   abbrev signal : ℕ → Signal chains
@@ -34,7 +34,7 @@ module _ (c : tie.Start Inv-loop μ-loop) where
   held u = leastFrom (λ v. signal (c .args .left) v (c .args .l)) u (c .args .t + c .args .bounds .upper + 1)
 
   abbrev offered : ℕ → ℕ
-  offered u = greatestFrom (sinceOffer (signal (c .args .left)) (signal (c .args .right)) (c .args .t + c .args .bounds .upper) (c .args .l)) u (c .args .t + c .args .bounds .upper + 1 - c .args .bounds .lower)
+  offered u = greatestFrom (sinceOffer (signal (c .args .left)) (signal (c .args .right)) (c .args .t + c .args .bounds .upper) (c .args .l)) u (c .args .t + c .args .bounds .upper - c .args .bounds .lower + 1)
 
   end-fits : c .args .t + c .args .bounds .upper + 1 ≤ length (c .args .words .now)
   end-fits = reached-end (c .args .words .now) (c .pre .0)
@@ -46,11 +46,14 @@ entry c = c .before .before .before .before .before .before
 add-present : tie.Need-add-present Inv-loop μ-loop
 add-present c = omega (arith, end-fits (c .before .before))
 
-add-end : tie.Need-add-end Inv-loop μ-loop
-add-end c = omega (arith, end-fits (c .before .before))
+sub-latest : tie.Need-sub-latest Inv-loop μ-loop
+sub-latest c = omega (arith, c .before .before .before .pre .0 .window .bounds)
 
-sub-u : tie.Need-sub-u Inv-loop μ-loop
-sub-u c = omega (arith, c .before .before .before .pre .0 .window .bounds)
+add-u : tie.Need-add-u Inv-loop μ-loop
+add-u c = omega (arith, end-fits (c .before .before .before))
+
+add-least-between : tie.Need-add-least-between Inv-loop μ-loop
+add-least-between c = omega (arith, end-fits (c .before .before .before))
 
 least-between-requires : tie.Need-least-between-requires Inv-loop μ-loop
 least-between-requires c κs =
@@ -61,7 +64,7 @@ loop-holds : tie.Need-loop-holds Inv-loop μ-loop
 loop-holds c =
     let start = c .before .before .before .before .before in
     let a = start .args in
-    (record { from = omega (arith, start .pre .0 .window .bounds); to = le-refl _ }, c .before .least-between .ensures, c .bottom .ensures ∙ sym (greatests _ .none _ (a .t + a .bounds .upper + 1 - a .bounds .lower) (le-refl _)))
+    (record { from = omega (arith, start .pre .0 .window .bounds); to = le-refl _ }, c .before .least-between .ensures, c .bottom .ensures ∙ sym (greatests _ .none _ (a .t + a .bounds .upper - a .bounds .lower + 1) (le-refl _)))
 
 returns : tie.Need-returns Inv-loop μ-loop
 returns c =
@@ -104,8 +107,9 @@ since-at-spec =
     Inv-loop
     μ-loop
     add-present
-    add-end
-    sub-u
+    sub-latest
+    add-u
+    add-least-between
     least-between-requires
     (λ c κs. search needs)
     loop-holds
