@@ -1,34 +1,41 @@
--- A good line is located: its writer has all that it reads, its operands up to the last sample that is asked for, and what that writer gives is the
--- line's, the value and the rounds at each point.
-use mathlib.Core.Path.{_≡_, refl, subst}
+-- A good line is located: its writer has all that it reads, its operands from the sample on from which they are read up to the last that is asked
+-- for, and what that writer gives in row t is the line's at sample first + t, the value and the rounds at each point.
+use mathlib.Core.Path.{_≡_, refl, ap, ap₂, subst, fun-ext, _∙_}
 use mathlib.Core.Bool.{Bool, true, false}
 use mathlib.Core.List.{List}
-use Prim.Native.Nat.{ℕ, _+_, _*_, _≤_, _<_, _^_}
-use native.Mathlib.Nat.{mul-le-mul-right}
+use Prim.Native.Nat.{ℕ, _+_, _-_, _*_, _≤_, _<_, _^_}
+use native.Mathlib.Nat.{add-mul, mul-le-mul-right}
 use native.Mathlib.Omega.{arith}
 use lib.ListN.{length, getD}
-use Rattle.formulas.specs.Formulas as Formulas
-use Rattle.logic.specs.Table.{Signal, value}
+use Rattle.formulas.specs.Formulas.{forward, backward, Extent, extentOf}
+use Rattle.logic.specs.Table.{Signal, untilAt, somewhereAt, surroundAt, value}
 use Rattle.logic.specs.Counts.{roundsAt}
 use Rattle.sheet.specs.declared.check.Layout.{Layout}
 use Rattle.lines.specs.declared.operator.Bounds.{Bounds}
+use Rattle.lines.specs.declared.operator.Direction.{Direction}
+use Rattle.lines.specs.declared.operator.Direction.the-variants.{Forward, Backward}
 use Rattle.lines.specs.declared.operator.Operator.{Operator}
 use Rattle.lines.specs.declared.operator.Operator.the-variants.{True, AtLeast, AtMost, Not, And, Until, Somewhere, Surrounded, Or, Eventually, Always, Everywhere}
 use Rattle.lines.specs.declared.line.Line.{Line}
 use Rattle.lines.specs.Decoding.{operatorSaid, lineSaid}
 use Rattle.lines.specs.GoodLines.{Sound}
-use Rattle.values.specs.Chain.{chains}
+use Rattle.lines.specs.GoodLines as Good
+use Rattle.values.specs.Chain.{chains, chainLattice, chainOpposite}
+use Rattle.values.specs.Signals.{signalIn, turned}
+use Rattle.values.proofs.ChainWords.{signal-bound, signal-later}
 use Rattle.operators.specs.Reach.{Window}
+use Rattle.operators.specs.Rows.{eventuallyAt}
+use Rattle.operators.proofs.Later.{until-later, since-later, eventually-from, once-from}
 use Rattle.verdicts.specs.declared.around.Around.{Around}
 use Rattle.verdicts.specs.declared.around.Around.the-variants.{Surround, Range}
 use Rattle.verdicts.specs.declared.located.Located.{Located}
 use Rattle.verdicts.specs.declared.located.Located.the-variants.{Rows, Blocks}
-use Rattle.verdicts.specs.Located.{locatedOf}
-use Rattle.verdicts.specs.Rows.{rowValue, RowReads}
+use Rattle.verdicts.specs.Located.{startAt, untilLocated, eventuallyLocated, rangeLocated, locatedBy, locatedOf}
+use Rattle.verdicts.specs.Rows.{sheetRecording, rowValue, RowReads}
 use Rattle.verdicts.specs.Around.{SurroundReads, AroundReads, AroundReady, aroundValue, aroundRounds}
-use Rattle.evaluation.specs.Writing.{lineValue, lineRounds}
+use Rattle.evaluation.specs.Writing.{sheetNetwork, earlier, lineValue, lineRounds}
 use Rattle.evaluation.specs.Line.{LineReady}
-use Rattle.evaluation.proofs.SpaceTable.{ranged, value-by-table, rounds-by-table, range-by-table, no-rounds}
+use Rattle.evaluation.proofs.SpaceTable.{roundsAbout, somewhere-same, value-by-table, rounds-by-table}
 
 module _ (s : List ℕ) (L : Layout) (distances words : List ℕ) where
   -- what its writer makes of a located line, and what that writer reads
@@ -44,78 +51,206 @@ module _ (s : List ℕ) (L : Layout) (distances words : List ℕ) where
   Reads (Rows row) samples = (t : ℕ) → t < samples → RowReads L words row t
   Reads (Blocks around) samples = AroundReady words L s distances around samples
 
-  pub record LineLocated (starts : List ℕ) (o : Operator) (samples : ℕ) (located : Located) : Type 0 where
-    pub reads : Reads located samples
-    pub values : (t l : ℕ) → l < L .places → valueOf located t l ≡ lineValue s L words starts (operatorSaid o) t l
-    pub rounds : (t l : ℕ) → l < L .places → roundsOf located t l ≡ lineRounds s L words starts (operatorSaid o) t l
+  pub record LineLocated (starts firsts : List ℕ) (o : Operator) (extent : Extent) (located : Located) : Type 0 where
+    pub reads : Reads located (extent .length)
+    pub values : (t l : ℕ) → l < L .places → valueOf located t l ≡ lineValue s L words starts firsts (operatorSaid o) (extent .first + t) l
+    pub rounds : (t l : ℕ) → l < L .places → roundsOf located t l ≡ lineRounds s L words starts firsts (operatorSaid o) (extent .first + t) l
 
-module _ {s : List ℕ} {L : Layout} {distances words starts : List ℕ} (line : Line) (ready : LineReady s L distances words starts (lineSaid line)) where
-  -- the first samples of an earlier line
-  samples-there : {i m : ℕ} → i < ready .earlier → m ≤ ready .lengths i → getD starts i 0 + m * L .places ≤ length words
-  samples-there {i} h b = omega (arith, mul-le-mul-right (L .places) b, ready .written i h)
+module _ {s : List ℕ} {L : Layout} {distances words starts firsts : List ℕ} (line : Line) (ready : LineReady s L distances words starts firsts (lineSaid line)) where
+  abbrev n : ℕ
+  n = L .places
 
-  there : {i t : ℕ} → i < ready .earlier → t < ready .lengths i → getD starts i 0 + (t + 1) * L .places ≤ length words
-  there {i} {t} h b = let all : t + 1 ≤ ready .lengths i = omega arith in samples-there h all
+  abbrev extent : Extent
+  extent = lineSaid line .extent
 
-  window : {i t : ℕ} (b : Bounds) → i < ready .earlier → b .lower ≤ b .upper → t + b .upper < ready .lengths i → Window words (getD starts i 0) (L .places) (b .lower) (b .upper) t
-  window b h order enough = record { bounds = order; inside = there h enough }
+  -- the index of an operand's sample, and the operand's signal
+  abbrev start : ℕ → ℕ → ℕ
+  start sample i = startAt starts firsts n sample i
+
+  abbrev operand : ℕ → Signal chains
+  operand i = earlier L words starts firsts i
+
+  -- ---- an operand that has begun when it is read
+
+  abbrev Begun : ℕ → ℕ → Type 0
+  Begun sample i = (i < ready .earlier) × (ready .extents i .first ≤ sample)
+
+  -- what is read from there is the operand's signal from that sample on
+  read-from : {i sample : ℕ} → Begun sample i → signalIn words (start sample i) n ≡ (λ t. operand i (sample + t))
+  read-from {i} {sample} begun = fun-ext (λ t. fun-ext (λ l.
+      let later : sample - getD firsts i 0 + t ≡ sample + t - getD firsts i 0 = omega (arith, ready .begins i (begun .0), begun .1) in
+      signal-later words (getD starts i 0) n (sample - getD firsts i 0) t l ∙ ap (λ (u : ℕ). signalIn words (getD starts i 0) n u l) later))
+
+  -- so many samples stand there
+  samples-there : {i sample m : ℕ} → Begun sample i → sample + m ≤ ready .extents i .first + ready .extents i .length → start sample i + m * n ≤ length words
+  samples-there {i} {sample} {m} begun inside =
+      let skipped : ℕ = sample - getD firsts i 0 in
+      let among : skipped + m ≤ ready .extents i .length = omega (arith, ready .begins i (begun .0), begun .1) in
+      omega (arith, add-mul skipped m n, mul-le-mul-right n among, ready .written i (begun .0))
+
+  there : {i sample t : ℕ} → Begun sample i → sample + t < ready .extents i .first + ready .extents i .length → start sample i + (t + 1) * n ≤ length words
+  there {i} {sample} {t} begun inside = samples-there {m = t + 1} begun (omega arith)
+
+  window : {i sample t lower upper : ℕ} → Begun sample i → lower ≤ upper → sample + (t + upper) < ready .extents i .first + ready .extents i .length → Window words (start sample i) n lower upper t
+  window begun order inside = record { bounds = order; inside = there begun inside }
+
+  -- ---- over time
+
+  abbrev Known : Operator → Located → Type 0
+  Known o located = LineLocated s L distances words starts firsts o extent located
+
+  until-known : (direction : Direction) (i j : ℕ) (b : Bounds) → i < ready .earlier → j < ready .earlier → Good.Bounds (b .lower) (b .upper)
+      → extent ≡ extentOf (L .samples) (ready .extents) (operatorSaid (Until direction i j b)) → Known (Until direction i j b) (untilLocated starts firsts n (extent .first) direction i j b)
+  unfolding rowValue lineValue value lineRounds roundsAt
+  until-known Forward i j b left right bounds e =
+      let first = ap (λ (x : Extent). x .first) e in
+      let many = ap (λ (x : Extent). x .length) e in
+      let begun : Begun (extent .first) i = (left, omega arith) in
+      let begun′ : Begun (extent .first) j = (right, omega arith) in
+      record {
+        reads = λ t h. (window begun (bounds .order) (omega arith), window begun′ (bounds .order) (omega arith));
+        values = λ t l _. ap₂ (λ (p q : Signal chains). untilAt chains forward p q (b .lower) (b .upper) t l) (read-from begun) (read-from begun′)
+            ∙ until-later (operand i) (operand j) (extent .first) (b .lower) (b .upper) t l;
+        rounds = λ t l _. refl;
+      }
+  until-known Backward i j b left right bounds e =
+      let first = ap (λ (x : Extent). x .first) e in
+      let many = ap (λ (x : Extent). x .length) e in
+      let back : ℕ = extent .first - b .upper in
+      let begun : Begun back i = (left, omega arith) in
+      let begun′ : Begun back j = (right, omega arith) in
+      record {
+        reads = λ t h. (window begun (bounds .order) (omega arith), window begun′ (bounds .order) (omega arith));
+        values = λ t l _.
+            let sample : back + (t + b .upper) ≡ extent .first + t = omega arith in
+            ap₂ (λ (p q : Signal chains). untilAt chains backward p q (b .lower) (b .upper) (t + b .upper) l) (read-from begun) (read-from begun′)
+            ∙ since-later (operand i) (operand j) back (b .lower) (b .upper) (t + b .upper) l (bounds .order) (omega arith)
+            ∙ ap (λ (u : ℕ). untilAt chains backward (operand i) (operand j) (b .lower) (b .upper) u l) sample;
+        rounds = λ t l _. refl;
+      }
+
+  -- eventually, or its dual
+  abbrev ever : Bool → Direction → ℕ → Bounds → Operator
+  ever true = Always
+  ever false = Eventually
+
+  ever-value : (dual : Bool) (direction : Direction) (i : ℕ) (b : Bounds) (t l : ℕ)
+      → turned dual (untilAt chains (sideSaid direction) (everTrue chains) (turned dual (operand i)) (b .lower) (b .upper)) t l ≡ lineValue s L words starts firsts (operatorSaid (ever dual direction i b)) t l
+  unfolding lineValue value
+  ever-value true direction i b t l = refl
+  ever-value false direction i b t l = refl
+
+  ever-rounds : (dual : Bool) (direction : Direction) (i : ℕ) (b : Bounds) (t l : ℕ) → 0 ≡ lineRounds s L words starts firsts (operatorSaid (ever dual direction i b)) t l
+  unfolding lineRounds roundsAt
+  ever-rounds true direction i b t l = refl
+  ever-rounds false direction i b t l = refl
+
+  eventually-known : (dual : Bool) (direction : Direction) (i : ℕ) (b : Bounds) → i < ready .earlier → Good.Bounds (b .lower) (b .upper)
+      → extent ≡ looking (sideSaid direction) (b .upper) (ready .extents i) → Known (ever dual direction i b) (eventuallyLocated starts firsts n (extent .first) direction i b dual)
+  unfolding rowValue
+  eventually-known dual Forward i b left bounds e =
+      let first = ap (λ (x : Extent). x .first) e in
+      let many = ap (λ (x : Extent). x .length) e in
+      let begun : Begun (extent .first) i = (left, omega arith) in
+      record {
+        reads = λ t h. window begun (bounds .order) (omega arith);
+        values = λ t l _. ap (λ (q : Signal chains). eventuallyAt dual q (b .lower) (b .upper) t l) (read-from begun)
+            ∙ eventually-from dual (operand i) (extent .first) (b .lower) (b .upper) t l ∙ ever-value dual Forward i b (extent .first + t) l;
+        rounds = λ t l _. ever-rounds dual Forward i b (extent .first + t) l;
+      }
+  eventually-known dual Backward i b left bounds e =
+      let first = ap (λ (x : Extent). x .first) e in
+      let many = ap (λ (x : Extent). x .length) e in
+      let begun : Begun (extent .first - b .upper) i = (left, omega arith) in
+      record {
+        reads = λ t h. window begun zero-le (omega arith);
+        values = λ t l _. ap (λ (q : Signal chains). eventuallyAt dual q 0 (b .upper - b .lower) t l) (read-from begun)
+            ∙ once-from dual (operand i) (λ u k. signal-bound words (getD starts i 0) n (u - getD firsts i 0) k) (extent .first) (b .lower) (b .upper) t l (bounds .order) (omega arith)
+            ∙ ever-value dual Backward i b (extent .first + t) l;
+        rounds = λ t l _. ever-rounds dual Backward i b (extent .first + t) l;
+      }
 
   -- ---- over space
 
-  around-ready : (around : Around) → AroundReads words L s around (line .length) → AroundReady words L s distances around (line .length)
+  around-ready : (around : Around) → AroundReads words L s around (extent .length) → AroundReady words L s distances around (extent .length)
   around-ready around reads = record {
     few-places = ready .surveyed .sheet .places;
-    few = omega (arith, ready .good .most, ready .surveyed .sheet .samples);
+    few = omega (arith, ready .good .ends, ready .surveyed .sheet .samples);
     distances-there = ready .surveyed .room;
     reads = reads;
   }
 
-  -- what is known of the line, by its operator
-  abbrev Known : Operator → Type 0
-  Known o = LineLocated s L distances words starts o (line .length) (locatedOf starts o)
+  -- somewhere, or its dual
+  abbrev ranged : Bool → ℕ → Bounds → Operator
+  ranged true = Everywhere
+  ranged false = Somewhere
 
-  range-known : (dual : Bool) (i : ℕ) (b : Bounds) → i < ready .earlier → b .upper < 2 ^ 28 → line .length ≤ ready .lengths i
-      → LineLocated s L distances words starts (ranged dual i b) (line .length) (Blocks (Range (record { left = getD starts i 0; bounds = b; dual = dual })))
-  range-known dual i b h small enough = record {
-    reads = around-ready (Range (record { left = getD starts i 0; bounds = b; dual = dual })) (samples-there h enough);
-    values = λ t l. range-by-table s L distances (ready .surveyed) words starts dual i b t l small;
-    rounds = λ t l _. no-rounds s L words starts dual i b t l;
-  }
+  ranged-value : (dual : Bool) (i : ℕ) (b : Bounds) (sample t l : ℕ)
+      → turned dual (somewhereAt chains (sheetNetwork s L) (turned dual (λ u. operand i (sample + u))) (b .lower) (b .upper)) t l
+      ≡ lineValue s L words starts firsts (operatorSaid (ranged dual i b)) (sample + t) l
+  unfolding lineValue value somewhereAt
+  ranged-value true i b sample t l = refl
+  ranged-value false i b sample t l = refl
 
-  surround-reads : (i j : ℕ) → i < ready .earlier → j < ready .earlier → line .length ≤ ready .lengths i → line .length ≤ ready .lengths j
-      → SurroundReads words (getD starts i 0) (getD starts j 0) L s (line .length)
-  surround-reads i j left right enough enough′ = record {
-    left-there = samples-there left enough;
-    right-there = samples-there right enough′;
-    roads-in = ready .roads;
-    left-valid = λ t l h k. ready .valid i t l left (omega arith) k;
-    right-valid = λ t l h k. ready .valid j t l right (omega arith) k;
-  }
+  ranged-rounds : (dual : Bool) (i : ℕ) (b : Bounds) (t l : ℕ) → 0 ≡ lineRounds s L words starts firsts (operatorSaid (ranged dual i b)) t l
+  unfolding lineRounds roundsAt
+  ranged-rounds true i b t l = refl
+  ranged-rounds false i b t l = refl
+
+  range-known : (dual : Bool) (i : ℕ) (b : Bounds) → i < ready .earlier → b .upper < 2 ^ 28 → extent ≡ ready .extents i → Known (ranged dual i b) (rangeLocated starts firsts n (extent .first) i b dual)
+  range-known dual i b left small e =
+      let first = ap (λ (x : Extent). x .first) e in
+      let many = ap (λ (x : Extent). x .length) e in
+      let begun : Begun (extent .first) i = (left, omega arith) in
+      record {
+        reads = around-ready (Range (record { left = start (extent .first) i; bounds = b; dual = dual })) (samples-there begun (omega arith));
+        values = λ t l place. somewhere-same s L distances (ready .surveyed) dual (signalIn words (start (extent .first) i) n) (b .lower) (b .upper) t l small place
+            ∙ ap (λ (p : Signal chains). turned dual (somewhereAt chains (sheetNetwork s L) (turned dual p) (b .lower) (b .upper)) t l) (read-from begun)
+            ∙ ranged-value dual i b (extent .first) t l;
+        rounds = λ t l _. ranged-rounds dual i b (extent .first + t) l;
+      }
+
+  surround-known : (i j : ℕ) (b : Bounds) → i < ready .earlier → j < ready .earlier → b .upper < 2 ^ 28 → extent ≡ common (ready .extents i) (ready .extents j)
+      → Known (Surrounded i j b) (surroundLocated starts firsts n (extent .first) i j b)
+  unfolding lineValue value surroundAt lineRounds roundsAt
+  surround-known i j b left right small e =
+      let first = ap (λ (x : Extent). x .first) e in
+      let many = ap (λ (x : Extent). x .length) e in
+      let begun : Begun (extent .first) i = (left, omega arith) in
+      let begun′ : Begun (extent .first) j = (right, omega arith) in
+      let from : ℕ = start (extent .first) i in
+      let from′ : ℕ = start (extent .first) j in
+      record {
+        reads = around-ready (Surround (record { left = from; right = from′; bounds = b })) (record {
+          left-there = samples-there begun (omega arith);
+          right-there = samples-there begun′ (omega arith);
+          roads-in = ready .roads;
+          left-valid = λ t l h k. valid-from begun (omega arith) k;
+          right-valid = λ t l h k. valid-from begun′ (omega arith) k;
+        });
+        values = λ t l place. value-by-table s L distances (ready .surveyed) words from from′ (b .lower) (b .upper) t l small place
+            ∙ ap₂ (λ (p q : Signal chains). surroundAt chains (sheetNetwork s L) p q (b .lower) (b .upper) t l) (read-from begun) (read-from begun′);
+        rounds = λ t l place. rounds-by-table s L distances (ready .surveyed) words from from′ (b .lower) (b .upper) t l small place
+            ∙ ap₂ (λ (p q : Signal chains). roundsAbout s L p q (b .lower) (b .upper) t l) (read-from begun) (read-from begun′);
+      }
 
   -- ---- every line
 
-  known : (o : Operator) → Sound (L .signals) (ready .earlier) (operatorSaid o) → line .length ≡ Formulas.lengthOf (L .samples) (ready .lengths) (operatorSaid o) → Known o
-  unfolding rowValue lineValue value lineRounds roundsAt
-  known True h e = record { reads = λ t b. tt; values = λ t l b. refl; rounds = λ t l b. refl }
-  known (AtLeast x c) h e = record { reads = λ t b. (h .0, omega arith, h .1); values = λ t l b. refl; rounds = λ t l b. refl }
-  known (AtMost x c) h e = record { reads = λ t b. (h .0, omega arith, h .1); values = λ t l b. refl; rounds = λ t l b. refl }
-  known (Not i) h e = record { reads = λ t b. there h (omega arith); values = λ t l b. refl; rounds = λ t l b. refl }
-  known (And i j) h e = record { reads = λ t b. (there (h .0) (omega arith), there (h .1) (omega arith)); values = λ t l b. refl; rounds = λ t l b. refl }
-  known (Until i j k) h e = record {
-    reads = λ t b. (window k (h .0) (h .2 .order) (omega arith), window k (h .1) (h .2 .order) (omega arith));
-    values = λ t l b. refl;
-    rounds = λ t l b. refl;
-  }
-  known (Somewhere i k) h e = range-known false i k (h .0) (h .1 .small) (omega arith)
-  known (Surrounded i j k) h e = record {
-    reads = around-ready (Surround (record { left = getD starts i 0; right = getD starts j 0; bounds = k })) (surround-reads i j (h .0) (h .1) (omega arith) (omega arith));
-    values = λ t l. value-by-table s L distances (ready .surveyed) words starts i j (k .lower) (k .upper) t l (h .2 .small);
-    rounds = λ t l. rounds-by-table s L distances (ready .surveyed) words starts i j (k .lower) (k .upper) t l (h .2 .small);
-  }
-  known (Or i j) h e = record { reads = λ t b. (there (h .0) (omega arith), there (h .1) (omega arith)); values = λ t l b. refl; rounds = λ t l b. refl }
-  known (Eventually i k) h e = record { reads = λ t b. window k (h .0) (h .1 .order) (omega arith); values = λ t l b. refl; rounds = λ t l b. refl }
-  known (Always i k) h e = record { reads = λ t b. window k (h .0) (h .1 .order) (omega arith); values = λ t l b. refl; rounds = λ t l b. refl }
-  known (Everywhere i k) h e = range-known true i k (h .0) (h .1 .small) (omega arith)
+  both-known : (dual : Bool) (i j : ℕ) → i < ready .earlier → j < ready .earlier → extent ≡ common (ready .extents i) (ready .extents j)
+      → Known (paired dual i j) (bothLocated starts firsts n (extent .first) i j dual)
+  both-known dual i j left right e =
+      let first = ap (λ (x : Extent). x .first) e in
+      let many = ap (λ (x : Extent). x .length) e in
+      let begun : Begun (extent .first) i = (left, omega arith) in
+      let begun′ : Begun (extent .first) j = (right, omega arith) in
+      record {
+        reads = λ t h. (there begun (omega arith), there begun′ (omega arith));
+        values = ?;
+        rounds = ?;
+      }
 
-  pub line-located : {located : Located} → locatedOf starts (line .operator) ≡ located → LineLocated s L distances words starts (line .operator) (line .length) located
-  line-located e = subst (LineLocated s L distances words starts (line .operator) (line .length)) e (known (line .operator) (ready .good .sound) (ready .good .extent))
+  known : (o : Operator) → Sound (L .signals) (ready .earlier) (operatorSaid o) → extent ≡ extentOf (L .samples) (ready .extents) (operatorSaid o) → Known o (locatedBy starts firsts n (extent .first) o)
+  known = ?
+
+  pub line-located : {located : Located} → locatedOf starts firsts n line ≡ located → LineLocated s L distances words starts firsts (line .operator) extent located
+  line-located e = subst (LineLocated s L distances words starts firsts (line .operator) extent) e (known (line .operator) (ready .good .sound) (ready .good .extent))

@@ -6,30 +6,23 @@ use mathlib.Core.List.{List}
 use Prim.Native.Nat.{ℕ, zero, suc, _<_, _^_}
 use native.Mathlib.Omega.{arith}
 use lib.Dec.{leb}
-use lib.ListN.{getD}
 use borrow.Author.Tests.{lt-leb}
 use Rattle.logic.specs.Lattice.{Lattice, verdictLattice, greatestOver}
 use Rattle.logic.specs.Margin.{marginLattice}
 use Rattle.network.specs.Distance.{Distance, dist, none, inRange}
 use Rattle.network.specs.Network.{distanceIn, joined, within}
 use Rattle.logic.specs.Surround.{holds, boundary, allowed, regionValue, surround}
-use Rattle.logic.specs.Iteration.{masked}
-use Rattle.formulas.specs.Formulas.{Surrounded}
-use Rattle.logic.specs.Table.{Signal, somewhereAt, surroundAt, value}
-use Rattle.logic.specs.Counts.{roundsAt}
+use Rattle.logic.specs.Iteration.{masked, rounds}
+use Rattle.logic.specs.Table.{Signal, somewhereAt, surroundAt}
 use Rattle.logic.proofs.Keeps.{same-kept, least-kept, region-kept}
 use Rattle.logic.proofs.Rounds.{rounds-same}
 use Rattle.sheet.specs.declared.check.Layout.{Layout}
-use Rattle.lines.specs.declared.operator.Bounds.{Bounds}
-use Rattle.lines.specs.declared.operator.Operator.{Operator}
-use Rattle.lines.specs.declared.operator.Operator.the-variants.{Somewhere, Everywhere}
-use Rattle.lines.specs.Decoding.{operatorSaid}
 use Rattle.roads.specs.Roads.{distanceNumber}
 use Rattle.values.specs.Chain.{chains, chainLattice, chainOpposite, chainMargin}
-use Rattle.values.specs.Signals.{turned, inTable}
+use Rattle.values.specs.Signals.{signalIn, turned, inTable}
 use Rattle.surrounds.specs.Surround.{joinedBy, surroundValue, surroundRounds}
 use Rattle.ranges.specs.Ranges.{somewhereIn}
-use Rattle.evaluation.specs.Writing.{sheetNetwork, earlier, lineValue, lineRounds, Surveyed}
+use Rattle.evaluation.specs.Writing.{sheetNetwork, Surveyed}
 
 -- ---- any tests that are the same below n
 
@@ -48,8 +41,15 @@ module _ (L : Lattice) {n : ℕ} where
   unfolding surround allowed
   surround-tests joined inside edge inside′ edge′ hi he p q l = region-kept L L (λ a b. a ≡ b) (same-kept L) n _ _
       (λ A. ap₂ (λ x y. cond (holds A l && (x && y)) (regionValue L joined n p q (holds A)) (L .bottom))
-      (least-kept verdictLattice verdictLattice (λ a b. a ≡ b) (same-kept verdictLattice) (holds A) inside inside′ n hi)
-      (least-kept verdictLattice verdictLattice (λ a b. a ≡ b) (same-kept verdictLattice) (boundary joined n (holds A)) edge edge′ n he))
+      (least-kept verdictLattice verdictLattice (λ a b. a ≡ b) (same-kept verdictLattice) (holds A) inside inside′ n (λ k b _. hi k b))
+      (least-kept verdictLattice verdictLattice (λ a b. a ≡ b) (same-kept verdictLattice) (boundary joined n (holds A)) edge edge′ n (λ k b _. he k b)))
+
+-- ---- the rounds of a surround of two signals
+
+abbrev pub roundsAbout : List ℕ → Layout → Signal chains → Signal chains → (lower upper : ℕ) → ℕ → ℕ → ℕ
+roundsAbout s L left right lower upper t l = rounds (joined (sheetNetwork s L)) (L .places)
+    (masked marginLattice (within (sheetNetwork s L) l 0 upper) (λ k. chainMargin (left t k)))
+    (masked marginLattice (within (sheetNetwork s L) l lower upper) (λ k. chainMargin (right t k)))
 
 -- ---- the ranges of a surveyed sheet
 
@@ -69,43 +69,26 @@ unfolding somewhereAt
 range-same s L distances survey f lower upper t l h b = greatest-tests chainLattice (f t) (L .places) (λ k c. range-at s L distances survey lower upper l k h b c)
 
 -- somewhere and its dual by the table's ranges are those by the network's
-somewhere-same : (s : List ℕ) (L : Layout) (distances : List ℕ) → Surveyed s L distances → (dual : Bool) (f : Signal chains) (lower upper t l : ℕ) → upper < 2 ^ 28 → l < L .places
+pub somewhere-same : (s : List ℕ) (L : Layout) (distances : List ℕ) → Surveyed s L distances → (dual : Bool) (f : Signal chains) (lower upper t l : ℕ) → upper < 2 ^ 28 → l < L .places
     → somewhereIn dual distances (L .places) f lower upper t l ≡ turned dual (somewhereAt chains (sheetNetwork s L) (turned dual f) lower upper) t l
 somewhere-same s L distances survey true f lower upper t l h b = ap chainOpposite (range-same s L distances survey (turned true f) lower upper t l h b)
 somewhere-same s L distances survey false f lower upper t l h b = range-same s L distances survey f lower upper t l h b
 
--- ---- the lines over space
+-- ---- a surround, with its rounds
 
-module _ (s : List ℕ) (L : Layout) (distances : List ℕ) (survey : Surveyed s L distances) (words starts : List ℕ) (i j lower upper t l : ℕ) (small : upper < 2 ^ 28)
+module _ (s : List ℕ) (L : Layout) (distances : List ℕ) (survey : Surveyed s L distances) (words : List ℕ) (left right lower upper t l : ℕ) (small : upper < 2 ^ 28)
     (place : l < L .places) where
   range : (from k : ℕ) → k < L .places → inTable distances (L .places) l from upper k ≡ within (sheetNetwork s L) l from upper k
   range from k b = range-at s L distances survey from upper l k small place b
 
-  pub value-by-table : surroundValue words (getD starts i 0) (getD starts j 0) (L .places) s (L .roads) distances lower upper t l
-      ≡ lineValue s L words starts (Surrounded i j lower upper) t l
-  unfolding surroundValue lineValue value surroundAt joinedBy joined
-  value-by-table = surround-tests chainLattice (joined (sheetNetwork s L)) _ _ _ _ (range 0) (range lower) (earlier L words starts i t) (earlier L words starts j t) l
+  pub value-by-table : surroundValue words left right (L .places) s (L .roads) distances lower upper t l
+      ≡ surroundAt chains (sheetNetwork s L) (signalIn words left (L .places)) (signalIn words right (L .places)) lower upper t l
+  unfolding surroundValue surroundAt joinedBy joined
+  value-by-table = surround-tests chainLattice (joined (sheetNetwork s L)) _ _ _ _ (range 0) (range lower) (signalIn words left (L .places) t) (signalIn words right (L .places) t) l
 
-  pub rounds-by-table : surroundRounds words (getD starts i 0) (getD starts j 0) (L .places) s (L .roads) distances lower upper t l
-      ≡ lineRounds s L words starts (Surrounded i j lower upper) t l
-  unfolding surroundRounds lineRounds roundsAt joinedBy joined
+  pub rounds-by-table : surroundRounds words left right (L .places) s (L .roads) distances lower upper t l
+      ≡ roundsAbout s L (signalIn words left (L .places)) (signalIn words right (L .places)) lower upper t l
+  unfolding surroundRounds joinedBy joined
   rounds-by-table = rounds-same (joined (sheetNetwork s L)) (L .places) _ _ _ _
-      (masked-tests marginLattice (range 0) (λ k. chainMargin (earlier L words starts i t k)))
-      (masked-tests marginLattice (range lower) (λ k. chainMargin (earlier L words starts j t k)))
-
--- somewhere, or its dual
-abbrev pub ranged : Bool → ℕ → Bounds → Operator
-ranged true = Everywhere
-ranged false = Somewhere
-
-module _ (s : List ℕ) (L : Layout) (distances : List ℕ) (survey : Surveyed s L distances) (words starts : List ℕ) where
-  pub range-by-table : (dual : Bool) (i : ℕ) (b : Bounds) (t l : ℕ) → b .upper < 2 ^ 28 → l < L .places
-      → somewhereIn dual distances (L .places) (earlier L words starts i) (b .lower) (b .upper) t l ≡ lineValue s L words starts (operatorSaid (ranged dual i b)) t l
-  unfolding lineValue value
-  range-by-table true i b t l = somewhere-same s L distances survey true (earlier L words starts i) (b .lower) (b .upper) t l
-  range-by-table false i b t l = somewhere-same s L distances survey false (earlier L words starts i) (b .lower) (b .upper) t l
-
-pub no-rounds : (s : List ℕ) (L : Layout) (words starts : List ℕ) (dual : Bool) (i : ℕ) (b : Bounds) (t l : ℕ) → 0 ≡ lineRounds s L words starts (operatorSaid (ranged dual i b)) t l
-unfolding lineRounds roundsAt
-no-rounds s L words starts true i b t l = refl
-no-rounds s L words starts false i b t l = refl
+      (masked-tests marginLattice (range 0) (λ k. chainMargin (signalIn words left (L .places) t k)))
+      (masked-tests marginLattice (range lower) (λ k. chainMargin (signalIn words right (L .places) t k)))

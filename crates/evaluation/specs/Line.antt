@@ -1,12 +1,12 @@
 -- For inner contracts only: one line of the answer, what must stand before it, and what writing it leaves.
 use mathlib.Core.Path.{_≡_}
 use mathlib.Core.List.{List, [], _∷_, _++_}
-use Prim.Native.Nat.{ℕ, _+_, _*_, _<_, _≤_}
+use Prim.Native.Nat.{ℕ, _+_, _*_, _<_, _≤_, _^_}
 use lib.ListN.{length, getD, take}
 use Rattle.words.specs.Bytes.{wordsOf, numbersOf}
 use Rattle.words.specs.Rows.{rows, put}
 use Rattle.counting.specs.Totals.{count, sumBelow, mostBelow}
-use Rattle.formulas.specs.Formulas.{Line}
+use Rattle.formulas.specs.Formulas.{Extent, Line}
 use Rattle.sheet.specs.declared.check.Layout.{Layout}
 use Rattle.lines.specs.GoodLines.{GoodLine}
 use Rattle.values.specs.Chain.{chainWord, chainVerdict, Valid}
@@ -17,31 +17,35 @@ use Rattle.answers.specs.Answer.{firstWord}
 use Rattle.evaluation.specs.Writing.{lineValue, lineRounds, Surveyed}
 
 -- the sheet is surveyed, and the signals of the earlier lines stand in the words, as chain numbers that can arise
-pub record LineReady (s : List ℕ) (L : Layout) (distances words starts : List ℕ) (line : Line) : Type 0 where
+pub record LineReady (s : List ℕ) (L : Layout) (distances words starts firsts : List ℕ) (line : Line) : Type 0 where
   pub surveyed : Surveyed s L distances
   pub roads : RoadsIn s (L .roads) (L .places)
   pub earlier : ℕ
-  pub lengths : ℕ → ℕ
-  pub good : GoodLine (L .signals) (L .samples) lengths earlier line
-  pub written : (i : ℕ) → i < earlier → getD starts i 0 + lengths i * L .places ≤ length words
-  pub valid : (i t l : ℕ) → i < earlier → t < lengths i → l < L .places → Valid (signalIn words (getD starts i 0) (L .places) t l)
+  pub extents : ℕ → Extent
+  pub good : GoodLine (L .signals) (L .samples) extents earlier line
+  pub begins : (i : ℕ) → i < earlier → getD firsts i 0 ≡ extents i .first
+  pub low : (i : ℕ) → getD starts i 0 < 2 ^ 28
+  pub written : (i : ℕ) → i < earlier → getD starts i 0 + extents i .length * L .places ≤ length words
+  pub valid : (i t l : ℕ) → i < earlier → t < extents i .length → l < L .places → Valid (signalIn words (getD starts i 0) (L .places) t l)
 
 -- what its verdicts are made from: the words before index `to`, and its first word there
 abbrev pub wordsUpTo : List ℕ → ℕ → Line → List ℕ
 wordsUpTo answer to line = take to answer ++ (firstWord line ∷ [])
 
 -- by the bytes that are lent
-abbrev pub LineReadyIn : List ℕ → Layout → List ℕ → List ℕ → List ℕ → ℕ → Line → Type 0
-LineReadyIn sheet L distances answer starts to line = LineReady (wordsOf sheet) L (numbersOf (wordsOf distances)) (wordsUpTo (wordsOf answer) to line) starts line
+abbrev pub LineReadyIn : List ℕ → Layout → List ℕ → List ℕ → List ℕ → List ℕ → ℕ → Line → Type 0
+LineReadyIn sheet L distances answer starts firsts to line =
+    LineReady (wordsOf sheet) L (numbersOf (wordsOf distances)) (wordsUpTo (wordsOf answer) to line) starts firsts line
 
-module _ (s : List ℕ) (L : Layout) (answer starts : List ℕ) (to : ℕ) (line : Line) where
+module _ (s : List ℕ) (L : Layout) (answer starts firsts : List ℕ) (to : ℕ) (line : Line) where
+  -- row t has the line's sample first + t
   unfoldable pub valueHere : ℕ → ℕ → ℕ
-  valueHere t l = lineValue s L (wordsUpTo answer to line) starts (line .operator) t l
+  valueHere t l = lineValue s L (wordsUpTo answer to line) starts firsts (line .operator) (line .extent .first + t) l
 
   unfoldable pub roundsHere : ℕ → ℕ → ℕ
-  roundsHere t l = lineRounds s L (wordsUpTo answer to line) starts (line .operator) t l
+  roundsHere t l = lineRounds s L (wordsUpTo answer to line) starts firsts (line .operator) (line .extent .first + t) l
 
   pub record LineWritten (after : List ℕ) (tally : Tally) : Type 0 where
-    pub written : after ≡ put answer to (firstWord line ∷ rows (λ t l. chainWord (valueHere t l)) (line .length) (L .places))
-    pub counted : tally .yes ≡ sumBelow (λ t. sumBelow (λ l. count (chainVerdict (valueHere t l))) (L .places)) (line .length)
-    pub greatest : tally .rounds ≡ mostBelow (λ t. mostBelow (λ l. roundsHere t l) (L .places)) (line .length)
+    pub written : after ≡ put answer to (firstWord line ∷ rows (λ t l. chainWord (valueHere t l)) (line .extent .length) (L .places))
+    pub counted : tally .yes ≡ sumBelow (λ t. sumBelow (λ l. count (chainVerdict (valueHere t l))) (L .places)) (line .extent .length)
+    pub greatest : tally .rounds ≡ mostBelow (λ t. mostBelow (λ l. roundsHere t l) (L .places)) (line .extent .length)

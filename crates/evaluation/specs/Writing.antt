@@ -1,9 +1,9 @@
 -- For inner contracts only: the promises to the outside cite none of it.
 -- What the engine makes of a line, from the sheet and from the words that it has written before: the chain reading of the line's operator on
--- the signals of the earlier lines, where `starts` tells at which index each begins.
+-- the signals of the earlier lines, where `starts` tells at which index each begins and `firsts` with which sample.
 use mathlib.Core.Path.{_≡_}
 use mathlib.Core.List.{List}
-use Prim.Native.Nat.{ℕ, _+_, _*_, _≤_, _<_}
+use Prim.Native.Nat.{ℕ, _+_, _-_, _*_, _≤_, _<_}
 use lib.ListN.{length, getD}
 use Rattle.network.specs.Network.{Network, distanceIn}
 use Rattle.formulas.specs.Formulas.{Operator}
@@ -15,20 +15,20 @@ use Rattle.values.specs.Chain.{chains, chainMargin}
 use Rattle.values.specs.Signals.{signalIn}
 use Rattle.verdicts.specs.Rows.{sheetRecording, Recorded}
 
--- the signal of an earlier line
-abbrev pub earlier : Layout → List ℕ → List ℕ → ℕ → Signal chains
-earlier L words starts j = signalIn words (getD starts j 0) (L .places)
+-- the signal of an earlier line, by the recording's own samples
+abbrev pub earlier : Layout → List ℕ → List ℕ → List ℕ → ℕ → Signal chains
+earlier L words starts firsts j t = signalIn words (getD starts j 0) (L .places) (t - getD firsts j 0)
 
 module _ (s : List ℕ) (L : Layout) where
   abbrev pub sheetNetwork : Network
   sheetNetwork = networkOf s (L .places) (L .roads)
 
-  module _ (words starts : List ℕ) where
+  module _ (words starts firsts : List ℕ) where
     unfoldable pub lineValue : Operator → Signal chains
-    lineValue o = value chains sheetNetwork (sheetRecording s L) (earlier L words starts) o
+    lineValue o = value chains sheetNetwork (sheetRecording s L) (earlier L words starts firsts) o
 
     unfoldable pub lineRounds : Operator → ℕ → ℕ → ℕ
-    lineRounds o t l = roundsAt sheetNetwork (λ j u k. chainMargin (earlier L words starts j u k)) o t l
+    lineRounds o t l = roundsAt sheetNetwork (λ j u k. chainMargin (earlier L words starts firsts j u k)) o t l
 
 -- the sheet's samples are there, and the distances are those of its network
 pub record Surveyed (s : List ℕ) (L : Layout) (distances : List ℕ) : Type 0 where

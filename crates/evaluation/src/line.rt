@@ -16,25 +16,26 @@ ghost use Rattle.evaluation.specs.Line.{LineReadyIn, LineWritten};
 // Kind 14, in bits 31..28.
 const LINE: u32 = 3758096384;
 
-// Writes a line from index `to` on, after the earlier lines, whose signals begin where `starts` tells.
+// Writes a line from index `to` on, after the earlier lines, whose signals begin where `starts` tells, with the samples that `firsts` tells.
 pub(crate) fn write_line(
     line: Line,
     sheet: &[u8],
     layout: Layout,
     distances: &[u8],
     starts: &[usize],
+    firsts: &[u32],
     answer: &mut [u8],
     to: usize,
 ) -> Tally
-    requires { ⌜ LineReadyIn (now sheet) layout (now distances) (now answer) (now starts) to (lineSaid line) × (to + (1 + line .length * layout .places) ≤ length (wordsOf (now answer))) ⌝ }
-    ensures written { λ r. ⌜ LineWritten (wordsOf (now (sheet .entry))) layout (wordsOf (now (answer .entry))) (now (starts .entry)) to (lineSaid line) (wordsOf (now (answer .exit))) r ⌝ }
+    requires { ⌜ LineReadyIn (now sheet) layout (now distances) (now answer) (now starts) (now firsts) to (lineSaid line) × (to + (1 + line .extent .length * layout .places) ≤ length (wordsOf (now answer))) ⌝ }
+    ensures written { λ r. ⌜ LineWritten (wordsOf (now (sheet .entry))) layout (wordsOf (now (answer .entry))) (now (starts .entry)) (now (firsts .entry)) to (lineSaid line) (wordsOf (now (answer .exit))) r ⌝ }
     ensures tail { λ _. ⌜ afterWords (now (answer .exit)) ≡ afterWords (now (answer .entry)) ⌝ }
 {
-    let operator = line.operator;
-    words::put_word(answer, to, LINE + line.length);
+    let extent = line.extent;
+    words::put_word(answer, to, LINE + extent.first * 4096 + extent.length);
     let begin = to + 1;
-    let samples = line.length as usize;
-    match locate(operator, starts) {
+    let samples = extent.length as usize;
+    match locate(line, starts, firsts, layout.places) {
         Located::Rows(row) => write_rows(row, sheet, layout, answer, begin, samples),
         Located::Blocks(around) => {
             write_around(around, sheet, layout, distances, answer, begin, samples)

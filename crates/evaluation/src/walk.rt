@@ -23,16 +23,19 @@ pub fn words_needed(sheet: &[u8], layout: Layout, distances: &[u8]) -> usize
     requires { ⌜ AcceptingIn (now sheet) (now distances) layout ⌝ }
     ensures { λ r. ⌜ r ≡ neededIn (now (sheet .entry)) (now (distances .entry)) ⌝ }
 {
+    let mut firsts = [0u32; MOST_LINES];
     let mut lengths = [0u32; MOST_LINES];
     let mut at = layout.table;
     let mut needed: usize = 2;
     for k in 0..layout.lines {
-        match decode_line(sheet, at, layout.signals, layout.samples, k, &lengths) {
+        match decode_line(sheet, at, layout.signals, layout.samples, k, &firsts, &lengths) {
             // the check has read every line already
             Decoded::Refused(_, _) => return 0,
             Decoded::Line(line, next) => {
-                lengths[k] = line.length;
-                needed += 1 + line.length as usize * layout.places;
+                let extent = line.extent;
+                firsts[k] = extent.first;
+                lengths[k] = extent.length;
+                needed += 1 + extent.length as usize * layout.places;
                 at = next;
             }
         }
@@ -46,20 +49,23 @@ pub fn write_lines(sheet: &[u8], layout: Layout, distances: &[u8], answer: &mut 
     ensures written { λ r. ⌜ LinesWrittenIn (now (sheet .entry)) (now (distances .entry)) (now (answer .entry)) (now (answer .exit)) (r .end) (r .tally) ⌝ }
     ensures tail { λ _. ⌜ afterWords (now (answer .exit)) ≡ afterWords (now (answer .entry)) ⌝ }
 {
+    let mut firsts = [0u32; MOST_LINES];
     let mut lengths = [0u32; MOST_LINES];
     let mut starts = [0usize; MOST_LINES];
     let mut at = layout.table;
     let mut to: usize = 1;
     let mut tally = Tally::NONE;
     for k in 0..layout.lines {
-        match decode_line(sheet, at, layout.signals, layout.samples, k, &lengths) {
+        match decode_line(sheet, at, layout.signals, layout.samples, k, &firsts, &lengths) {
             // the check has read every line already
             Decoded::Refused(_, _) => return Written { end: 0, tally },
             Decoded::Line(line, next) => {
-                let here = write_line(line, sheet, layout, distances, &starts, answer, to);
-                lengths[k] = line.length;
+                let here = write_line(line, sheet, layout, distances, &starts, &firsts, answer, to);
+                let extent = line.extent;
+                firsts[k] = extent.first;
+                lengths[k] = extent.length;
                 starts[k] = to + 1;
-                to += 1 + line.length as usize * layout.places;
+                to += 1 + extent.length as usize * layout.places;
                 at = next;
                 tally = tally.with(here);
             }

@@ -1,13 +1,16 @@
 -- An operator over time that reads its operands from a later sample on says the same there, whichever way it looks; and once is eventually from the
 -- upper bound earlier. By these laws all operands of a line may be read from one sample on, wherever each of them begins (M-100).
 use mathlib.Core.Path.{_≡_, refl, sym, ap, ap₂, _∙_}
+use mathlib.Core.Bool.{Bool, true, false}
 use Prim.Native.Nat.{ℕ, suc, _+_, _-_, _≤_}
 use native.Mathlib.Omega.{arith}
 use Rattle.formulas.specs.Formulas.{forward, backward}
-use Rattle.logic.specs.Table.{Signal, windowAt, untilAt, everTrue}
-use Rattle.values.specs.Chain.{chains, chainLattice, highest}
-use Rattle.operators.specs.Rows.{ahead}
+use Rattle.logic.specs.Table.{Signal, windowAt, untilAt, opposite, everTrue}
+use Rattle.values.specs.Chain.{chains, chainLattice, chainOpposite, highest}
+use Rattle.values.specs.Signals.{turned}
+use Rattle.operators.specs.Rows.{ahead, eventuallyAt}
 use Rattle.operators.proofs.Folds.{leastFrom, greatestFrom, leasts, greatests, later}
+use Rattle.operators.proofs.RowLaws.{turned-small}
 use Rattle.operators.proofs.Windows.{offer, window-all, window-true, eventually-all}
 
 module _ (p q : Signal chains) (k : ℕ) where
@@ -48,3 +51,25 @@ once-ahead q lower upper t l h small =
     let from : t + upper - upper ≡ t + 0 = omega arith in
     let to : t + upper - lower + 1 ≡ t + (upper - lower) + 1 = omega arith in
     window-true q l small (t + upper - upper) (t + upper - lower) (λ u. u) (λ _. t + upper) ∙ ap₂ (greatestFrom (λ u. q u l)) from to ∙ sym (eventually-all q l small 0 (upper - lower) t)
+
+-- ---- eventually and once, or their duals, on a signal that is read from a sample on
+
+pub eventually-from : (dual : Bool) (q : Signal chains) (sample lower upper t l : ℕ)
+    → eventuallyAt dual (λ u. q (sample + u)) lower upper t l ≡ turned dual (untilAt chains forward (everTrue chains) (turned dual q) lower upper) (sample + t) l
+eventually-from true q sample lower upper t l = ap chainOpposite (until-later (everTrue chains) (opposite chains q) sample lower upper t l)
+eventually-from false q sample lower upper t l = until-later (everTrue chains) q sample lower upper t l
+
+pub once-from : (dual : Bool) (q : Signal chains) → ((t l : ℕ) → q t l ≤ highest) → (first lower upper t l : ℕ) → lower ≤ upper → upper ≤ first
+    → eventuallyAt dual (λ u. q (first - upper + u)) 0 (upper - lower) t l ≡ turned dual (untilAt chains backward (everTrue chains) (turned dual q) lower upper) (first + t) l
+once-from dual q small first lower upper t l order past = by dual
+  where
+    from : (p : Signal chains) → ((u : ℕ) → p u l ≤ highest) → ahead (λ u. p (first - upper + u)) 0 (upper - lower) t l ≡ untilAt chains backward (everTrue chains) p lower upper (first + t) l
+    from p low =
+        let sample : first - upper + (t + upper) ≡ first + t = omega arith in
+        sym (once-ahead (λ u. p (first - upper + u)) lower upper t l order (λ u. low (first - upper + u)))
+        ∙ since-later (everTrue chains) p (first - upper) lower upper (t + upper) l order (omega arith)
+        ∙ ap (λ (u : ℕ). untilAt chains backward (everTrue chains) p lower upper u l) sample
+
+    by : (dual : Bool) → eventuallyAt dual (λ u. q (first - upper + u)) 0 (upper - lower) t l ≡ turned dual (untilAt chains backward (everTrue chains) (turned dual q) lower upper) (first + t) l
+    by true = ap chainOpposite (from (opposite chains q) (λ u. turned-small true q u l (small u l)))
+    by false = from q (λ u. small u l)

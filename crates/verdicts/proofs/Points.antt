@@ -15,7 +15,7 @@ use Rattle.words.specs.Bytes.{wordsOf}
 use Rattle.words.proofs.Rows.{in-table}
 use Rattle.words.proofs.Words.{words-drop, words-take}
 use Rattle.formulas.specs.Formulas.{InBits}
-use Rattle.logic.specs.Table.{untilAt}
+use Rattle.logic.specs.Table.{windowAt, untilAt}
 use Rattle.logic.proofs.Keeps.{least-kept, surround-kept}
 use Rattle.logic.proofs.Small.{difference-small}
 use Rattle.sheet.specs.declared.check.Layout.{Layout}
@@ -28,7 +28,7 @@ use Rattle.values.proofs.ChainWords.{signal-bound}
 use Rattle.operators.proofs.Bounds.{bounded-kept, meet-bound, greatest-bound, ahead-bound}
 use Rattle.surrounds.specs.Surround.{joinedBy, surroundValue}
 use Rattle.verdicts.specs.declared.located.RowOperator.{RowOperator}
-use Rattle.verdicts.specs.declared.located.RowOperator.the-variants.{True, Atom, Not, Both, Until, Eventually}
+use Rattle.verdicts.specs.declared.located.RowOperator.the-variants.{True, Atom, Not, Both, Until, Since, Eventually}
 use Rattle.verdicts.specs.Rows.{sheetRecording, rowValue, RowReads}
 
 -- ---- no value is beyond `highest`
@@ -40,11 +40,11 @@ surround-bound words left right n sheet roads distances lower upper t centre = s
     (signalIn words left n t) (signalIn words right n t) (signalIn words left n t) (signalIn words right n t)
     (λ k _. signal-bound words left n t k) (λ k _. signal-bound words right n t k) _ _ centre
 
-until-bound : (words : List ℕ) (left right n lower upper t l : ℕ) → untilAt chains (signalIn words left n) (signalIn words right n) lower upper t l ≤ highest
-unfolding untilAt
-until-bound words left right n lower upper t l = greatest-bound (leb (t + lower)) _ (suc (t + upper))
+window-bound : (words : List ℕ) (left right n first last : ℕ) (from to : ℕ → ℕ) (l : ℕ) → windowAt chains (signalIn words left n) (signalIn words right n) first last from to l ≤ highest
+unfolding windowAt
+window-bound words left right n first last from to l = greatest-bound (leb first) _ (suc last)
     (λ u _. meet-bound _ _ (signal-bound words right n u l)
-    (least-kept chainLattice chainLattice (λ c _. c ≤ highest) bounded-kept (leb t) _ (λ v. signalIn words left n v l) (suc u) (λ v _. signal-bound words left n v l)))
+    (least-kept chainLattice chainLattice (λ c _. c ≤ highest) bounded-kept (leb (from u)) _ (λ v. signalIn words left n v l) (suc (to u)) (λ v _ _. signal-bound words left n v l)))
 
 module _ (s : List ℕ) (L : Layout) where
   pub sheet-bits : (x t l : ℕ) → InBits 27 (sheetRecording s L x t l)
@@ -52,7 +52,7 @@ module _ (s : List ℕ) (L : Layout) where
   sheet-bits = recording-bits s (L .recording) (L .places) (L .signals)
 
   pub row-bound : (words : List ℕ) (o : RowOperator) (t l : ℕ) → RowReads L words o t → rowValue s L words o t l ≤ highest
-  unfolding rowValue
+  unfolding rowValue untilAt
   row-bound words True t l reads = omega arith
   row-bound words (Atom x c true) t l reads =
       valid-difference (sheetRecording s L x t l -ℤ c) (difference-small (sheetRecording s L x t l) c (sheet-bits x t l) (reads .2)) .bounded
@@ -61,7 +61,8 @@ module _ (s : List ℕ) (L : Layout) where
   row-bound words (Not left) t l reads = omega arith
   row-bound words (Both left right true) t l reads = omega arith
   row-bound words (Both left right false) t l reads = meet-bound _ _ (signal-bound words left (L .places) t l) (signal-bound words right (L .places) t l)
-  row-bound words (Until left right b) t l reads = until-bound words left right (L .places) (b .lower) (b .upper) t l
+  row-bound words (Until left right b) t l reads = window-bound words left right (L .places) (t + b .lower) (t + b .upper) (λ _. t) (λ u. u) l
+  row-bound words (Since left right b) t l reads = window-bound words left right (L .places) (t + b .upper - b .upper) (t + b .upper - b .lower) (λ u. u) (λ _. t + b .upper) l
   row-bound words (Eventually left b true) t l reads = omega arith
   row-bound words (Eventually left b false) t l reads = ahead-bound false words left (L .places) (b .lower) (b .upper) t l
 

@@ -62,7 +62,7 @@ struct Origin {
 
 // So many samples earlier.
 fn earlier(origin: Origin, samples: u32) -> Origin
-    ensures { λ r. ⌜ (r .sample ≡ origin .sample - samples) × (r .places ≡ origin .places) ⌝ }
+    ensures { λ r. ⌜ r ≡ record { sample = origin .sample - samples; places = origin .places } ⌝ }
 {
     Origin {
         sample: less(origin.sample, samples),
@@ -82,8 +82,9 @@ fn start_of(starts: &[usize], firsts: &[u32], line: usize, origin: Origin) -> us
     requires { ⌜ StartsLow (now starts) (origin .places) ⌝ }
     ensures { λ r. ⌜ r ≡ startAt (now (starts .entry)) (now (firsts .entry)) (origin .places) (origin .sample) line ⌝ }
 {
-    let skipped = less(origin.sample, number_or_zero(firsts, line));
-    start_or_zero(starts, line) + skipped as usize * origin.places
+    let places = origin.places;
+    let skipped = less(origin.sample, number_or_zero(firsts, line)) as usize;
+    start_or_zero(starts, line) + skipped * places
 }
 
 // Codes 1 and 2: no operand.

@@ -1,15 +1,15 @@
--- The start of the operand is looked up.
+-- The start of the operand is found.
 use mathlib.Core.Path.{ap}
 use Prim.Native.Nat.{ℕ}
-use borrow.Author.Needs.{needs}
 use Rattle.verdicts.specs.declared.around.Around.the-variants.{Range}
 use Rattle.verdicts.specs.declared.located.Located.the-variants.{Blocks}
+use borrow.Author.Needs.{needs}
 use Rattle.verdicts.proofs.located.range.Statement.{statement}
 use Rattle.verdicts.proofs.located.range.Tie as tie
 
 returns : tie.Need-returns
 returns c =
-    let a = c .before .before .args in
+    let a = c .before .before .before .args in
     ap (λ (left : ℕ). Blocks (Range (record { left = left; bounds = a .bounds; dual = a .dual }))) (c .start-of .ensures)
 
 pub range-spec : {M : Type 1} → statement M

@@ -1,15 +1,15 @@
--- The starts of both operands are looked up.
+-- The starts of both operands are found.
 use mathlib.Core.Path.{ap₂}
 use Prim.Native.Nat.{ℕ}
-use borrow.Author.Needs.{needs}
 use Rattle.verdicts.specs.declared.around.Around.the-variants.{Surround}
 use Rattle.verdicts.specs.declared.located.Located.the-variants.{Blocks}
+use borrow.Author.Needs.{needs}
 use Rattle.verdicts.proofs.located.surround.Statement.{statement}
 use Rattle.verdicts.proofs.located.surround.Tie as tie
 
 returns : tie.Need-returns
 returns c =
-    let a = c .before .before .before .args in
+    let a = c .before .before .before .before .args in
     ap₂ (λ (left right : ℕ). Blocks (Surround (record { left = left; right = right; bounds = a .bounds }))) (c .before .start-of .ensures) (c .start-of2 .ensures)
 
 pub surround-spec : {M : Type 1} → statement M

@@ -1,0 +1,13 @@
+-- Field by field.
+use mathlib.Core.Path.{ap}
+use Prim.Native.Nat.{ℕ}
+use Rattle.verdicts.specs.declared.located.Origin.{Origin}
+use borrow.Author.Needs.{needs}
+use Rattle.verdicts.proofs.located.earlier.Statement.{statement}
+use Rattle.verdicts.proofs.located.earlier.Tie as tie
+
+returns : tie.Need-returns
+returns c = ap (λ (sample : ℕ). record { sample = sample; places = c .before .args .origin .places }) (c .less .ensures)
+
+pub earlier-spec : {M : Type 1} → statement M
+earlier-spec = tie.close (tie.spec (λ c. search needs) returns)
