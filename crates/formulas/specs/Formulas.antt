@@ -42,6 +42,9 @@ pub record Extent : Type 0 where
   pub first : ℕ
   pub length : ℕ
 
+abbrev pub span : ℕ → ℕ → Extent
+span first count = record { first = first; length = count }
+
 -- the sample after the last
 abbrev pub endOf : Extent → ℕ
 endOf e = e .first + e .length
@@ -52,18 +55,18 @@ has e t = leb (e .first) t && ltb t (endOf e)
 
 -- the samples of both: from the later first one to the earlier end
 abbrev pub common : Extent → Extent → Extent
-common a b = let first : ℕ = max (a .first) (b .first) in record { first = first; length = min (endOf a) (endOf b) - first }
+common a b = let first : ℕ = max (a .first) (b .first) in span first (min (endOf a) (endOf b) - first)
 
 -- the samples that have `upper` more of them on that side
 abbrev pub looking : Direction → ℕ → Extent → Extent
-looking forward upper e = record { first = e .first; length = e .length - upper }
-looking backward upper e = record { first = e .first + upper; length = e .length - upper }
+looking forward upper e = span (e .first) (e .length - upper)
+looking backward upper e = span (e .first + upper) (e .length - upper)
 
 -- Extent of a line, given T and the operands' extents
 abbrev pub extentOf : ℕ → (ℕ → Extent) → Operator → Extent
-extentOf T operand True = record { first = 0; length = T }
-extentOf T operand (AtLeast x c) = record { first = 0; length = T }
-extentOf T operand (AtMost x c) = record { first = 0; length = T }
+extentOf T operand True = span 0 T
+extentOf T operand (AtLeast x c) = span 0 T
+extentOf T operand (AtMost x c) = span 0 T
 extentOf T operand (Not i) = operand i
 extentOf T operand (And i j) = common (operand i) (operand j)
 extentOf T operand (Until side i j lower upper) = looking side upper (common (operand i) (operand j))
@@ -79,8 +82,11 @@ pub record Line : Type 0 where
   pub extent : Extent
 
 -- line i of a table; one that is not there has no sample
+abbrev pub noLine : Line
+noLine = record { operator = True; extent = span 0 0 }
+
 abbrev pub lineIn : List Line → ℕ → Line
-lineIn lines i = getD lines i (record { operator = True; extent = record { first = 0; length = 0 } })
+lineIn lines i = getD lines i noLine
 
 -- What is recorded (the source's trace): signal, then sample, then place
 abbrev pub Recording : Type 0

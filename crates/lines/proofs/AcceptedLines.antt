@@ -1,4 +1,4 @@
--- What the lines of an accepted sheet are: 1 to 64 of them, each of a length of 1 to T, with constants of 27 bits.
+-- What the lines of an accepted sheet are: 1 to 64 of them, each with a sample and none beyond T, with constants of 27 bits.
 use mathlib.Core.Path.{_≡_, refl, sym, ap, ap₂, subst, _∙_}
 use mathlib.Core.Logic.{⊎-elim}
 use mathlib.Core.Bool.{Bool, true, false, not, cond, _&&_}
@@ -12,7 +12,8 @@ use lib.ListN.{length, length-append, List·getD-append, List·getD-eq-default}
 use lib.Seq.{getD-at}
 use lib.IntN.{ℤ, pos, negsuc}
 use Rattle.words.specs.Word.{bits, payloadOf, sampleOf}
-use Rattle.formulas.specs.Formulas.{Operator, True, AtLeast, AtMost, Not, And, Until, Somewhere, Surrounded, Or, Eventually, Always, Everywhere, Line, lineIn, lengthOf, InBits}
+use Rattle.formulas.specs.Formulas.{forward, backward, Operator, True, AtLeast, AtMost, Not, And, Until, Somewhere, Surrounded, Or, Eventually, Always, Everywhere, Extent, endOf, common, looking, Line, noLine, lineIn, extentOf, InBits}
+use Rattle.formulas.proofs.Extents.{extent-end}
 use Rattle.counting.proofs.Tests.{and-l, and-r, below}
 use Rattle.counting.specs.Lists.{All, none, more}
 use Rattle.counting.proofs.Lists.{each-at}
@@ -21,7 +22,7 @@ use Rattle.checks.specs.Limits.{mostLines}
 use Rattle.checks.specs.Checked.{Checked, accepted, _>>=_, require, wordAt, isKind}
 use Rattle.lines.specs.Codes.{Code, constant, atom, unary, binary, unaryBounded, binaryBounded, unknown, codes, codeOf}
 use Rattle.lines.specs.Lines.{codeField, leftField, rightField, unused, plain, constantAt, boundsAt, withConstant, withBounds, operatorBy, operatorAt, lineAt, linesFrom}
-use Rattle.lines.specs.GoodLines.{Bounds, Sound, lengthsOf, GoodLine, GoodTable, GoodLines}
+use Rattle.lines.specs.GoodLines.{Bounds, Sound, extentsOf, GoodLine, GoodTable, GoodLines}
 use Rattle.checks.proofs.Checks.{never, require-e, bind-accepted, same-accepted}
 
 -- ---- a constant is a number of 27 bits
@@ -53,13 +54,16 @@ module _ (v k : ℕ) where
       (more {a = atom AtMost} (λ _ _ h b. (h, b))
       (more {a = unary Not} (λ _ h. h)
       (more {a = binary And} (λ _ _ h g. (h, g))
-      (more {a = binaryBounded Until} (λ _ _ _ _ h g b. (h, g, b))
+      (more {a = binaryBounded (Until forward)} (λ _ _ _ _ h g b. (h, g, b))
       (more {a = unaryBounded Somewhere} (λ _ _ _ h b. (h, b))
       (more {a = binaryBounded Surrounded} (λ _ _ _ _ h g b. (h, g, b))
       (more {a = binary Or} (λ _ _ h g. (h, g))
-      (more {a = unaryBounded Eventually} (λ _ _ _ h b. (h, b))
-      (more {a = unaryBounded Always} (λ _ _ _ h b. (h, b))
-      (more {a = unaryBounded Everywhere} (λ _ _ _ h b. (h, b)) none)))))))))))
+      (more {a = unaryBounded (Eventually forward)} (λ _ _ _ h b. (h, b))
+      (more {a = unaryBounded (Always forward)} (λ _ _ _ h b. (h, b))
+      (more {a = unaryBounded Everywhere} (λ _ _ _ h b. (h, b))
+      (more {a = binaryBounded (Until backward)} (λ _ _ _ _ h g b. (h, g, b))
+      (more {a = unaryBounded (Eventually backward)} (λ _ _ _ h b. (h, b))
+      (more {a = unaryBounded (Always backward)} (λ _ _ _ h b. (h, b)) none))))))))))))))
 
 constant-fits : (s : List ℕ) (at : ℕ) (c : ℤ) → constantAt s at ≡ accepted c → InBits 27 c
 unfolding constantAt
@@ -117,80 +121,65 @@ module _ (s : List ℕ) (v k : ℕ) where
       let w : ℕ = wordAt s at in
       by-code (codeOf (codeField w)) (each-at (codes-fit v k) (codeField w) unknown unknown tt) at (leftField w) (rightField w) read e
 
--- ---- the length of a line is at most T where the operands' lengths are
-length-bound : (T : ℕ) (operand : ℕ → ℕ) → ((i : ℕ) → operand i ≤ T) → (o : Operator) → lengthOf T operand o ≤ T
-length-bound T operand h True = omega arith
-length-bound T operand h (AtLeast x c) = omega arith
-length-bound T operand h (AtMost x c) = omega arith
-length-bound T operand h (Not i) = h i
-length-bound T operand h (And i j) = omega (arith, h i)
-length-bound T operand h (Until i j lower upper) = omega (arith, h i)
-length-bound T operand h (Somewhere i lower upper) = h i
-length-bound T operand h (Surrounded i j lower upper) = omega (arith, h i)
-length-bound T operand h (Or i j) = omega (arith, h i)
-length-bound T operand h (Eventually i lower upper) = omega (arith, h i)
-length-bound T operand h (Always i lower upper) = omega (arith, h i)
-length-bound T operand h (Everywhere i lower upper) = h i
-
--- the length of a sound line depends on the lines before it alone
-pub length-same : (T v k : ℕ) (f g : ℕ → ℕ) → ((i : ℕ) → i < k → f i ≡ g i) → (o : Operator) → Sound v k o → lengthOf T f o ≡ lengthOf T g o
-length-same T v k f g h True b = refl
-length-same T v k f g h (AtLeast x c) b = refl
-length-same T v k f g h (AtMost x c) b = refl
-length-same T v k f g h (Not i) b = h i b
-length-same T v k f g h (And i j) b = ap₂ min (h i (b .0)) (h j (b .1))
-length-same T v k f g h (Until i j lower upper) b = ap₂ (λ m n. min m n - upper) (h i (b .0)) (h j (b .1))
-length-same T v k f g h (Somewhere i lower upper) b = h i (b .0)
-length-same T v k f g h (Surrounded i j lower upper) b = ap₂ min (h i (b .0)) (h j (b .1))
-length-same T v k f g h (Or i j) b = ap₂ min (h i (b .0)) (h j (b .1))
-length-same T v k f g h (Eventually i lower upper) b = ap (λ m. m - upper) (h i (b .0))
-length-same T v k f g h (Always i lower upper) b = ap (λ m. m - upper) (h i (b .0))
-length-same T v k f g h (Everywhere i lower upper) b = h i (b .0)
+-- ---- the extent of a sound line depends on the lines before it alone
+pub extent-same : (T v k : ℕ) (f g : ℕ → Extent) → ((i : ℕ) → i < k → f i ≡ g i) → (o : Operator) → Sound v k o → extentOf T f o ≡ extentOf T g o
+extent-same T v k f g h True b = refl
+extent-same T v k f g h (AtLeast x c) b = refl
+extent-same T v k f g h (AtMost x c) b = refl
+extent-same T v k f g h (Not i) b = h i b
+extent-same T v k f g h (And i j) b = ap₂ common (h i (b .0)) (h j (b .1))
+extent-same T v k f g h (Until side i j lower upper) b = ap₂ (λ m n. looking side upper (common m n)) (h i (b .0)) (h j (b .1))
+extent-same T v k f g h (Somewhere i lower upper) b = h i (b .0)
+extent-same T v k f g h (Surrounded i j lower upper) b = ap₂ common (h i (b .0)) (h j (b .1))
+extent-same T v k f g h (Or i j) b = ap₂ common (h i (b .0)) (h j (b .1))
+extent-same T v k f g h (Eventually side i lower upper) b = ap (looking side upper) (h i (b .0))
+extent-same T v k f g h (Always side i lower upper) b = ap (looking side upper) (h i (b .0))
+extent-same T v k f g h (Everywhere i lower upper) b = h i (b .0)
 
 -- ---- a line, and all lines
 -- also of a line that is not there
-pub good-length : (v T : ℕ) (lines : List Line) → GoodTable v T lines → (i : ℕ) → lineIn lines i .length ≤ T
-good-length v T lines good i = go (decLt i (length lines))
+pub good-end : (v T : ℕ) (lines : List Line) → GoodTable v T lines → (i : ℕ) → endOf (lineIn lines i .extent) ≤ T
+good-end v T lines good i = go (decLt i (length lines))
   where
-    go : Dec (i < length lines) → lineIn lines i .length ≤ T
-    go (yes h) = good i h .most
-    go (no h) = rw (List·getD-eq-default lines (record { operator = True; length = 0 }) {n = i} (omega arith)) zero-le
+    go : Dec (i < length lines) → endOf (lineIn lines i .extent) ≤ T
+    go (yes h) = good i h .ends
+    go (no h) = rw (List·getD-eq-default lines noLine {n = i} (omega arith)) zero-le
 
-line-good : (s : List ℕ) (v T : ℕ) (lines : List Line) (at : ℕ) (read : Line × ℕ) → GoodTable v T lines
-    → lineAt s v T (length lines) (λ i. lineIn lines i .length) at ≡ accepted read → GoodLine v T (lengthsOf lines) (length lines) (read .0)
+pub line-good : (s : List ℕ) (v T : ℕ) (lines : List Line) (at : ℕ) (read : Line × ℕ) → GoodTable v T lines
+    → lineAt s v T (length lines) (extentsOf lines) at ≡ accepted read → GoodLine v T (extentsOf lines) (length lines) (read .0)
 unfolding lineAt
 line-good s v T lines at read good e =
     let (o, ho, rest) = bind-accepted (operatorAt s v (length lines) at) _ e in
-    let samples : ℕ = lengthOf T (λ i. lineIn lines i .length) (o .0) in
-    let (least, same) = require-e (leb 1 samples) 13 at (accepted (record { operator = o .0; length = samples }, o .1)) read rest in
-    subst (λ (r : Line × ℕ). GoodLine v T (lengthsOf lines) (length lines) (r .0)) (same-accepted same) (record {
-      least = leb→le 1 samples least;
-      most = length-bound T (λ i. lineIn lines i .length) (good-length v T lines good) (o .0);
+    let extent : Extent = extentOf T (extentsOf lines) (o .0) in
+    let (some, same) = require-e (leb 1 (extent .length)) 13 at (accepted (record { operator = o .0; extent = extent }, o .1)) read rest in
+    let samples : 1 ≤ extent .length = leb→le 1 (extent .length) some in
+    subst (λ (r : Line × ℕ). GoodLine v T (extentsOf lines) (length lines) (r .0)) (same-accepted same) (record {
+      some = samples;
+      ends = extent-end T (extentsOf lines) (good-end v T lines good) (o .0) samples;
       extent = refl;
       sound = operator-sound s v (length lines) at o ho;
     })
 
--- what is good with some lengths is good with others that are the same for the lines before
-good-same : (v T : ℕ) (f g : ℕ → ℕ) (k : ℕ) (line : Line) → ((i : ℕ) → i < k → f i ≡ g i) → GoodLine v T f k line → GoodLine v T g k line
+-- what is good with some extents is good with others that are the same for the lines before
+good-same : (v T : ℕ) (f g : ℕ → Extent) (k : ℕ) (line : Line) → ((i : ℕ) → i < k → f i ≡ g i) → GoodLine v T f k line → GoodLine v T g k line
 good-same v T f g k line same good = record {
-  least = good .least;
-  most = good .most;
-  extent = good .extent ∙ length-same T v k f g same (line .operator) (good .sound);
+  some = good .some;
+  ends = good .ends;
+  extent = good .extent ∙ extent-same T v k f g same (line .operator) (good .sound);
   sound = good .sound;
 }
 
 -- one good line more
-good-more : (v T : ℕ) (lines : List Line) (line : Line) → GoodTable v T lines → GoodLine v T (lengthsOf lines) (length lines) line → GoodTable v T (lines ++ (line ∷ []))
+pub good-more : (v T : ℕ) (lines : List Line) (line : Line) → GoodTable v T lines → GoodLine v T (extentsOf lines) (length lines) line → GoodTable v T (lines ++ (line ∷ []))
 good-more v T lines line good last k h =
-    let none : Line = record { operator = True; length = 0 } in
     let longer : List Line = lines ++ (line ∷ []) in
     let l = length-append lines (line ∷ []) in
-    let kept : (i : ℕ) → i < length lines → lengthsOf lines i ≡ lengthsOf longer i = λ i b. sym (ap (λ (x : Line). x .length) (List·getD-append lines (line ∷ []) none i b)) in
+    let kept : (i : ℕ) → i < length lines → extentsOf lines i ≡ extentsOf longer i = λ i b. sym (ap (λ (x : Line). x .extent) (List·getD-append lines (line ∷ []) noLine i b)) in
     ⊎-elim
-    (λ e. subst (GoodLine v T (lengthsOf longer) k) (sym (getD-at lines line [] none k (sym e)))
-    (subst (λ m. GoodLine v T (lengthsOf longer) m line) (sym e) (good-same v T (lengthsOf lines) (lengthsOf longer) (length lines) line kept last)))
-    (λ b. subst (GoodLine v T (lengthsOf longer) k) (sym (List·getD-append lines (line ∷ []) none k b))
-    (good-same v T (lengthsOf lines) (lengthsOf longer) k (lineIn lines k) (λ i a. kept i (le-trans a (le-of-lt b))) (good k b)))
+    (λ e. subst (GoodLine v T (extentsOf longer) k) (sym (getD-at lines line [] noLine k (sym e)))
+    (subst (λ m. GoodLine v T (extentsOf longer) m line) (sym e) (good-same v T (extentsOf lines) (extentsOf longer) (length lines) line kept last)))
+    (λ b. subst (GoodLine v T (extentsOf longer) k) (sym (List·getD-append lines (line ∷ []) noLine k b))
+    (good-same v T (extentsOf lines) (extentsOf longer) k (lineIn lines k) (λ i a. kept i (le-trans a (le-of-lt b))) (good k b)))
     (below (omega arith))
 
 -- the lines that are read are good, at least one and at most as many as there was room for
@@ -206,11 +195,11 @@ lines-good s v T (suc room) lines at found good some e =
     go : (t : Bool)
         → ((longer : List Line) (next : ℕ) → GoodTable v T longer → 1 ≤ room + length longer → linesFrom s v T room longer next ≡ accepted found → GoodLines v T (room + length longer) (found .0))
         → elim t as (λ _. Checked (List Line × ℕ)) [
-          | true ↦ lineAt s v T (length lines) (λ i. lineIn lines i .length) at >>= (λ read. linesFrom s v T room (lines ++ (read .0 ∷ [])) (read .1))
+          | true ↦ lineAt s v T (length lines) (extentsOf lines) at >>= (λ read. linesFrom s v T room (lines ++ (read .0 ∷ [])) (read .1))
           | false ↦ require (ltb 0 (length lines)) 10 at (accepted (lines, at))
         ] ≡ accepted found → GoodLines v T (suc room + length lines) (found .0)
     go true onward e =
-        let (read, hr, rest) = bind-accepted (lineAt s v T (length lines) (λ i. lineIn lines i .length) at) _ e in
+        let (read, hr, rest) = bind-accepted (lineAt s v T (length lines) (extentsOf lines) at) _ e in
         let l : length (lines ++ (read .0 ∷ [])) ≡ length lines + 1 = length-append lines (read .0 ∷ []) in
         let count : room + length (lines ++ (read .0 ∷ [])) ≡ suc room + length lines = omega arith in
         subst (λ m. GoodLines v T m (found .0)) count
@@ -230,12 +219,12 @@ sound-constant v k (AtLeast x c) h = h .1
 sound-constant v k (AtMost x c) h = h .1
 sound-constant v k (Not i) h = tt
 sound-constant v k (And i j) h = tt
-sound-constant v k (Until i j lower upper) h = tt
+sound-constant v k (Until side i j lower upper) h = tt
 sound-constant v k (Somewhere i lower upper) h = tt
 sound-constant v k (Surrounded i j lower upper) h = tt
 sound-constant v k (Or i j) h = tt
-sound-constant v k (Eventually i lower upper) h = tt
-sound-constant v k (Always i lower upper) h = tt
+sound-constant v k (Eventually side i lower upper) h = tt
+sound-constant v k (Always side i lower upper) h = tt
 sound-constant v k (Everywhere i lower upper) h = tt
 
 constants-from : (v : ℕ) (lines : List Line) (n : ℕ) → ((k : ℕ) → k < length lines → Sound v (n + k) (lineIn lines k .operator)) → ConstantsIn (InBits 27) lines

@@ -41,25 +41,30 @@ module _ (s : List ℕ) (v lines at : ℕ) {f : Fields} (read : f ≡ fieldsOf (
   atom-read least most =
       ⊎-elim (λ key. rw (read, code-read 1 key)) (λ above. rw (read, code-read 2 (omega arith))) (lowest 1 least)
 
-  pub binary-bounded-read : (f .code ≡ 5) ⊎ (f .code ≡ 7) → boundedRead s f lines lines at ≡ operatorAt s v lines at
+  pub binary-bounded-read : (f .code ≡ 5) ⊎ ((f .code ≡ 7) ⊎ (f .code ≡ 12)) → boundedRead s f lines lines at ≡ operatorAt s v lines at
   unfolding boundedRead operatorAt fieldsOf codes
-  binary-bounded-read keys = ⊎-elim (λ key. rw (read, code-read 5 key)) (λ key. rw (read, code-read 7 key)) keys
+  binary-bounded-read keys = ⊎-elim (λ key. rw (read, code-read 5 key)) (λ others. ⊎-elim (λ key. rw (read, code-read 7 key)) (λ key. rw (read, code-read 12 key)) others) keys
 
   pub somewhere-read : f .code ≡ 6 → boundedRead s f lines 1 at ≡ operatorAt s v lines at
   unfolding boundedRead operatorAt fieldsOf codes
   somewhere-read key = rw (read, code-read 6 key)
 
-  pub unary-bounded-read : 9 ≤ f .code → f .code < 12 → boundedRead s f lines 1 at ≡ operatorAt s v lines at
+  pub forward-read : 9 ≤ f .code → f .code < 12 → boundedRead s f lines 1 at ≡ operatorAt s v lines at
   unfolding boundedRead operatorAt fieldsOf codes
-  unary-bounded-read least most =
+  forward-read least most =
       ⊎-elim (λ key. rw (read, code-read 9 key))
       (λ above.
       ⊎-elim (λ key. rw (read, code-read 10 key)) (λ last. rw (read, code-read 11 (omega arith))) (lowest 10 above))
       (lowest 9 least)
 
-  pub unknown-read : 12 ≤ f .code → refused 11 at ≡ operatorAt s v lines at
+  pub backward-read : 13 ≤ f .code → f .code < 15 → boundedRead s f lines 1 at ≡ operatorAt s v lines at
+  unfolding boundedRead operatorAt fieldsOf codes
+  backward-read least most =
+      ⊎-elim (λ key. rw (read, code-read 13 key)) (λ above. rw (read, code-read 14 (omega arith))) (lowest 13 least)
+
+  pub unknown-read : 15 ≤ f .code → refused 11 at ≡ operatorAt s v lines at
   unfolding operatorAt fieldsOf codes
   unknown-read least =
-      let above : 12 ≤ fieldsOf (wordAt s at) .code = rw read at least in
+      let above : 15 ≤ fieldsOf (wordAt s at) .code = rw read at least in
       let none : getD codes (fieldsOf (wordAt s at) .code) unknown ≡ unknown = List·getD-eq-default codes unknown above in
       simp none

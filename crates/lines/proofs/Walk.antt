@@ -1,21 +1,25 @@
--- A walk over the lines of an accepted sheet: line k is read at an index, from the lengths of the lines before it, and leads to line k + 1.
-use Prim.Native.Nat.{ℕ, zero, suc, _+_, _-_, _<_, _≤_}
+-- A walk over the lines of an accepted sheet: line k is read at an index, from the extents of the lines before it, and leads to line k + 1.
+use Prim.Native.Nat.{ℕ, zero, suc, _+_, _-_, _<_, _≤_, zero-le}
+use native.Mathlib.Decide.{decLt}
 use mathlib.Core.Bool.{Bool, true, false, not}
 use mathlib.Core.List.{List, [], _∷_, _++_}
 use mathlib.Core.Logic.{_⊎_, inl, inr, ⊎-elim}
 use mathlib.Core.Path.{_≡_, refl, sym, _∙_, ap, fun-ext, subst}
 use native.Mathlib.Omega.{arith}
 use lib.Dec.{ltb}
-use lib.ListN.{length, getD, set, take, replicate, length-append, length-set, length-replicate}
+use lib.ListN.{length, getD, set, take, replicate, length-append, length-set, length-replicate, List·getD-eq-default}
 use lib.Seq.{length-take-le, take-length, take-take, take-append-seam, getD-take, getD-at}
 use borrow.Author.Tests.{ltb-true}
-use Rattle.formulas.specs.Formulas.{Line, True, lineIn}
+use Rattle.formulas.specs.Formulas.{Extent, endOf, Line, noLine, lineIn}
 use Rattle.checks.specs.Limits.{mostLines}
 use Rattle.checks.specs.Checked.{accepted, isKind}
 use Rattle.lines.specs.Lines.{lineAt, linesFrom}
+use Rattle.lines.specs.GoodLines.{GoodTable, extentsOf}
+use Rattle.lines.specs.Decoding.{extentIn, ExtentsWithin}
 use Rattle.checks.proofs.Checks.{same-accepted, require-accepted, bind-accepted}
 use Rattle.checks.proofs.Tests.{kind-told}
-use Rattle.lines.proofs.Lines.{Lengths, lengths-none, lengths-more, lines-stop, line-more}
+use Rattle.lines.proofs.AcceptedLines.{good-end, table-good}
+use Rattle.lines.proofs.Lines.{Extents, extents-none, extents-more, lines-stop, line-more}
 
 module _ (s : List ℕ) (v T : ℕ) where
   -- ---- one step: the lines end here, or one more is read
@@ -28,7 +32,7 @@ module _ (s : List ℕ) (v T : ℕ) where
     line : Line
     next : ℕ
     there : at < length s
-    reads : lineAt s v T (length found) (λ i. lineIn found i .length) at ≡ accepted (line, next)
+    reads : lineAt s v T (length found) (extentsOf found) at ≡ accepted (line, next)
     rest : linesFrom s v T room (found ++ (line ∷ [])) next ≡ accepted (lines, end)
 
   stop-or-read : (room : ℕ) (found : List Line) (at : ℕ) {lines : List Line} {end : ℕ} → linesFrom s v T (suc room) found at ≡ accepted (lines, end)
@@ -41,7 +45,7 @@ module _ (s : List ℕ) (v T : ℕ) where
           let same : found ≡ lines = ap (λ (read : List Line × ℕ). read .0) (same-accepted (told .1)) in
           inl (record { same = same; some = subst (λ (l : List Line). 0 < length l) same (ltb-true _ _ (told .0)) })
       by true kind-5 =
-          let read = bind-accepted (lineAt s v T (length found) (λ i. lineIn found i .length) at) _ (sym (line-more s v T room found at kind-5) ∙ e) in
+          let read = bind-accepted (lineAt s v T (length found) (extentsOf found) at) _ (sym (line-more s v T room found at kind-5) ∙ e) in
           inr (record { line = read .0 .0; next = read .0 .1; there = kind-told 5 s at kind-5 .0; reads = read .1; rest = read .2 })
 
   -- ---- what was found stands in front of what will be
@@ -89,47 +93,58 @@ first-inside s v T at {lines} e = ⊎-elim (λ stop. absurd (none stop)) (λ rea
 
 -- ---- the walk
 
--- before line k: its index, the lengths of the lines before it and zeros beyond, and that the lines from here on are those left
-pub record Walk (s : List ℕ) (v T : ℕ) (lines : List Line) (k at : ℕ) (lengths : List ℕ) : Type 0 where
+-- before line k: its index, the extents of the lines before it and zeros beyond, and that the lines from here on are those left
+pub record Walk (s : List ℕ) (v T : ℕ) (lines : List Line) (k at : ℕ) (firsts lengths : List ℕ) : Type 0 where
+  pub good : GoodTable v T lines
   pub passed : k ≤ length lines
-  pub room : length lengths ≡ mostLines
-  pub known : Lengths (take k lines) lengths
+  pub room : (length firsts ≡ mostLines) × (length lengths ≡ mostLines)
+  pub known : Extents (take k lines) firsts lengths
   pub end : ℕ
   pub rest : linesFrom s v T (mostLines - k) (take k lines) at ≡ accepted (lines, end)
 
 pub walk-start : (s : List ℕ) (v T start : ℕ) {lines : List Line} {end : ℕ} → linesFrom s v T mostLines [] start ≡ accepted (lines, end)
-    → Walk s v T lines 0 start (replicate mostLines 0)
+    → Walk s v T lines 0 start (replicate mostLines 0) (replicate mostLines 0)
 walk-start s v T start {lines} {end} e = record {
+  good = table-good s v T start (lines, end) e .good;
   passed = omega arith;
-  room = length-replicate {A = ℕ} mostLines 0;
-  known = lengths-none mostLines;
+  room = (length-replicate {A = ℕ} mostLines 0, length-replicate {A = ℕ} mostLines 0);
+  known = extents-none mostLines;
   end = end;
   rest = e;
 }
 
+-- no line before ends beyond the samples
+pub walk-within : (s : List ℕ) (v T : ℕ) (lines : List Line) (k at : ℕ) (firsts lengths : List ℕ) → Walk s v T lines k at firsts lengths → ExtentsWithin T firsts lengths
+walk-within s v T lines k at firsts lengths walk i = subst (λ (e : Extent). endOf e ≤ T) (sym (walk .known i)) (go (decLt i k))
+  where
+    go : Dec (i < k) → endOf (lineIn (take k lines) i .extent) ≤ T
+    go (yes h) = rw (getD-take k lines i noLine h) (good-end v T lines (walk .good) i)
+    go (no h) = rw (List·getD-eq-default (take k lines) noLine {n = i} (omega (arith, length-take-le k lines (walk .passed)))) zero-le
+
 -- line k is read there, and the walk goes on
-pub record Step (s : List ℕ) (v T : ℕ) (lines : List Line) (k at : ℕ) (lengths : List ℕ) : Type 0 where
+pub record Step (s : List ℕ) (v T : ℕ) (lines : List Line) (k at : ℕ) (firsts lengths : List ℕ) : Type 0 where
   pub next : ℕ
   pub there : at < length s
-  pub reads : lineAt s v T k (λ i. getD lengths i 0) at ≡ accepted (lineIn lines k, next)
-  pub walk : Walk s v T lines (k + 1) next (set lengths k (lineIn lines k .length))
+  pub reads : lineAt s v T k (extentIn firsts lengths) at ≡ accepted (lineIn lines k, next)
+  pub walk : Walk s v T lines (k + 1) next (set firsts k (lineIn lines k .extent .first)) (set lengths k (lineIn lines k .extent .length))
 
-module _ (s : List ℕ) (v T : ℕ) (lines : List Line) (k at : ℕ) (lengths : List ℕ) (walk : Walk s v T lines k at lengths) (more : k < length lines) where
+module _ (s : List ℕ) (v T : ℕ) (lines : List Line) (k at : ℕ) (firsts lengths : List ℕ) (walk : Walk s v T lines k at firsts lengths) (more : k < length lines) where
   before : length (take k lines) ≡ k
   before = length-take-le k lines (walk .passed)
 
   few : k < mostLines
   few = let front = lines-front s v T (mostLines - k) (take k lines) at (walk .rest) .most in let count = before in omega arith
 
-  step-read : LineRead s v T (mostLines - (k + 1)) (take k lines) at lines (walk .end) → Step s v T lines k at lengths
+  step-read : LineRead s v T (mostLines - (k + 1)) (take k lines) at lines (walk .end) → Step s v T lines k at firsts lengths
   step-read read = record {
     next = read .next;
     there = read .there;
     reads = rw is-line reads;
     walk = rw is-line (record {
+      good = walk .good;
       passed = omega arith;
-      room = length-set lengths k (read .line .length) ∙ walk .room;
-      known = subst (λ (found : List Line). Lengths found (set lengths k (read .line .length))) (sym taken) known;
+      room = (length-set firsts k (read .line .extent .first) ∙ walk .room .0, length-set lengths k (read .line .extent .length) ∙ walk .room .1);
+      known = subst (λ (found : List Line). Extents found (set firsts k (read .line .extent .first)) (set lengths k (read .line .extent .length))) (sym taken) known;
       end = walk .end;
       rest = subst (λ (found : List Line). linesFrom s v T (mostLines - (k + 1)) found (read .next) ≡ accepted (lines, walk .end)) (sym taken) (read .rest);
     });
@@ -142,24 +157,23 @@ module _ (s : List ℕ) (v T : ℕ) (lines : List Line) (k at : ℕ) (lengths : 
 
       is-line : lineIn lines k ≡ read .line
       is-line =
-          let none : Line = record { operator = True; length = 0 } in
-          sym (getD-take (k + 1) lines k none (omega arith)) ∙ ap (λ (l : List Line). getD l k none) taken
-          ∙ getD-at (take k lines) (read .line) [] none k before
+          sym (getD-take (k + 1) lines k noLine (omega arith)) ∙ ap (λ (l : List Line). getD l k noLine) taken
+          ∙ getD-at (take k lines) (read .line) [] noLine k before
 
-      reads : lineAt s v T k (λ i. getD lengths i 0) at ≡ accepted (read .line, read .next)
+      reads : lineAt s v T k (extentIn firsts lengths) at ≡ accepted (read .line, read .next)
       reads =
-          ap (λ (f : ℕ → ℕ). lineAt s v T k f at) (fun-ext (walk .known))
-          ∙ ap (λ (n : ℕ). lineAt s v T n (λ i. lineIn (take k lines) i .length) at) (sym before) ∙ read .reads
+          ap (λ (f : ℕ → Extent). lineAt s v T k f at) (fun-ext (walk .known))
+          ∙ ap (λ (n : ℕ). lineAt s v T n (extentsOf (take k lines)) at) (sym before) ∙ read .reads
 
-      known : Lengths (take k lines ++ (read .line ∷ [])) (set lengths k (read .line .length))
+      known : Extents (take k lines ++ (read .line ∷ [])) (set firsts k (read .line .extent .first)) (set lengths k (read .line .extent .length))
       known =
           let room = walk .room in
           let count = before in
           let below = few in
-          subst (λ (n : ℕ). Lengths (take k lines ++ (read .line ∷ [])) (set lengths n (read .line .length))) before
-          (lengths-more (take k lines) (read .line) lengths (omega arith) (walk .known))
+          subst (λ (n : ℕ). Extents (take k lines ++ (read .line ∷ [])) (set firsts n (read .line .extent .first)) (set lengths n (read .line .extent .length))) before
+          (extents-more (take k lines) (read .line) firsts lengths (omega (arith, room .0)) (omega (arith, room .1)) (walk .known))
 
-  pub walk-step : Step s v T lines k at lengths
+  pub walk-step : Step s v T lines k at firsts lengths
   walk-step =
       let below = few in
       let room : mostLines - k ≡ suc (mostLines - (k + 1)) = omega arith in

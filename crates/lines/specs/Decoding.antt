@@ -1,6 +1,6 @@
 -- For contracts alone, with nothing of document 01: what the code's decoded lines say, in the terms of `Lines`, and the parts in which the
 -- code reads an operator.
-use Prim.Native.Nat.{ℕ}
+use Prim.Native.Nat.{ℕ, _≤_}
 use mathlib.Core.List.{List}
 use lib.ListN.{length, getD}
 use lib.IntN.{ℤ, pos}
@@ -45,14 +45,17 @@ operatorSaid (Always side left b) = Formulas.Always (sideSaid side) left (b .low
 operatorSaid (Everywhere left b) = Formulas.Everywhere left (b .lower) (b .upper)
 
 abbrev pub extentSaid : Extent → Formulas.Extent
-extentSaid e = record { first = e .first; length = e .length }
+extentSaid e = Formulas.span (e .first) (e .length)
 
 abbrev pub lineSaid : Line → Formulas.Line
 lineSaid l = record { operator = operatorSaid (l .operator); extent = extentSaid (l .extent) }
 
 -- the extents that two arrays have, without a sample past their ends
 abbrev pub extentIn : List ℕ → List ℕ → ℕ → Formulas.Extent
-extentIn firsts lengths i = record { first = getD firsts i 0; length = getD lengths i 0 }
+extentIn firsts lengths i = Formulas.span (getD firsts i 0) (getD lengths i 0)
+
+abbrev pub ExtentsWithin : ℕ → List ℕ → List ℕ → Type 0
+ExtentsWithin T firsts lengths = (i : ℕ) → Formulas.endOf (extentIn firsts lengths i) ≤ T
 
 abbrev pub decodedSaid : D.Decoded → Checked (Formulas.Line × ℕ)
 decodedSaid (D.the-variants.Line line next) = accepted (lineSaid line, next)

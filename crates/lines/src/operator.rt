@@ -18,7 +18,13 @@ pub struct Bounds {
     pub upper: u32,
 }
 
-// In the order of the codes 0 to 11. `signal` is the number of a signal; `left` and `right` are numbers of earlier lines.
+// Where an operator over time looks from a sample.
+pub enum Direction {
+    Forward,
+    Backward,
+}
+
+// In the order of the codes 0 to 11; 12 to 14 are until, eventually and always backward. `signal` is the number of a signal; `left` and `right` are numbers of earlier lines.
 pub enum Operator {
     True,
     AtLeast {
@@ -37,6 +43,7 @@ pub enum Operator {
         right: usize,
     },
     Until {
+        direction: Direction,
         left: usize,
         right: usize,
         bounds: Bounds,
@@ -55,10 +62,12 @@ pub enum Operator {
         right: usize,
     },
     Eventually {
+        direction: Direction,
         left: usize,
         bounds: Bounds,
     },
     Always {
+        direction: Direction,
         left: usize,
         bounds: Bounds,
     },
@@ -124,7 +133,7 @@ fn ordered_bounds(lower: u32, upper: u32, place: usize) -> ReadBounds
     ReadBounds::Bounds(Bounds { lower, upper })
 }
 
-// The lower and the upper bound of codes 5, 6, 7, 9, 10 and 11.
+// The lower and the upper bound of codes 5 to 7 and 9 to 14.
 fn read_bounds(s: &[u8], at: usize) -> ReadBounds
     requires { ⌜ at ≤ length (wordsOf (now s)) ⌝ }
     ensures { λ r. ⌜ boundsSaid r ≡ boundsAt (wordsOf (now (s .entry))) at ⌝ }
@@ -162,6 +171,7 @@ fn operator_of(fields: Fields, constant: i32, bounds: Bounds) -> Operator
         3 => Operator::Not { left },
         4 => Operator::And { left, right },
         5 => Operator::Until {
+            direction: Direction::Forward,
             left,
             right,
             bounds,
@@ -173,9 +183,33 @@ fn operator_of(fields: Fields, constant: i32, bounds: Bounds) -> Operator
             bounds,
         },
         8 => Operator::Or { left, right },
-        9 => Operator::Eventually { left, bounds },
-        10 => Operator::Always { left, bounds },
-        _ => Operator::Everywhere { left, bounds },
+        9 => Operator::Eventually {
+            direction: Direction::Forward,
+            left,
+            bounds,
+        },
+        10 => Operator::Always {
+            direction: Direction::Forward,
+            left,
+            bounds,
+        },
+        11 => Operator::Everywhere { left, bounds },
+        12 => Operator::Until {
+            direction: Direction::Backward,
+            left,
+            right,
+            bounds,
+        },
+        13 => Operator::Eventually {
+            direction: Direction::Backward,
+            left,
+            bounds,
+        },
+        _ => Operator::Always {
+            direction: Direction::Backward,
+            left,
+            bounds,
+        },
     }
 }
 
@@ -244,9 +278,10 @@ pub(crate) fn decode_operator(s: &[u8], at: usize, signals: usize, lines: usize)
         1..=2 => decode_atom(s, fields, signals, at),
         3 => decode_plain(fields, lines, 1, at),
         4 | 8 => decode_plain(fields, lines, lines, at),
-        5 | 7 => decode_bounded(s, fields, lines, lines, at),
+        5 | 7 | 12 => decode_bounded(s, fields, lines, lines, at),
         6 => decode_bounded(s, fields, lines, 1, at),
         9..=11 => decode_bounded(s, fields, lines, 1, at),
+        13..=14 => decode_bounded(s, fields, lines, 1, at),
         _ => ReadOperator::Refused(Fault::LineFields, at),
     }
 }

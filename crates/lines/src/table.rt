@@ -19,11 +19,12 @@ pub enum Table {
     Refused(Fault, usize),
 }
 
-// The lines from an index on: the first word of another kind ends them. A line that is not there yet has the length 0.
+// The lines from an index on: the first word of another kind ends them. A line that is not there yet has no sample.
 pub fn check_lines(s: &[u8], start: usize, signals: usize, samples: usize) -> Table
     requires { ⌜ samples ≤ mostSamples ⌝ }
     ensures { λ r. ⌜ tableSaid r ≡ mapped lineCount (linesFrom (wordsOf (now (s .entry))) signals samples mostLines [] start) ⌝ }
 {
+    let mut firsts = [0u32; MOST_LINES];
     let mut lengths = [0u32; MOST_LINES];
     let mut lines: usize = 0;
     let mut at = start;
@@ -31,10 +32,12 @@ pub fn check_lines(s: &[u8], start: usize, signals: usize, samples: usize) -> Ta
         if lines == MOST_LINES {
             return Table::Refused(Fault::LineCount, at);
         }
-        match decode_line(s, at, signals, samples, lines, &lengths) {
+        match decode_line(s, at, signals, samples, lines, &firsts, &lengths) {
             Decoded::Refused(fault, place) => return Table::Refused(fault, place),
             Decoded::Line(line, next) => {
-                lengths[lines] = line.length;
+                let extent = line.extent;
+                firsts[lines] = extent.first;
+                lengths[lines] = extent.length;
                 lines += 1;
                 at = next;
             }

@@ -5,7 +5,7 @@ use mathlib.Core.List.{List}
 use lib.Dec.{leb, ltb, eqb}
 use lib.ListN.{length}
 use Rattle.words.specs.Word.{bits, payloadOf}
-use Rattle.formulas.specs.Formulas.{Extent, endOf, has}
+use Rattle.formulas.specs.Formulas.{Extent, span, endOf, has}
 use Rattle.logic.specs.Lattice.{verdictLattice, leastOver}
 use Rattle.checks.specs.Limits.{mostPlaces, mostSamples, mostLines}
 use Rattle.checks.specs.Checked.{between, wordAt, isKind}
@@ -37,7 +37,7 @@ module _ (a : List ℕ) where
 
   -- the first sample and the length that a line's first word gives
   abbrev pub extentAt : ℕ → Extent
-  extentAt at = record { first = bits 12 12 (wordAt a at); length = bits 0 12 (wordAt a at) }
+  extentAt at = span (bits 12 12 (wordAt a at)) (bits 0 12 (wordAt a at))
 
   -- the index of line i's first word, by the lengths that the earlier lines' words give; of the end, where i is the line count
   unfoldable pub lineStart : ℕ → ℕ

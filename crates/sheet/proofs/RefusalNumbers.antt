@@ -53,16 +53,16 @@ module _ (s : List ℕ) where
   operator-numbered (binaryBounded o) at left right v lines = search (required, accepts, bound, bounds-numbered)
   operator-numbered unknown at left right v lines = refuses tt
 
-  line-numbered : (v T lines : ℕ) (lengths : ℕ → ℕ) (at : ℕ) → Numbered (lineAt s v T lines lengths at)
+  line-numbered : (v T lines : ℕ) (extents : ℕ → Extent) (at : ℕ) → Numbered (lineAt s v T lines extents at)
   unfolding lineAt operatorAt
-  line-numbered v T lines lengths at = search (required, accepts, bound, operator-numbered)
+  line-numbered v T lines extents at = search (required, accepts, bound, operator-numbered)
 
   lines-numbered : (v T room : ℕ) (lines : List Line) (at : ℕ) → Numbered (linesFrom s v T room lines at)
   unfolding linesFrom
   lines-numbered v T zero lines at = search (required, accepts)
   lines-numbered v T (suc room) lines at =
       let onward = lines-numbered v T room in
-      chosen (isKind 5 s at) _ _ (bound _ _ (line-numbered v T (length lines) (λ i. lineIn lines i .length) at) (λ read. onward (lines ++ (read .0 ∷ [])) (read .1))) (search (required, accepts))
+      chosen (isKind 5 s at) _ _ (bound _ _ (line-numbered v T (length lines) (λ i. lineIn lines i .extent) at) (λ read. onward (lines ++ (read .0 ∷ [])) (read .1))) (search (required, accepts))
 
   samples-numbered : (count at : ℕ) → Numbered (samplesFrom s count at)
   unfolding samplesFrom

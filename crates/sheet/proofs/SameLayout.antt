@@ -47,7 +47,7 @@ roadThen s n words r last = roadChecked s n (roadAt r) last >>= λ payload. road
 -- the line at an index, and then the lines after it
 abbrev lineThen : List ℕ → ℕ → ℕ → ℕ → List Line → ℕ → Checked (List Line × ℕ)
 lineThen s v T room lines at =
-    lineAt s v T (length lines) (λ i. lineIn lines i .length) at >>= (λ read. linesFrom s v T room (lines ++ (read .0 ∷ [])) (read .1))
+    lineAt s v T (length lines) (λ i. lineIn lines i .extent) at >>= (λ read. linesFrom s v T room (lines ++ (read .0 ∷ [])) (read .1))
 
 module _ (d : ℕ) (X Y : List ℕ) (apart : SamplesApart d X Y) where
   -- ---- words of a kind other than a sample's
@@ -111,9 +111,9 @@ module _ (d : ℕ) (X Y : List ℕ) (apart : SamplesApart d X Y) where
   operator-same (binaryBounded o) at left right v lines = rw (bounds-same (at + 1)) refl
   operator-same unknown at left right v lines = refl
 
-  line-same : (v T lines : ℕ) (lengths : ℕ → ℕ) (at : ℕ) → wordAt X at ≡ wordAt Y at → lineAt X v T lines lengths at ≡ lineAt Y v T lines lengths at
+  line-same : (v T lines : ℕ) (extents : ℕ → Extent) (at : ℕ) → wordAt X at ≡ wordAt Y at → lineAt X v T lines extents at ≡ lineAt Y v T lines extents at
   unfolding lineAt operatorAt
-  line-same v T lines lengths at e =
+  line-same v T lines extents at e =
       let by : ℕ → Checked (Operator × ℕ) = λ w. operatorBy X (codeOf (codeField w)) at (leftField w) (rightField w) v lines in
       let w : ℕ = wordAt Y at in
       bind-same (operatorAt X v lines at) (operatorAt Y v lines at) _ _
@@ -123,7 +123,7 @@ module _ (d : ℕ) (X Y : List ℕ) (apart : SamplesApart d X Y) where
   unfolding linesFrom
   lines-same v T zero lines at = rw (kind-same 5 at tt) refl
   lines-same v T (suc room) lines at = choice-same (isKind 5 X at) (isKind 5 Y at) (lineThen X v T room lines at) (lineThen Y v T room lines at) _ (kind-same 5 at tt)
-      (λ h. bind-same _ _ _ _ (line-same v T (length lines) (λ i. lineIn lines i .length) at (word-same 5 at tt h)) (λ read. lines-same v T room (lines ++ (read .0 ∷ [])) (read .1)))
+      (λ h. bind-same _ _ _ _ (line-same v T (length lines) (λ i. lineIn lines i .extent) at (word-same 5 at tt h)) (λ read. lines-same v T room (lines ++ (read .0 ∷ [])) (read .1)))
 
   -- ---- the whole
   pub same-layout : (dx dy : ℕ) (L M : Layout) → AcceptedSheet X dx L → AcceptedSheet Y dy M → L ≡ M

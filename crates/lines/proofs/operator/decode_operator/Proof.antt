@@ -8,7 +8,7 @@ use Rattle.words.specs.Bytes.{wordsOf}
 use Rattle.words.proofs.Words.{words-count}
 use Rattle.checks.specs.Checked.{wordAt}
 use Rattle.lines.specs.Decoding.{fieldsOf}
-use Rattle.lines.proofs.Operators.{true-read, not-read, binary-read, atom-read, binary-bounded-read, somewhere-read, unary-bounded-read, unknown-read}
+use Rattle.lines.proofs.Operators.{true-read, not-read, binary-read, atom-read, binary-bounded-read, somewhere-read, forward-read, backward-read, unknown-read}
 use borrow.Author.Needs.{needs}
 use Rattle.lines.proofs.operator.decode_operator.Statement.{statement}
 use Rattle.lines.proofs.operator.decode_operator.Tie as tie
@@ -23,15 +23,20 @@ decode-plain-requires-3 : tie.Need-decode-plain-requires-3
 decode-plain-requires-3 c κs = let fits = words-count (c .before .before .before .before .args .s .now) in ⊎-elim (λ key. omega arith) (λ key. omega arith) (c .match .keys3)
 
 decode-bounded-requires : tie.Need-decode-bounded-requires
-decode-bounded-requires c κs = let fits = words-count (c .before .before .before .before .args .s .now) in ⊎-elim (λ key. omega arith) (λ key. omega arith) (c .match .keys4)
+decode-bounded-requires c κs =
+    let fits = words-count (c .before .before .before .before .args .s .now) in
+    ⊎-elim (λ key. omega arith) (λ others. ⊎-elim (λ key. omega arith) (λ key. omega arith) others) (c .match .keys4)
 
-above-8 : {n : ℕ} → 3 ≤ n → (n ≡ 3 → ⊥) → ((n ≡ 4) ⊎ (n ≡ 8) → ⊥) → ((n ≡ 5) ⊎ (n ≡ 7) → ⊥) → (n ≡ 6 → ⊥) → 9 ≤ n
-above-8 {n} least not-3 not-4-8 not-5-7 not-6 =
+above-8 : {n : ℕ} → 3 ≤ n → (n ≡ 3 → ⊥) → ((n ≡ 4) ⊎ (n ≡ 8) → ⊥) → ((n ≡ 5) ⊎ ((n ≡ 7) ⊎ (n ≡ 12)) → ⊥) → (n ≡ 6 → ⊥) → 9 ≤ n
+above-8 {n} least not-3 not-4-8 not-5-7-12 not-6 =
     let not-4 : n ≡ 4 → ⊥ = λ e. not-4-8 (inl e) in
     let not-8 : n ≡ 8 → ⊥ = λ e. not-4-8 (inr e) in
-    let not-5 : n ≡ 5 → ⊥ = λ e. not-5-7 (inl e) in
-    let not-7 : n ≡ 7 → ⊥ = λ e. not-5-7 (inr e) in
+    let not-5 : n ≡ 5 → ⊥ = λ e. not-5-7-12 (inl e) in
+    let not-7 : n ≡ 7 → ⊥ = λ e. not-5-7-12 (inr (inl e)) in
     omega arith
+
+above-12 : {n : ℕ} → 12 ≤ n → ((n ≡ 5) ⊎ ((n ≡ 7) ⊎ (n ≡ 12)) → ⊥) → 13 ≤ n
+above-12 {n} least not-5-7-12 = let not-12 : n ≡ 12 → ⊥ = λ e. not-5-7-12 (inr (inr e)) in omega arith
 
 abbrev sheet : tie.After-fields-of → List ℕ
 sheet c = wordsOf (c .before .before .before .args .s .now)
@@ -82,13 +87,20 @@ returns-7 c =
     let g = c .before .before .before .before .before .before .before .args in
     let none = c .before .before .before .match .rest in
     let above = above-8 (c .before .before .if1 .left) (none .0 .0 .0 .1) (none .0 .0 .1) (none .0 .1) (none .1) in
-    c .decode-bounded3 .ensures ∙ unary-bounded-read (sheet f) (g .signals) (g .lines) (g .at) (read f) above (c .before .if2 .taken)
+    c .decode-bounded3 .ensures ∙ forward-read (sheet f) (g .signals) (g .lines) (g .at) (read f) above (c .before .if2 .taken)
 
 returns-8 : tie.Need-returns-8
 returns-8 c =
-    let f = c .before .before .before in
-    let g = c .before .before .before .before .before .before .args in
-    unknown-read (sheet f) (g .signals) (g .lines) (g .at) (read f) (c .if2 .left)
+    let f = c .before .before .before .before .before in
+    let g = c .before .before .before .before .before .before .before .before .args in
+    let above = above-12 (c .before .before .if2 .left) (c .before .before .before .before .match .rest .0 .1) in
+    c .decode-bounded4 .ensures ∙ backward-read (sheet f) (g .signals) (g .lines) (g .at) (read f) above (c .before .if3 .taken)
+
+returns-9 : tie.Need-returns-9
+returns-9 c =
+    let f = c .before .before .before .before in
+    let g = c .before .before .before .before .before .before .before .args in
+    unknown-read (sheet f) (g .signals) (g .lines) (g .at) (read f) (c .if3 .left)
 
 pub decode-operator-spec : {M : Type 1} → statement M
 decode-operator-spec =
@@ -103,6 +115,7 @@ decode-operator-spec =
     (λ c κs. search needs)
     (λ c κs. search needs)
     (λ c κs. search needs)
+    (λ c κs. search needs)
     returns
     returns-2
     returns-3
@@ -110,4 +123,5 @@ decode-operator-spec =
     returns-5
     returns-6
     returns-7
-    returns-8)
+    returns-8
+    returns-9)

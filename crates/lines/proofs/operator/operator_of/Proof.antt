@@ -1,4 +1,4 @@
--- Each arm of the match is the table's entry at that code; the last arm is left with code 11.
+-- Each arm of the match is the table's entry at that code; the last arm is left with code 14.
 use Prim.Native.Nat.{ℕ, zero, suc, _≤_, zero-le}
 use mathlib.Core.Path.{_≡_, sym, ap}
 use native.Mathlib.Omega.{arith}
@@ -74,9 +74,21 @@ returns-11 c = by-code (c .before) (c .match .keys11)
 
 returns-12 : tie.Need-returns-12
 unfolding codes
-returns-12 c =
-    let at-least : 11 ≤ c .before .args .fields .code = none-below (c .before .args .fields .code) 11 (c .match .rest) in
-    let last : c .before .args .fields .code ≡ 11 = above at-least (c .before .pre) in
+returns-12 c = by-code (c .before) (c .match .keys12)
+
+returns-13 : tie.Need-returns-13
+unfolding codes
+returns-13 c = by-code (c .before) (c .match .keys13)
+
+returns-14 : tie.Need-returns-14
+unfolding codes
+returns-14 c = by-code (c .before) (c .match .keys14)
+
+returns-15 : tie.Need-returns-15
+unfolding codes
+returns-15 c =
+    let at-least : 14 ≤ c .before .args .fields .code = none-below (c .before .args .fields .code) 14 (c .match .rest) in
+    let last : c .before .args .fields .code ≡ 14 = above at-least (c .before .pre) in
     by-code (c .before) last
 
 pub operator-of-spec : {M : Type 1} → statement M
@@ -94,4 +106,7 @@ operator-of-spec =
     returns-9
     returns-10
     returns-11
-    returns-12)
+    returns-12
+    returns-13
+    returns-14
+    returns-15)

@@ -11,16 +11,16 @@ use Rattle.lines.specs.Decoding.{decodedSaid}
 use Rattle.checks.specs.Checked.{mapped}
 use Rattle.lines.specs.Decoding.{lineCount}
 use Rattle.checks.proofs.Tests.{kind-told}
-use Rattle.lines.proofs.Lines.{Lines, lines-start, none-found, all-found, too-many, line-refused, line-passed}
+use Rattle.lines.proofs.Lines.{Lines, lines-start, none-found, all-found, too-many, line-refused, line-passed, lines-within}
 use borrow.Author.Needs.{needs}
 use Rattle.lines.proofs.table.check_lines.Statement.{statement}
 use Rattle.lines.proofs.table.check_lines.Tie as tie
 
 abbrev Inv-loop : tie.InvT-loop
-Inv-loop s start signals samples lengths₀ lines₀ at₀ lengths lines at = Lines (wordsOf s) signals samples start lengths lines at
+Inv-loop s start signals samples firsts₀ lengths₀ lines₀ at₀ firsts lengths lines at = Lines (wordsOf s) signals samples start firsts lengths lines at
 
 abbrev μ-loop : tie.MeasureT-loop
-μ-loop s start signals samples lengths₀ lines₀ at₀ lengths lines at = mostLines - lines
+μ-loop s start signals samples firsts₀ lengths₀ lines₀ at₀ firsts lengths lines at = mostLines - lines
 
 loop-holds : tie.Need-loop-holds Inv-loop μ-loop
 loop-holds c =
@@ -43,23 +43,41 @@ returns c =
     sym (ap (mapped lineCount) (too-many (wordsOf (g .s .now)) (g .signals) (g .samples) (g .start) (l .inv) (kind-5 (c .before)) (c .if2 .taken)))
 
 slice-aggregate-decode-line : tie.Need-slice-aggregate-decode-line Inv-loop μ-loop
-slice-aggregate-decode-line c = sym (c .before .before .before .before .loop .inv .room)
+slice-aggregate-decode-line c = sym (c .before .before .before .before .loop .inv .room .0)
+
+slice-aggregate-decode-line-2 : tie.Need-slice-aggregate-decode-line-2 Inv-loop μ-loop
+slice-aggregate-decode-line-2 c = sym (c .before .before .before .before .before .loop .inv .room .1)
 
 decode-line-requires : tie.Need-decode-line-requires Inv-loop μ-loop
 decode-line-requires c κs =
-    let turn = c .before .before in
-    (kind-told 5 (sheet turn) (index turn) (kind-5 turn) .0, c .before .before .before .before .before .before .pre)
+    let turn = c .before .before .before in
+    let start = c .before .before .before .before .before .before .before in
+    let g = start .args in (
+      kind-told 5 (sheet turn) (index turn) (kind-5 turn) .0,
+      start .pre,
+      lines-within (wordsOf (g .s .now)) (g .signals) (g .samples) (g .start) (turn .before .before .loop .inv),
+    )
 
 returns-2 : tie.Need-returns-2 Inv-loop μ-loop
 returns-2 c =
-    let g = c .before .before .before .before .before .before .before .before .before .before .args in
-    let l = c .before .before .before .before .before .before .before .before .loop in
-    let read = sym (c .before .before .before .decode-line .ensures) ∙ ap decodedSaid (c .before .fault .given .1) in
-    let room = c .before .before .before .before .before in
+    let decoded = c .before .before .before in
+    let room = decoded .before .before .before in
+    let l = room .before .before .before .loop in
+    let g = room .before .before .before .before .before .args in
+    let read = sym (decoded .decode-line .ensures) ∙ ap decodedSaid (c .before .fault .given .1) in
     sym (ap (mapped lineCount) (line-refused (wordsOf (g .s .now)) (g .signals) (g .samples) (g .start) (l .inv) (kind-5 (room .before)) (room .if2 .left) read))
 
-below : (c : tie.After-known-told2 Inv-loop μ-loop) → c .before .before .before .before .before .before .before .before .loop .lines < mostLines
-below c = let bounded = c .before .before .before .before .before .before .before .before .loop .inv .bounded in let more = c .before .before .before .before .before .if2 .left in omega arith
+abbrev turn : tie.After-extent Inv-loop μ-loop → tie.Else2 Inv-loop μ-loop
+turn c = c .before .before .before .before .before .before .before
+
+below : (c : tie.After-extent Inv-loop μ-loop) → turn c .before .before .before .loop .lines < mostLines
+below c = let bounded = turn c .before .before .before .loop .inv .bounded in let more = turn c .if2 .left in omega arith
+
+mul-firsts : tie.Need-mul-firsts Inv-loop μ-loop
+mul-firsts c = let few = below c in omega arith
+
+array-write-firsts : tie.Need-array-write-firsts Inv-loop μ-loop
+array-write-firsts c = below c
 
 mul-lengths : tie.Need-mul-lengths Inv-loop μ-loop
 mul-lengths c = let few = below c in omega arith
@@ -75,10 +93,10 @@ loop-less c = let few = below c in omega arith
 
 loop-again : tie.Need-loop-again Inv-loop μ-loop
 loop-again c =
-    let g = c .before .before .before .before .before .before .before .before .before .before .args in
-    let l = c .before .before .before .before .before .before .before .before .loop in
-    let read = sym (c .before .before .before .decode-line .ensures) ∙ ap decodedSaid (c .before .line .given .1) in
-    let room = c .before .before .before .before .before in
+    let room = turn c in
+    let l = room .before .before .before .loop in
+    let g = room .before .before .before .before .before .args in
+    let read = sym (c .before .before .before .before .decode-line .ensures) ∙ ap decodedSaid (c .before .before .line .given .1) in
     line-passed (wordsOf (g .s .now)) (g .signals) (g .samples) (g .start) (l .inv) (kind-5 (room .before)) (room .if2 .left) read
 
 no-line : (c : tie.Else1 Inv-loop μ-loop) → isKind 5 (wordsOf (c .before .before .before .before .args .s .now)) (c .before .before .loop .at) ≡ false
@@ -107,10 +125,13 @@ check-lines-spec =
     (λ c κs. search needs)
     returns
     slice-aggregate-decode-line
+    slice-aggregate-decode-line-2
     decode-line-requires
     (λ c. search needs)
     returns-2
     (λ c. search needs)
+    mul-firsts
+    array-write-firsts
     mul-lengths
     array-write-lengths
     add-lines
