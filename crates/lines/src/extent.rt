@@ -16,7 +16,7 @@ pub struct Extent {
 }
 
 // A number of an array, 0 past its end.
-fn number_or_zero(numbers: &[u32], i: usize) -> u32
+pub fn number_or_zero(numbers: &[u32], i: usize) -> u32
     ensures { λ r. ⌜ r ≡ getD (now (numbers .entry)) i 0 ⌝ }
 {
     if i < numbers.len() { numbers[i] } else { 0 }
@@ -44,7 +44,7 @@ fn earlier(a: u32, b: u32) -> u32
 }
 
 // The difference, which stops at 0.
-fn less(a: u32, b: u32) -> u32
+pub fn less(a: u32, b: u32) -> u32
     ensures { λ r. ⌜ r ≡ a - b ⌝ }
 {
     if b < a { a - b } else { 0 }

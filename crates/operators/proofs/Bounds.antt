@@ -19,7 +19,7 @@ use Rattle.values.proofs.ChainWords.{signal-bound}
 use Rattle.operators.specs.Reach.{Reached}
 use Rattle.operators.specs.Rows.{ahead}
 use Rattle.operators.specs.declared.window.Bounds as Code
-use Rattle.operators.proofs.Folds.{eventually-all}
+use Rattle.operators.proofs.Windows.{eventually-all}
 use Rattle.operators.proofs.RowLaws.{turned-small}
 
 -- ---- no fold leads beyond `highest`
@@ -31,7 +31,7 @@ pub meet-bound : (a b : ℕ) → a ≤ highest → b ≤ highest → chainLattic
 meet-bound a b h k = bounded-kept .keeps-meet a b a b h k
 
 pub greatest-bound : (test : ℕ → Bool) (f : ℕ → ℕ) (n : ℕ) → ((k : ℕ) → k < n → f k ≤ highest) → greatestOver chainLattice test f n ≤ highest
-greatest-bound test f n h = greatest-kept chainLattice chainLattice (λ c _. c ≤ highest) bounded-kept test f f n h
+greatest-bound test f n h = greatest-kept chainLattice chainLattice (λ c _. c ≤ highest) bounded-kept test f f n (λ k b _. h k b)
 
 -- ---- nor does what an operator reads
 

@@ -1,3 +1,5 @@
 pub mod RowLaws
 pub mod Folds
+pub mod Windows
+pub mod Later
 pub mod Bounds

@@ -1,35 +1,13 @@
 // Code 5, until.
+use crate::signals::least_between;
 use crate::window::Bounds;
 use values::signal_at;
 ghost use mathlib.Core.Path.{_≡_};
-ghost use Prim.Native.Nat.{_+_, _*_, _≤_, _<_};
-ghost use lib.Dec.{leb};
+ghost use Prim.Native.Nat.{_≤_};
 ghost use lib.ListN.{length};
 ghost use Rattle.words.specs.Bytes.{wordsOf};
-ghost use Rattle.logic.specs.Lattice.{leastOver};
-ghost use Rattle.values.specs.Chain.{chainLattice};
-ghost use Rattle.values.specs.Signals.{signalIn};
 ghost use Rattle.operators.specs.Reach.{Window, Reached};
 ghost use Rattle.operators.specs.Rows.{RowLeft, untilIn};
-
-// The least value of a signal from sample `first` up to and without sample `end`.
-fn least_between(
-    words: &[u8],
-    start: usize,
-    places: usize,
-    first: usize,
-    end: usize,
-    l: usize,
-) -> u32
-    requires { ⌜ (first ≤ end) × (l < places) × (start + end * places ≤ length (wordsOf (now words))) ⌝ }
-    ensures { λ r. ⌜ r ≡ leastOver chainLattice (leb first) (λ u. signalIn (wordsOf (now (words .entry))) start places u l) end ⌝ }
-{
-    let mut least = values::top();
-    for u in first..end {
-        least = values::lesser(least, signal_at(words, start, places, u, l));
-    }
-    least
-}
 
 // At one place. The samples are read from t on, with the least of left so far; from t + lower on each offers the lesser of right and that least.
 fn until_at(

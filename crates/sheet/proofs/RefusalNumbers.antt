@@ -4,7 +4,7 @@ use mathlib.Core.List.{List, [], _∷_, _++_}
 use Prim.Native.Nat.{ℕ, zero, suc, _+_}
 use lib.Dec.{T}
 use lib.ListN.{length}
-use Rattle.formulas.specs.Formulas.{Line, lineIn}
+use Rattle.formulas.specs.Formulas.{Extent, Line, lineIn}
 use Rattle.checks.specs.Checked.{Checked, accepted, refused, _>>=_, require, between, isKind}
 use Rattle.lines.specs.Codes.{Code, constant, atom, unary, binary, unaryBounded, binaryBounded, unknown}
 use Rattle.lines.specs.Lines.{constantAt, boundsAt, operatorBy, operatorAt, lineAt, linesFrom}

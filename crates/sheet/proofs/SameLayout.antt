@@ -8,7 +8,7 @@ use Prim.Native.Nat.{ℕ, zero, suc, _+_}
 use lib.Dec.{T, eqb, ltb}
 use lib.ListN.{length}
 use Rattle.words.specs.Word.{kindOf, payloadOf}
-use Rattle.formulas.specs.Formulas.{Operator, Line, lineIn}
+use Rattle.formulas.specs.Formulas.{Operator, Extent, Line, lineIn}
 use Rattle.checks.specs.Limits.{mostLines}
 use Rattle.checks.specs.Checked.{Checked, accepted, _>>=_, require, wordAt, isKind}
 use Rattle.lines.specs.Codes.{Code, constant, atom, unary, binary, unaryBounded, binaryBounded, unknown, codeOf}

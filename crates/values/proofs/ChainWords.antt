@@ -1,11 +1,11 @@
 -- The word of a chain number is the word of its verdict and margin, and reading it gives the number back. What any word is read as is at most
--- `highest`.
+-- `highest`, and a signal from a later sample on begins later in the words.
 use mathlib.Core.Path.{_≡_, refl, sym, ap, _∙_}
 use mathlib.Core.Logic.{_⊎_, inl, inr, ⊎-elim}
 use mathlib.Core.Bool.{Bool, true, false, cond}
 use mathlib.Core.List.{List}
 use Prim.Native.Nat.{ℕ, _+_, _*_, _/_, _%_, _<_, _≤_, _^_, zero-le}
-use native.Mathlib.Nat.{eq-or-lt-of-le, eq-zero-or-pos}
+use native.Mathlib.Nat.{add-mul, eq-or-lt-of-le, eq-zero-or-pos}
 use native.Mathlib.Omega.{arith}
 use lib.Dec.{eqb}
 use lib.IntN.{ℤ, subℕ}
@@ -87,3 +87,9 @@ word-bound w = go (eqb (kindOf w) 12) (eqb (kindOf w) 11) (eqb (kindOf w) 9)
 pub signal-bound : (words : List ℕ) (start n t l : ℕ) → signalIn words start n t l ≤ highest
 unfolding signalIn
 signal-bound words start n t l = word-bound (getD words (start + (t * n + l)) 0)
+
+-- the signal that begins k samples later is the signal from sample k on
+pub signal-later : (words : List ℕ) (start n k t l : ℕ) → signalIn words (start + k * n) n t l ≡ signalIn words start n (k + t) l
+unfolding signalIn
+signal-later words start n k t l =
+    let same : start + k * n + (t * n + l) ≡ start + ((k + t) * n + l) = omega (arith, add-mul k t n) in ap (λ (i : ℕ). wordChain (getD words i 0)) same

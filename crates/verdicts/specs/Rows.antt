@@ -9,16 +9,16 @@ use Rattle.words.specs.Bytes.{wordsOf}
 use Rattle.words.specs.Rows.{row}
 use Rattle.counting.specs.Totals.{count, sumBelow}
 use Rattle.formulas.specs.Formulas.{Recording, InBits}
-use Rattle.logic.specs.Table.{Signal, untilAt, opposite, everTrue}
+use Rattle.logic.specs.Table.{Signal, opposite, everTrue}
 use Rattle.sheet.specs.declared.check.Layout.{Layout}
 use Rattle.checks.specs.Limits.{mostPlaces, mostSignals, mostSamples}
 use Rattle.sheet.specs.Recording.{recordingOf}
 use Rattle.values.specs.Chain.{chains, chainWord, chainVerdict}
 use Rattle.values.specs.Signals.{signalIn}
 use Rattle.operators.specs.Reach.{Window}
-use Rattle.operators.specs.Rows.{Filled, atomValue, andAt, eventuallyAt}
+use Rattle.operators.specs.Rows.{Filled, atomValue, andIn, untilIn, sinceIn, eventuallyIn}
 use Rattle.verdicts.specs.declared.located.RowOperator.{RowOperator}
-use Rattle.verdicts.specs.declared.located.RowOperator.the-variants.{True, Atom, Not, Both, Until, Eventually}
+use Rattle.verdicts.specs.declared.located.RowOperator.the-variants.{True, Atom, Not, Both, Until, Since, Eventually}
 use Rattle.samples.specs.declared.tally.Tally.{Tally}
 use Rattle.samples.specs.Written.{SamplesWritten}
 
@@ -33,9 +33,10 @@ module _ (s : List ℕ) (L : Layout) where
     rowValue True = everTrue chains
     rowValue (Atom signal c atleast) = λ t l. atomValue atleast (sheetRecording signal t l) c
     rowValue (Not left) = opposite chains (signalIn words left (L .places))
-    rowValue (Both left right dual) = andAt dual (signalIn words left (L .places)) (signalIn words right (L .places))
-    rowValue (Until left right b) = untilAt chains (signalIn words left (L .places)) (signalIn words right (L .places)) (b .lower) (b .upper)
-    rowValue (Eventually left b dual) = eventuallyAt dual (signalIn words left (L .places)) (b .lower) (b .upper)
+    rowValue (Both left right dual) = andIn words (L .places) dual left right
+    rowValue (Until left right b) = untilIn words (L .places) left right (b .lower) (b .upper)
+    rowValue (Since left right b) = sinceIn words (L .places) left right (b .lower) (b .upper)
+    rowValue (Eventually left b dual) = eventuallyIn words (L .places) dual left (b .lower) (b .upper)
 
 -- ---- what they are made from
 
@@ -57,6 +58,7 @@ RowReads L words (Atom signal c atleast) t = (signal < L .signals) × (t < L .sa
 RowReads L words (Not left) t = There L words left t
 RowReads L words (Both left right dual) t = There L words left t × There L words right t
 RowReads L words (Until left right b) t = Window words left (L .places) (b .lower) (b .upper) t × Window words right (L .places) (b .lower) (b .upper) t
+RowReads L words (Since left right b) t = Window words left (L .places) (b .lower) (b .upper) t × Window words right (L .places) (b .lower) (b .upper) t
 RowReads L words (Eventually left b dual) t = Window words left (L .places) (b .lower) (b .upper) t
 
 -- a row of values at sample t can be made of one that holds those at the sample before, if there is one

@@ -5,6 +5,7 @@ use operators::connectives::and_row;
 use operators::connectives::true_row;
 use operators::connectives::turned_row;
 use operators::eventually::eventually_row;
+use operators::since::since_row;
 use operators::until::until_row;
 use sheet::check::Layout;
 ghost use Prim.Native.Nat.{_≤_, _<_};
@@ -68,6 +69,11 @@ pub(crate) fn value_row(
             right,
             bounds,
         } => until_row(words, left, right, n, bounds.lower, bounds.upper, t, row),
+        RowOperator::Since {
+            left,
+            right,
+            bounds,
+        } => since_row(words, left, right, n, bounds.lower, bounds.upper, t, row),
         RowOperator::Eventually { left, bounds, dual } => {
             eventually_row(words, left, n, bounds.lower, bounds.upper, dual, t, row)
         }

@@ -11,7 +11,8 @@ use Rattle.logic.specs.Lattice.{greatestOver}
 use Rattle.values.specs.Chain.{chainLattice}
 use Rattle.values.specs.Signals.{signalIn, turned}
 use Rattle.operators.proofs.Bounds.{turned-bound, reached-inside, reached-end}
-use Rattle.operators.proofs.Folds.{Counted, none-counted, one-counted, all-counted, greatest-none, greatest-more, eventually-all}
+use Rattle.operators.proofs.Folds.{Counted, none-counted, one-counted, all-counted, greatests}
+use Rattle.operators.proofs.Windows.{eventually-all}
 use Rattle.operators.proofs.eventually.greatest_ahead.Statement.{statement}
 use Rattle.operators.proofs.eventually.greatest_ahead.Tie as tie
 
@@ -39,7 +40,7 @@ add-end-2 : tie.Need-add-end-2 Inv-loop μ-loop
 add-end-2 c = omega (arith, end-fits (c .before .before .before))
 
 loop-holds : tie.Need-loop-holds Inv-loop μ-loop
-loop-holds c = (none-counted (omega arith), c .bottom .ensures ∙ sym (greatest-none _ _ _ (le-refl _)))
+loop-holds c = (none-counted (omega arith), c .bottom .ensures ∙ sym (greatests _ .none _ _ (le-refl _)))
 
 turned-at-requires : tie.Need-turned-at-requires Inv-loop μ-loop
 turned-at-requires c κs = reached-inside (entry (c .before) .pre) (c .loop-test .taken)
@@ -50,7 +51,7 @@ add-u c = omega (arith, end-fits (entry (c .before .before .before)))
 loop-again : tie.Need-loop-again Inv-loop μ-loop
 loop-again c =
     let loop = c .before .before .before .loop in
-    (one-counted (loop .inv .0) (c .before .before .loop-test .taken), c .greater .ensures ∙ ap₂ (chainLattice .join) (loop .inv .1) (c .before .turned-at .ensures) ∙ sym (greatest-more _ _ (loop .u) (loop .inv .0 .from)))
+    (one-counted (loop .inv .0) (c .before .before .loop-test .taken), c .greater .ensures ∙ ap₂ (chainLattice .join) (loop .inv .1) (c .before .turned-at .ensures) ∙ sym (greatests _ .more _ (loop .u) (loop .inv .0 .from)))
 
 returns : tie.Need-returns Inv-loop μ-loop
 returns c =

@@ -6,7 +6,7 @@ use lib.ListN.{length}
 use borrow.Author.Needs.{needs}
 use Rattle.values.specs.Chain.{chainLattice}
 use Rattle.operators.proofs.Bounds.{turned-bound, reached-inside, reached-end}
-use Rattle.operators.proofs.Folds.{ahead-next}
+use Rattle.operators.proofs.Windows.{ahead-next}
 use Rattle.operators.proofs.eventually.greatest_next.Statement.{statement}
 use Rattle.operators.proofs.eventually.greatest_next.Tie as tie
 

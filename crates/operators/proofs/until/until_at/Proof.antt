@@ -12,7 +12,8 @@ use Rattle.logic.specs.Lattice.{leastOver, greatestOver}
 use Rattle.values.specs.Chain.{chainLattice}
 use Rattle.values.specs.Signals.{signalIn}
 use Rattle.operators.proofs.Bounds.{reached-inside, reached-end}
-use Rattle.operators.proofs.Folds.{Counted, none-counted, one-counted, all-counted, greatest-none, least-more, offer, until-more, until-all, until-known}
+use Rattle.operators.proofs.Folds.{Counted, none-counted, one-counted, all-counted, leasts, greatests}
+use Rattle.operators.proofs.Windows.{untilOffer, until-more, until-all, until-known}
 use Rattle.operators.proofs.until.until_at.Statement.{statement}
 use Rattle.operators.proofs.until.until_at.Tie as tie
 
@@ -20,7 +21,7 @@ abbrev Inv-loop : tie.InvT-loop
 Inv-loop words left right places t l first end least₀ best₀ u₀ least best u =
     Counted first end u
     × (least ≡ leastOver chainLattice (leb t) (λ v. signalIn (wordsOf words) left places v l) u)
-    × (best ≡ greatestOver chainLattice (leb first) (offer (signalIn (wordsOf words) left places) (signalIn (wordsOf words) right places) t l) u)
+    × (best ≡ greatestOver chainLattice (leb first) (untilOffer (signalIn (wordsOf words) left places) (signalIn (wordsOf words) right places) t l) u)
 
 abbrev μ-loop : tie.MeasureT-loop
 μ-loop words left right places t l first end least₀ best₀ u₀ least best u = end - u
@@ -51,13 +52,13 @@ least-between-requires c κs =
 loop-holds : tie.Need-loop-holds Inv-loop μ-loop
 loop-holds c =
     let a = c .before .before .before .before .before .args in
-    (none-counted (omega arith), c .before .least-between .ensures, c .bottom .ensures ∙ sym (greatest-none _ _ (a .t + a .bounds .lower) (le-refl _)))
+    (none-counted (omega arith), c .before .least-between .ensures, c .bottom .ensures ∙ sym (greatests _ .none _ (a .t + a .bounds .lower) (le-refl _)))
 
 returns : tie.Need-returns Inv-loop μ-loop
 returns c =
     let a = entry (c .before .before) .args in
     let loop = c .before .before .loop in
-    loop .inv .2 ∙ sym (until-known _ _ (a .bounds .lower) (a .bounds .upper) (a .t) (a .l) (loop .u) (omega arith) (omega arith))
+    loop .inv .2 ∙ sym (until-known _ _ (a .t) (a .l) (a .bounds .lower) (a .bounds .upper) (loop .u) (omega arith) (omega arith))
 
 signal-at-requires : tie.Need-signal-at-requires Inv-loop μ-loop
 signal-at-requires c κs = reached-inside (entry (c .before .before) .pre .0) (omega arith)
@@ -72,7 +73,7 @@ loop-again : tie.Need-loop-again Inv-loop μ-loop
 loop-again c =
     let a = entry (c .before .before .before .before .before .before .before) .args in
     let loop = c .before .before .before .before .before .before .before .loop in
-    let held = c .before .before .before .lesser .ensures ∙ ap₂ (chainLattice .meet) (loop .inv .1) (c .before .before .before .before .signal-at .ensures) ∙ sym (least-more _ _ (loop .u) (omega (arith, loop .inv .0 .from))) in
+    let held = c .before .before .before .lesser .ensures ∙ ap₂ (chainLattice .meet) (loop .inv .1) (c .before .before .before .before .signal-at .ensures) ∙ sym (leasts _ .more _ (loop .u) (omega (arith, loop .inv .0 .from))) in
     let offered = c .before .lesser2 .ensures ∙ ap₂ (chainLattice .meet) (c .before .before .signal-at2 .ensures) held in
     let signal = signalIn (wordsOf (a .words .now)) in (
       one-counted (loop .inv .0) (c .before .before .before .before .before .before .loop-test .taken),
@@ -84,7 +85,7 @@ loop-again c =
 returns-2 : tie.Need-returns-2 Inv-loop μ-loop
 returns-2 c =
     let a = entry (c .before) .args in
-    c .before .loop .inv .2 ∙ ap (greatestOver chainLattice _ _) (all-counted (c .before .loop .inv .0) (c .loop-test .left)) ∙ sym (until-all _ _ (a .bounds .lower) (a .bounds .upper) (a .t) (a .l))
+    c .before .loop .inv .2 ∙ ap (greatestOver chainLattice _ _) (all-counted (c .before .loop .inv .0) (c .loop-test .left)) ∙ sym (until-all _ _ (a .t) (a .l) (a .bounds .lower) (a .bounds .upper))
 
 pub until-at-spec : {M : Type 1} → statement M
 until-at-spec =

@@ -1,6 +1,5 @@
 -- Each turn writes one place more.
 use Prim.Native.Nat.{_-_}
-use native.Mathlib.Omega.{arith}
 use borrow.Author.Needs.{needs}
 use Rattle.words.specs.Bytes.{wordsOf}
 use Rattle.operators.specs.Rows.{untilIn}
