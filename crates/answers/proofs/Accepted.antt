@@ -16,7 +16,7 @@ use Rattle.sheet.specs.Recording.{network, recording}
 use Rattle.sheet.specs.Checking.{layoutOf}
 use Rattle.sheet.proofs.Accepted.{SizesWithin}
 use Rattle.sheet.proofs.Whole.{AcceptedSheet, accepted-sheet}
-use Rattle.lines.proofs.AcceptedLines.{good-length, table-good, good-constants}
+use Rattle.lines.proofs.AcceptedLines.{good-end, table-good, good-constants}
 use Rattle.sheet.proofs.Samples.{recording-bits}
 use Rattle.sheet.proofs.RefusalNumbers.{Numbered, refuses, check-numbered}
 use Rattle.answers.specs.Meant.{meantAt}
@@ -70,7 +70,7 @@ module _ (s : List ℕ) (distances : ℕ) (L : Layout) (sheet : AcceptedSheet s 
     places = omega (arith, limits .places-most);
     count = omega (arith, table .bound);
     samples = omega (arith, limits .samples-most);
-    lengths = λ i. omega (arith, good-length (L.sizes.signals) (L.sizes.samples) (L.lines) (table .good) i, limits .samples-most);
+    ends = λ i. omega (arith, good-end (L.sizes.signals) (L.sizes.samples) (L.lines) (table .good) i, limits .samples-most);
   }
 
   -- the answer says what is meant, and nothing elsewhere
@@ -85,7 +85,7 @@ module _ (s : List ℕ) (distances : ℕ) (L : Layout) (sheet : AcceptedSheet s 
     places = (limits .places-some, limits .places-most);
     samples = (limits .samples-some, limits .samples-most);
     count = (table .some, table .bound);
-    lengths = λ i h. (table .good i h .least, table .good i h .most);
+    extents = λ i h. (table .good i h .some, table .good i h .ends);
   }
 
   whole : (answer : ℕ) → T (wholeAnswer (answered s distances answer L .answer))

@@ -2,23 +2,24 @@
 use mathlib.Core.Path.{_≡_, refl, ap, ap₂, _∙_}
 use mathlib.Core.Bool.{Bool, true, false, cond, _&&_}
 use mathlib.Core.List.{List}
-use Prim.Native.Nat.{ℕ, _+_, _*_, _<_}
+use Prim.Native.Nat.{ℕ, _+_, _-_, _*_, _<_}
 use native.Mathlib.Nat.{le-of-lt}
+use native.Mathlib.Omega.{arith}
 use lib.Dec.{T, ltb, ltb→lt}
 use lib.ListN.{length}
 use Rattle.network.specs.Network.{Network}
-use Rattle.formulas.specs.Formulas.{Line, lineIn, Recording, InBits}
+use Rattle.formulas.specs.Formulas.{Extent, has, Line, lineIn, Recording, InBits, ConstantsIn}
 use Rattle.logic.specs.Table.{verdicts, margins, valueAt}
 use Rattle.logic.proofs.Agreement.{agreement}
 use Rattle.logic.proofs.Small.{margins-small}
-use Rattle.formulas.specs.Formulas.{ConstantsIn}
 use Rattle.checks.specs.Checked.{wordAt}
 use Rattle.values.specs.Said.{Said, says, nothing, saidBy}
 use Rattle.answers.specs.Meant.{meantAt}
 use Rattle.answers.specs.Answer.{wordFor}
-use Rattle.lookup.specs.Lookup.{headPlaces, headLines, lineLength, lineStart, saidAt}
+use Rattle.lookup.specs.Lookup.{headPlaces, headLines, lineStart, lineExtent, saidAt}
+use Rattle.lookup.proofs.Exactly.{has-e, asked}
 use Rattle.values.proofs.ReadBack.{read-back}
-use Rattle.answers.proofs.AnswerWords.{InFields, answer, places-read, lines-read, start-read, length-read, verdict-word}
+use Rattle.answers.proofs.AnswerWords.{InFields, answer, places-read, lines-read, start-read, extent-read, verdict-word}
 
 -- a choice by three tests in turn
 same-choice : (p q r p′ q′ r′ : Bool) (a b c : Said) → p ≡ p′ → (T p′ → q ≡ q′) → r ≡ r′ → (T p′ → T q′ → T r′ → a ≡ b)
@@ -28,31 +29,38 @@ same-choice p q r true false r′ a b c e f g h = rw (e, f tt) refl
 same-choice p q r true true false a b c e f g h = rw (e, f tt, g) refl
 same-choice p q r true true true a b c e f g h = rw (e, f tt, g) (h tt tt tt)
 
-module _ (N : Network) (T : ℕ) (x : Recording) (lines : List Line) (room : ℕ) (fits : InFields (N.places) T lines)
+module _ (N : Network) (horizon : ℕ) (x : Recording) (lines : List Line) (room : ℕ) (fits : InFields (N.places) horizon lines)
     (samples : (s t l : ℕ) → InBits 27 (x s t l)) (constants : ConstantsIn (InBits 27) lines) where
   -- verdict and margin of the definition
   abbrev meant : ℕ → ℕ → ℕ → Said
   meant i t l = says (valueAt verdicts N x lines i t l) (valueAt margins N x lines i t l)
 
-  pub word-says : (i t l : ℕ) → l < N.places → saidBy (wordFor N T x lines i t l) ≡ meant i t l
+  pub word-says : (i t l : ℕ) → l < N.places → saidBy (wordFor N horizon x lines i t l) ≡ meant i t l
   unfolding wordFor
   word-says i t l b = read-back (valueAt verdicts N x lines i t l) (valueAt margins N x lines i t l)
       (agreement N x lines i t l b) (margins-small N x samples lines constants i t l b)
 
-  said-present : (i t l : ℕ) → i < length lines → t < lineIn lines i .length → l < N.places
-      → saidBy (wordAt (answer N T x lines room fits) (lineStart (answer N T x lines room fits) i + 1 + (t * headPlaces (answer N T x lines room fits) + l))) ≡ meant i t l
+  abbrev a : List ℕ
+  a = answer N horizon x lines room fits
+
+  said-present : (i t l : ℕ) → i < length lines → T (has (lineIn lines i .extent) t) → l < N.places → saidBy (asked a i t l) ≡ meant i t l
   said-present i t l h k b =
-      let a : List ℕ = answer N T x lines room fits in
-      ap saidBy (ap₂ (λ at n. wordAt a (at + 1 + (t * n + l))) (start-read N T x lines room fits i (le-of-lt h)) (places-read N T x lines room fits)
-      ∙ verdict-word N T x lines room fits i t l h k b)
+      let e : Extent = lineIn lines i .extent in
+      let in-line = has-e e t k in
+      let row : t - e .first < e .length = omega (arith, in-line) in
+      let back : e .first + (t - e .first) ≡ t = omega (arith, in-line) in
+      ap saidBy
+      (ap (λ (f : Extent). wordAt a (lineStart a i + 1 + ((t - f .first) * headPlaces a + l))) (extent-read N horizon x lines room fits i h)
+      ∙ ap₂ (λ at n. wordAt a (at + 1 + ((t - e .first) * n + l))) (start-read N horizon x lines room fits i (le-of-lt h)) (places-read N horizon x lines room fits)
+      ∙ verdict-word N horizon x lines room fits i (t - e .first) l h row b
+      ∙ ap (λ s. wordFor N horizon x lines i s l) back)
       ∙ word-says i t l b
 
-  pub answer-says : (i t l : ℕ) → saidAt (answer N T x lines room fits) i t l ≡ meantAt N x lines i t l
+  pub answer-says : (i t l : ℕ) → saidAt (answer N horizon x lines room fits) i t l ≡ meantAt N x lines i t l
   unfolding saidAt
   answer-says i t l =
-      let a : List ℕ = answer N T x lines room fits in
-      same-choice (ltb i (headLines a)) (ltb t (lineLength a i)) (ltb l (headPlaces a)) (ltb i (length lines)) (ltb t (lineIn lines i .length)) (ltb l (N.places)) _ _ nothing
-      (ap (ltb i) (lines-read N T x lines room fits))
-      (λ h. ap (ltb t) (length-read N T x lines room fits i (ltb→lt i (length lines) h)))
-      (ap (ltb l) (places-read N T x lines room fits))
-      (λ h k b. said-present i t l (ltb→lt i (length lines) h) (ltb→lt t (lineIn lines i .length) k) (ltb→lt l (N.places) b))
+      same-choice (ltb i (headLines a)) (has (lineExtent a i) t) (ltb l (headPlaces a)) (ltb i (length lines)) (has (lineIn lines i .extent) t) (ltb l (N.places)) _ _ nothing
+      (ap (ltb i) (lines-read N horizon x lines room fits))
+      (λ h. ap (λ (e : Extent). has e t) (extent-read N horizon x lines room fits i (ltb→lt i (length lines) h)))
+      (ap (ltb l) (places-read N horizon x lines room fits))
+      (λ h k b. said-present i t l (ltb→lt i (length lines) h) k (ltb→lt l (N.places) b))

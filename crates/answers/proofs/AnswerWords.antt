@@ -1,5 +1,5 @@
--- Where the words of an answer stand: the head's fields, line i's words from `lineIndex i` on, and the walk over the lines' lengths that finds
--- them again (`lineStart`).
+-- Where the words of an answer stand: the head's fields, line i's words from `lineIndex i` on, its verdicts from its first sample on, and the walk
+-- over the lines' lengths that finds them again (`lineStart`).
 use mathlib.Core.Path.{_≡_, refl, sym, ap, ap₂, _∙_}
 use mathlib.Core.List.{List, [], _∷_, _++_, append-assoc}
 use Prim.Native.Nat.{ℕ, zero, suc, _+_, _-_, _*_, _^_, _<_, _≤_}
@@ -12,11 +12,11 @@ use Rattle.words.proofs.Rows.{length-rows, getD-rows, in-table}
 use Rattle.words.proofs.Concat.{concat-length, start-below, concat-at}
 use Rattle.words.proofs.Zeros.{zero-at}
 use Rattle.network.specs.Network.{Network}
-use Rattle.formulas.specs.Formulas.{Line, lineIn, Recording}
+use Rattle.formulas.specs.Formulas.{Extent, endOf, Line, lineIn, Recording}
 use Rattle.counting.specs.Totals.{sumBelow}
 use Rattle.checks.specs.Checked.{wordAt}
-use Rattle.answers.specs.Answer.{lineIndex, wordFor, lineWords, headWord, answerWords}
-use Rattle.lookup.specs.Lookup.{headPlaces, headLines, headSamples, lineStart, lineLength}
+use Rattle.answers.specs.Answer.{lineIndex, firstWord, wordFor, lineWords, headWord, answerWords}
+use Rattle.lookup.specs.Lookup.{headPlaces, headLines, headSamples, extentAt, lineStart, lineExtent}
 
 -- a word of the part between the head and the end
 behind-head : (m e z : List ℕ) (h k : ℕ) → k < length m → getD (h ∷ ((m ++ e) ++ z)) (1 + k) 0 ≡ getD m k 0
@@ -45,16 +45,20 @@ pub record InFields (n T : ℕ) (lines : List Line) : Type 0 where
   pub places : n < 2 ^ 8
   pub count : length lines < 2 ^ 8
   pub samples : T < 2 ^ 12
-  pub lengths : (i : ℕ) → lineIn lines i .length < 2 ^ 12
+  pub ends : (i : ℕ) → endOf (lineIn lines i .extent) < 2 ^ 12
 
 -- ---- the lines alone, one after the other: how long they are, and where the words of line i stand among those of the first k
 module _ (N : Network) (T : ℕ) (x : Recording) (lines : List Line) where
-  line-size : (i : ℕ) → length (lineWords N T x lines i) ≡ 1 + lineIn lines i .length * N.places
+  -- line i's word u samples after its first
+  abbrev pub wordAfter : ℕ → ℕ → ℕ → ℕ
+  wordAfter i u = wordFor N T x lines i (lineIn lines i .extent .first + u)
+
+  line-size : (i : ℕ) → length (lineWords N T x lines i) ≡ 1 + lineIn lines i .extent .length * N.places
   unfolding lineWords
-  line-size i = ap suc (length-rows (wordFor N T x lines i) (lineIn lines i .length) (N.places)) ∙ omega arith
+  line-size i = ap suc (length-rows _ (lineIn lines i .extent .length) (N.places)) ∙ omega arith
 
   abbrev pub sizes : ℕ → ℕ
-  sizes i = sumBelow (λ k. 1 + lineIn lines k .length * N.places) i
+  sizes i = sumBelow (λ k. 1 + lineIn lines k .extent .length * N.places) i
 
   sizes-next : (i : ℕ) → sizes (suc i) ≡ sizes i + length (lineWords N T x lines i)
   unfolding sumBelow
@@ -67,18 +71,18 @@ module _ (N : Network) (T : ℕ) (x : Recording) (lines : List Line) where
   pub lines-size : (k : ℕ) → length (concat (lineWords N T x lines) k) ≡ sizes k
   lines-size = concat-length (lineWords N T x lines) sizes sizes-first sizes-next
 
-  pub sizes-below : (i k : ℕ) → i < k → sizes i + (1 + lineIn lines i .length * N.places) ≤ sizes k
+  pub sizes-below : (i k : ℕ) → i < k → sizes i + (1 + lineIn lines i .extent .length * N.places) ≤ sizes k
   sizes-below i k h = omega (arith, start-below (lineWords N T x lines) sizes sizes-first sizes-next i k h, line-size i)
 
-  line-among : (k i j : ℕ) → i < k → j < 1 + lineIn lines i .length * N.places → getD (concat (lineWords N T x lines) k) (sizes i + j) 0 ≡ getD (lineWords N T x lines i) j 0
+  line-among : (k i j : ℕ) → i < k → j < 1 + lineIn lines i .extent .length * N.places → getD (concat (lineWords N T x lines) k) (sizes i + j) 0 ≡ getD (lineWords N T x lines i) j 0
   line-among k i j h b = concat-at (lineWords N T x lines) sizes sizes-first sizes-next k i j 0 h (rw (line-size i) b)
 
-  pub verdict-among : (k i t l : ℕ) → i < k → t < lineIn lines i .length → l < N.places
-      → getD (concat (lineWords N T x lines) k) (sizes i + suc (t * N.places + l)) 0 ≡ wordFor N T x lines i t l
+  pub verdict-among : (k i u l : ℕ) → i < k → u < lineIn lines i .extent .length → l < N.places
+      → getD (concat (lineWords N T x lines) k) (sizes i + suc (u * N.places + l)) 0 ≡ wordAfter i u l
   unfolding lineWords
-  verdict-among k i t l h u b =
-      line-among k i (suc (t * N.places + l)) h (omega (arith, in-table u b))
-      ∙ getD-rows (wordFor N T x lines i) (lineIn lines i .length) (N.places) t l 0 u b
+  verdict-among k i u l h a b =
+      line-among k i (suc (u * N.places + l)) h (omega (arith, in-table a b))
+      ∙ getD-rows (wordAfter i) (lineIn lines i .extent .length) (N.places) u l 0 a b
 
 module _ (N : Network) (T : ℕ) (x : Recording) (lines : List Line) (room : ℕ) (fits : InFields (N.places) T lines) where
   abbrev pub answer : List ℕ
@@ -98,7 +102,7 @@ module _ (N : Network) (T : ℕ) (x : Recording) (lines : List Line) (room : ℕ
   samples-read = omega (arith, fits .places, fits .count, fits .samples)
 
   -- ---- a line's words
-  pub line-word : (i j : ℕ) → i < length lines → j < 1 + lineIn lines i .length * N.places → wordAt answer (lineIndex (N.places) lines i + j) ≡ getD (lineWords N T x lines i) j 0
+  line-word : (i j : ℕ) → i < length lines → j < 1 + lineIn lines i .extent .length * N.places → wordAt answer (lineIndex (N.places) lines i + j) ≡ getD (lineWords N T x lines i) j 0
   unfolding answerWords lineIndex
   line-word i j h k =
       let below = sizes-below N T x lines i (length lines) h in
@@ -107,35 +111,40 @@ module _ (N : Network) (T : ℕ) (x : Recording) (lines : List Line) (room : ℕ
       rw index (behind-head (concat (lineWords N T x lines) (length lines)) _ _ _ (sizes N T x lines i + j) (omega arith))
       ∙ line-among N T x lines (length lines) i j h k
 
-  -- ---- the walk
-  length-field : (i : ℕ) → i < length lines → bits 0 12 (wordAt answer (lineIndex (N.places) lines i)) ≡ lineIn lines i .length
+  pub first-word : (i : ℕ) → i < length lines → wordAt answer (lineIndex (N.places) lines i) ≡ firstWord (lineIn lines i)
   unfolding lineWords
-  length-field i h =
+  first-word i h =
       let z : lineIndex (N.places) lines i ≡ lineIndex (N.places) lines i + 0 = omega arith in
-      let word : wordAt answer (lineIndex (N.places) lines i) ≡ wordOf 14 (lineIn lines i .length) = ap (wordAt answer) z ∙ line-word i 0 h (omega arith) in
-      ap (bits 0 12) word ∙ omega (arith, fits .lengths i)
+      ap (wordAt answer) z ∙ line-word i 0 h (omega arith)
+
+  -- ---- the walk
+  extent-field : (i : ℕ) → i < length lines → extentAt answer (lineIndex (N.places) lines i) ≡ lineIn lines i .extent
+  extent-field i h =
+      ap₂ (λ (first length : ℕ). record { first = first; length = length })
+      (ap (bits 12 12) (first-word i h) ∙ omega (arith, fits .ends i))
+      (ap (bits 0 12) (first-word i h) ∙ omega (arith, fits .ends i))
 
   pub start-read : (i : ℕ) → i ≤ length lines → lineStart answer i ≡ lineIndex (N.places) lines i
   unfolding lineStart lineIndex sumBelow
   start-read zero h = refl
   start-read (suc i) h =
-      ap (λ at. at + 1 + bits 0 12 (wordAt answer at) * headPlaces answer) (start-read i (omega arith))
-      ∙ ap₂ (λ m p. lineIndex (N.places) lines i + 1 + m * p) (length-field i h) places-read
+      ap (λ at. at + 1 + extentAt answer at .length * headPlaces answer) (start-read i (omega arith))
+      ∙ ap₂ (λ (e : Extent) (p : ℕ). lineIndex (N.places) lines i + 1 + e .length * p) (extent-field i h) places-read
       ∙ omega arith
 
-  pub length-read : (i : ℕ) → i < length lines → lineLength answer i ≡ lineIn lines i .length
-  length-read i h = ap (λ at. bits 0 12 (wordAt answer at)) (start-read i (omega arith)) ∙ length-field i h
+  pub extent-read : (i : ℕ) → i < length lines → lineExtent answer i ≡ lineIn lines i .extent
+  extent-read i h = ap (extentAt answer) (start-read i (omega arith)) ∙ extent-field i h
 
-  -- the word of line i at sample t and place l
-  pub verdict-word : (i t l : ℕ) → i < length lines → t < lineIn lines i .length → l < N.places
-      → wordAt answer (lineIndex (N.places) lines i + 1 + (t * N.places + l)) ≡ wordFor N T x lines i t l
+  -- the word of line i at place l, u samples after its first
+  pub verdict-word : (i u l : ℕ) → i < length lines → u < lineIn lines i .extent .length → l < N.places
+      → wordAt answer (lineIndex (N.places) lines i + 1 + (u * N.places + l)) ≡ wordAfter N T x lines i u l
   unfolding lineWords
-  verdict-word i t l h k b =
-      let index : lineIndex (N.places) lines i + 1 + (t * N.places + l) ≡ lineIndex (N.places) lines i + suc (t * N.places + l) = omega arith in
-      let inside : suc (t * N.places + l) < 1 + lineIn lines i .length * N.places = omega (arith, in-table k b) in
+  verdict-word i u l h k b =
+      let index : lineIndex (N.places) lines i + 1 + (u * N.places + l) ≡ lineIndex (N.places) lines i + suc (u * N.places + l) = omega arith in
+      let inside : suc (u * N.places + l) < 1 + lineIn lines i .extent .length * N.places = omega (arith, in-table k b) in
       ap (wordAt answer) index
-      ∙ line-word i (suc (t * N.places + l)) h inside
-      ∙ getD-rows (wordFor N T x lines i) (lineIn lines i .length) (N.places) t l 0 k b
+      ∙ line-word i (suc (u * N.places + l)) h inside
+      ∙ getD-rows (wordAfter N T x lines i) (lineIn lines i .extent .length) (N.places) u l 0 k b
 
   -- ---- the end
   abbrev middle : List ℕ

@@ -7,7 +7,7 @@ use Prim.Native.Nat.{ℕ, _+_}
 use lib.ListN.{replicate}
 use lib.IntN.{pos, negsuc}
 use Rattle.logic.specs.Margin.{minusInfinity, finite, plusInfinity}
-use Rattle.formulas.specs.Formulas.{AtLeast, Surrounded}
+use Rattle.formulas.specs.Formulas.{AtLeast, Surrounded, Extent}
 use Rattle.logic.specs.Table.{margins, valueAt}
 use Rattle.logic.specs.Counts.{roundsAt}
 use Rattle.checks.specs.Checked.{Checked, accepted, refused}
@@ -60,13 +60,16 @@ sheetK =
     0x10302001 ∷ 0x20000001 ∷ 0x30000001 ∷ 0x20000102 ∷ 0x30000001 ∷ 0x40000004 ∷ 0x40000009 ∷ 0x40000001 ∷ 0x40000009 ∷ 0x40000001
     ∷ 0x40000009 ∷ 0x50100000 ∷ 0x80000000 ∷ 0x50100400 ∷ 0x80000000 ∷ 0x50700001 ∷ 0x60000002 ∷ 0x70000002 ∷ 0xF0000012 ∷ []
 
+abbrev one-sample : Extent
+one-sample = record { first = 0; length = 1 }
+
 -- what the check of sheet H finds
 abbrev layoutH : Layout
 layoutH = record {
   sizes = record { places = 3; signals = 2; samples = 1 };
   roads = 2;
   lines =
-      record { operator = AtLeast 0 (pos 0); length = 1 } ∷ record { operator = AtLeast 1 (pos 0); length = 1 } ∷ record { operator = Surrounded 0 1 1 1; length = 1 } ∷ [];
+      record { operator = AtLeast 0 (pos 0); extent = one-sample } ∷ record { operator = AtLeast 1 (pos 0); extent = one-sample } ∷ record { operator = Surrounded 0 1 1 1; extent = one-sample } ∷ [];
 }
 
 -- ---- what is said of them

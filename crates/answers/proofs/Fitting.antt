@@ -3,7 +3,7 @@
 use mathlib.Core.Path.{_≡_, refl, sym, subst}
 use mathlib.Core.Bool.{Bool, true, false}
 use mathlib.Core.List.{List, [], _∷_, _++_}
-use Prim.Native.Nat.{ℕ, zero, suc, _+_, _-_, _*_, _^_, _<_, _≤_}
+use Prim.Native.Nat.{ℕ, zero, suc, _+_, _*_, _^_, _<_, _≤_}
 use native.Mathlib.Nat.{mul-le-mul}
 use native.Mathlib.Omega.{arith}
 use lib.IntN.{pos, negsuc}
@@ -14,7 +14,7 @@ use Rattle.words.proofs.Below.{Below, below-none, below-more, below-append, bel
 use Rattle.network.specs.Distance.{Distance, dist, none, distance}
 use Rattle.network.specs.Network.{Network, distanceIn}
 use Rattle.network.proofs.Reach.{distance-bound}
-use Rattle.formulas.specs.Formulas.{Line, lineIn, Recording, InBits, ConstantsIn}
+use Rattle.formulas.specs.Formulas.{Extent, Line, lineIn, Recording, InBits, ConstantsIn}
 use Rattle.counting.specs.Totals.{sumBelow, count}
 use Rattle.counting.proofs.Totals.{sum-bound, table-yes-bound}
 use Rattle.logic.specs.Margin.{Margin, minusInfinity, finite, plusInfinity}
@@ -32,7 +32,7 @@ use Rattle.lines.proofs.AcceptedLines.{good-constants}
 use Rattle.values.specs.Said.{verdictWord}
 use Rattle.answers.specs.Answer.{lineIndex, wordsNeeded, wordFor, lineWords, headWord, answerWords}
 use Rattle.answers.specs.Judged.{Result, resultNumbers, Judged, answered, judged}
-use Rattle.answers.proofs.AnswerWords.{InFields}
+use Rattle.answers.proofs.AnswerWords.{InFields, wordAfter}
 use Rattle.answers.proofs.WholeAnswer.{InAnswer, end-bound}
 use Rattle.answers.proofs.Accepted.{accepted-answered, table, fields, sizes, answered-rounds, sheet-found}
 
@@ -59,9 +59,13 @@ module _ (N : Network) (T : ℕ) (x : Recording) (lines : List Line) (fits : InF
     (samples : (s t l : ℕ) → InBits 27 (x s t l)) (constants : ConstantsIn (InBits 27) lines) (sizes : InAnswer (N.places) T lines) where
   line-below : (i : ℕ) → Below (2 ^ 32) (lineWords N T x lines i)
   unfolding lineWords wordFor
-  line-below i = below-more some-words _ (concat (λ t. row (wordFor N T x lines i t) (N.places)) (lineIn lines i .length)) (omega (arith, fits .lengths i))
-      (below-concat some-words (λ t. row (wordFor N T x lines i t) (N.places)) (lineIn lines i .length)
-      (λ t _. below-row some-words (wordFor N T x lines i t) (N.places) (λ l b. word-below (valueAt verdicts N x lines i t l) (valueAt margins N x lines i t l) (margins-small N x samples lines constants i t l b))))
+  line-below i =
+      let word : ℕ → ℕ → ℕ = wordAfter N T x lines i in
+      let e : Extent = lineIn lines i .extent in
+      below-more some-words _ (concat (λ u. row (word u) (N.places)) (e .length)) (omega (arith, fits .ends i))
+      (below-concat some-words (λ u. row (word u) (N.places)) (e .length)
+      (λ u _. below-row some-words (word u) (N.places)
+      (λ l b. let t : ℕ = e .first + u in word-below (valueAt verdicts N x lines i t l) (valueAt margins N x lines i t l) (margins-small N x samples lines constants i t l b))))
 
   abbrev end : List ℕ
   end = wordOf 15 (lineIndex (N.places) lines (length lines)) ∷ []
@@ -87,12 +91,15 @@ distance-below N W light h a b l k = go (distance (N.weight) (N.places) a b) ref
 -- ---- the count of yes verdicts: no line has more of them than samples at places
 module _ (N : Network) (T : ℕ) (x : Recording) (lines : List Line) (sizes : InAnswer (N.places) T lines) where
   line-yes : (i : ℕ) → i < length lines
-      → sumBelow (λ t. sumBelow (λ l. count (valueAt verdicts N x lines i t l)) (N.places)) (lineIn lines i .length) ≤ mostSamples * mostPlaces
-  line-yes i h = omega (
-    arith,
-    table-yes-bound (valueAt verdicts N x lines i) (lineIn lines i .length) (N.places),
-    mul-le-mul {n₁ = lineIn lines i .length} {n₂ = mostSamples} (omega (arith, sizes .lengths i h, sizes .samples)) (sizes .places .1),
-  )
+      → let e : Extent = lineIn lines i .extent in
+      sumBelow (λ u. sumBelow (λ l. count (valueAt verdicts N x lines i (e .first + u) l)) (N.places)) (e .length) ≤ mostSamples * mostPlaces
+  line-yes i h =
+      let e : Extent = lineIn lines i .extent in
+      omega (
+        arith,
+        table-yes-bound (λ u. valueAt verdicts N x lines i (e .first + u)) (e .length) (N.places),
+        mul-le-mul {n₁ = e .length} {n₂ = mostSamples} (omega (arith, sizes .extents i h, sizes .samples)) (sizes .places .1),
+      )
 
   yes-few : yesCount N x lines ≤ mostLines * (mostSamples * mostPlaces)
   unfolding yesCount

@@ -6,4 +6,5 @@ pub mod WholeAnswer
 pub mod Accepted
 pub mod Steadiness
 pub mod Pinned
+pub mod LookingBack
 pub mod Fitting

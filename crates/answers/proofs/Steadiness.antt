@@ -9,7 +9,7 @@ use lib.Dec.{T, ltb, ltb→lt}
 use lib.ListN.{length}
 use Rattle.logic.specs.Margin.{Margin}
 use Rattle.network.specs.Network.{Network}
-use Rattle.formulas.specs.Formulas.{Line, lineIn}
+use Rattle.formulas.specs.Formulas.{has, Line, lineIn}
 use Rattle.logic.specs.Table.{verdicts, margins, valueAt}
 use Rattle.logic.specs.Steadiness.{SteadyVerdicts}
 use Rattle.counting.proofs.Tests.{and-r}
@@ -41,7 +41,7 @@ module _ (d : ℕ) (X Y : List ℕ) (apart : SamplesApart d X Y) where
       let N : Network = network X L in
       let lines : List Line = L.lines in
       let place : T (present N lines i t l) → l < L.sizes.places =
-      λ h. ltb→lt l (L.sizes.places) (and-r (ltb t (lineIn lines i .length)) _ (and-r (ltb i (length lines)) _ h)) in
+      λ h. ltb→lt l (L.sizes.places) (and-r (has (lineIn lines i .extent) t) _ (and-r (ltb i (length lines)) _ h)) in
       subst₂ (Steady d) (sym (answered-says X dx L x ax i t l)) (sym (answered-says Y dy L y ay i t l))
       (both d (present N lines i t l) _ _ _ _ (λ h. subst
       (λ (M : Network). SteadyVerdicts d (valueAt verdicts N (recording X L) lines i t l) (valueAt verdicts M (recording Y L) lines i t l)

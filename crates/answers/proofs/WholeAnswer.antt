@@ -10,18 +10,17 @@ use lib.ListN.{length}
 use Rattle.words.specs.Word.{bits, kindOf, payloadOf, wordOf}
 use Rattle.logic.specs.Lattice.{verdictLattice, leastOver}
 use Rattle.network.specs.Network.{Network}
-use Rattle.formulas.specs.Formulas.{Line, lineIn, Recording, InBits}
+use Rattle.formulas.specs.Formulas.{Extent, endOf, Line, lineIn, Recording, InBits, ConstantsIn}
 use Rattle.counting.specs.Totals.{sumBelow}
 use Rattle.counting.proofs.Tests.{and-i}
 use Rattle.logic.proofs.Quantifiers.{all-i}
-use Rattle.formulas.specs.Formulas.{ConstantsIn}
 use Rattle.counting.proofs.Totals.{sum-below}
 use Rattle.checks.specs.Limits.{mostPlaces, mostSamples, mostLines}
 use Rattle.checks.specs.Checked.{between, wordAt, isKind}
 use Rattle.values.specs.Said.{saidBy}
-use Rattle.answers.specs.Answer.{lineIndex, wordFor, lineWords, headWord, answerWords}
-use Rattle.lookup.specs.Lookup.{isSaid, headPlaces, headLines, headSamples, lineStart, lineLength, wholeHead, wholeLineAt, wholeLine, wholeEnd, wholeAnswer}
-use Rattle.answers.proofs.AnswerWords.{InFields, answer, places-read, lines-read, samples-read, line-word, start-read, length-read, verdict-word, end-word, zeros-after, end-inside}
+use Rattle.answers.specs.Answer.{lineIndex, firstWord, headWord, answerWords}
+use Rattle.lookup.specs.Lookup.{isSaid, headPlaces, headLines, headSamples, lineStart, lineExtent, wholeHead, wholeLineAt, wholeLine, wholeEnd, wholeAnswer}
+use Rattle.answers.proofs.AnswerWords.{InFields, answer, places-read, lines-read, samples-read, wordAfter, first-word, start-read, extent-read, verdict-word, end-word, zeros-after, end-inside}
 use Rattle.answers.proofs.AnswerSays.{word-says}
 
 equal : (a b : ℕ) → a ≡ b → T (eqb a b)
@@ -42,7 +41,7 @@ pub record InAnswer (n horizon : ℕ) (lines : List Line) : Type 0 where
   pub places : (1 ≤ n) × (n ≤ mostPlaces)
   pub samples : (1 ≤ horizon) × (horizon ≤ mostSamples)
   pub count : (1 ≤ length lines) × (length lines ≤ mostLines)
-  pub lengths : (i : ℕ) → i < length lines → (1 ≤ lineIn lines i .length) × (lineIn lines i .length ≤ horizon)
+  pub extents : (i : ℕ) → i < length lines → (1 ≤ lineIn lines i .extent .length) × (endOf (lineIn lines i .extent) ≤ horizon)
 
 -- a line's first word and its verdicts
 abbrev mostLineWords : ℕ
@@ -52,7 +51,7 @@ pub index-bound : (n horizon : ℕ) (lines : List Line) → InAnswer n horizon l
 unfolding lineIndex sumBelow
 index-bound n horizon lines sizes zero h = omega arith
 index-bound n horizon lines sizes (suc i) h =
-    let size : lineIn lines i .length * n ≤ mostSamples * mostPlaces = mul-le-mul {n₂ = mostSamples} (omega (arith, sizes .lengths i h, sizes .samples)) (sizes .places .1) in
+    let size : lineIn lines i .extent .length * n ≤ mostSamples * mostPlaces = mul-le-mul {n₂ = mostSamples} (omega (arith, sizes .extents i h, sizes .samples)) (sizes .places .1) in
     omega (arith, index-bound n horizon lines sizes i (le-of-lt h))
 
 -- and the end's fits a payload
@@ -67,40 +66,37 @@ module _ (N : Network) (horizon : ℕ) (x : Recording) (lines : List Line) (room
   -- every index of a line stands in the answer
   index-below : (i : ℕ) → i < length lines → lineIndex (N.places) lines i < lineIndex (N.places) lines (length lines)
   unfolding lineIndex
-  index-below i h = omega (arith, sum-below (λ k. 1 + lineIn lines k .length * N.places) i (length lines) h)
-
-  -- line i's first word
-  line-first : (i : ℕ) → i < length lines → wordAt a (lineIndex (N.places) lines i) ≡ wordOf 14 (lineIn lines i .length)
-  unfolding lineWords
-  line-first i h =
-      let z : lineIndex (N.places) lines i ≡ lineIndex (N.places) lines i + 0 = omega arith in
-      ap (wordAt a) z ∙ line-word N horizon x lines room fits i 0 h (omega arith)
+  index-below i h = omega (arith, sum-below (λ k. 1 + lineIn lines k .extent .length * N.places) i (length lines) h)
 
   -- a verdict stands at every sample and place
-  verdict-there : (i : ℕ) → i < length lines → (j : ℕ) → j < lineIn lines i .length * N.places → T (isSaid (saidBy (wordAt a (lineIndex (N.places) lines i + 1 + j))))
+  verdict-there : (i : ℕ) → i < length lines → (j : ℕ) → j < lineIn lines i .extent .length * N.places → T (isSaid (saidBy (wordAt a (lineIndex (N.places) lines i + 1 + j))))
   verdict-there i h j k =
       let n : ℕ = N.places in
-      let t : j / n < lineIn lines i .length = div-lt-iff-lt-mul (sizes .places .0) .1 k in
+      let u : j / n < lineIn lines i .extent .length = div-lt-iff-lt-mul (sizes .places .0) .1 k in
       let l : j % n < n = mod-lt j (sizes .places .0) in
-      let word : wordAt a (lineIndex n lines i + 1 + j) ≡ wordFor N horizon x lines i (j / n) (j % n)
-      = ap (λ m. wordAt a (lineIndex n lines i + 1 + m)) (sym (div-add-mod' j n)) ∙ verdict-word N horizon x lines room fits i (j / n) (j % n) h t l in
-      rw (word, word-says N horizon x lines room fits samples constants i (j / n) (j % n) l) tt
+      let word : wordAt a (lineIndex n lines i + 1 + j) ≡ wordAfter N horizon x lines i (j / n) (j % n)
+      = ap (λ m. wordAt a (lineIndex n lines i + 1 + m)) (sym (div-add-mod' j n)) ∙ verdict-word N horizon x lines room fits i (j / n) (j % n) h u l in
+      rw (word, word-says N horizon x lines room fits samples constants i (lineIn lines i .extent .first + j / n) (j % n) l) tt
 
   line-whole : (i : ℕ) → i < length lines → T (wholeLine a i)
   unfolding wholeLineAt
   line-whole i h =
       let at : lineStart a i ≡ lineIndex (N.places) lines i = start-read N horizon x lines room fits i (le-of-lt h) in
-      let first : wordAt a (lineStart a i) ≡ wordOf 14 (lineIn lines i .length) = ap (wordAt a) at ∙ line-first i h in
-      let len = fits .lengths i in
-      let spare : bits 12 16 (wordAt a (lineStart a i)) ≡ 0 = ap (bits 12 16) first ∙ omega arith in
-      let field : lineLength a i ≡ lineIn lines i .length = length-read N horizon x lines room fits i h in
+      let e : Extent = lineIn lines i .extent in
+      let payload : e .first * 2 ^ 12 + e .length < 2 ^ 24 = omega (arith, fits .ends i) in
+      let fits-word : e .first * 2 ^ 12 + e .length < 2 ^ 28 = omega arith in
+      let first : wordAt a (lineStart a i) ≡ firstWord (lineIn lines i) = ap (wordAt a) at ∙ first-word N horizon x lines room fits i h in
+      let spare : bits 24 4 (wordAt a (lineStart a i)) ≡ 0 = ap (bits 24 4) first ∙ omega arith in
+      let read : lineExtent a i ≡ e = extent-read N horizon x lines room fits i h in
+      let samples-there : lineExtent a i .length ≡ e .length = ap (λ (f : Extent). f .length) read in
+      let end-there : endOf (lineExtent a i) ≡ endOf e = ap endOf read in
       let inside : lineStart a i < length a = omega (arith, end-inside N horizon x lines room fits, index-below i h) in
-      and-i (isKind 14 a (lineStart a i)) _ (kind-there a 14 (lineIn lines i .length) (lineStart a i) inside first (omega arith))
-      (and-i (eqb (bits 12 16 (wordAt a (lineStart a i))) 0) _ (equal _ 0 spare)
-      (and-i (between 1 (headSamples a) (lineLength a i)) _
-      (rw (field, samples-read N horizon x lines room fits) (within 1 horizon (lineIn lines i .length) (sizes .lengths i h .0) (sizes .lengths i h .1)))
-      (rw (field, places-read N horizon x lines room fits, at) (all-i (λ _. true) (λ j. isSaid (saidBy (wordAt a (lineIndex (N.places) lines i + 1 + j)))) (lineIn lines i .length * N.places)
-      (λ j k _. verdict-there i h j k)))))
+      and-i (isKind 14 a (lineStart a i)) _ (kind-there a 14 (e .first * 2 ^ 12 + e .length) (lineStart a i) inside first fits-word)
+      (and-i (eqb (bits 24 4 (wordAt a (lineStart a i))) 0) _ (equal _ 0 spare)
+      (and-i (leb 1 (lineExtent a i .length)) _ (rw samples-there (le→leb 1 (e .length) (sizes .extents i h .0)))
+      (and-i (leb (endOf (lineExtent a i)) (headSamples a)) _ (rw (end-there, samples-read N horizon x lines room fits) (le→leb (endOf e) horizon (sizes .extents i h .1)))
+      (rw (samples-there, places-read N horizon x lines room fits, at) (all-i (λ _. true) (λ j. isSaid (saidBy (wordAt a (lineIndex (N.places) lines i + 1 + j)))) (e .length * N.places)
+      (λ j k _. verdict-there i h j k))))))
 
   end-whole : T (wholeEnd a (lineStart a (headLines a)))
   unfolding wholeEnd

@@ -4,20 +4,36 @@ use mathlib.Core.Path.{_≡_, refl}
 use mathlib.Core.Logic.{_⊎_, inl, inr, ⊎-elim}
 use mathlib.Core.Bool.{Bool, true, false, not, cond, and-false}
 use mathlib.Core.List.{List}
-use Prim.Native.Nat.{ℕ, _+_, _*_, _<_, _≤_}
+use Prim.Native.Nat.{ℕ, _+_, _-_, _*_, _<_, _≤_}
 use native.Mathlib.Omega.{arith}
-use lib.Dec.{T, ltb, eqb}
+use lib.Dec.{T, leb, eqb, leb→le, ltb→lt, le→leb, lt→ltb}
 use borrow.Author.Tests.{lt-ltb, le-ltb}
 use Rattle.words.specs.Word.{bits}
 use Rattle.words.proofs.Rows.{in-table}
-use Rattle.counting.proofs.Tests.{and-l, and-r, decT}
+use Rattle.formulas.specs.Formulas.{Extent, endOf, has}
+use Rattle.counting.proofs.Tests.{and-i, and-l, and-r, decT}
 use Rattle.logic.proofs.Quantifiers.{all-e}
-use Rattle.checks.specs.Checked.{between, wordAt, isKind}
+use Rattle.checks.specs.Checked.{wordAt, isKind}
 use Rattle.values.specs.Said.{Said, says, nothing, saidBy}
 use Rattle.values.proofs.Naturals.{le-or-lt}
-use Rattle.lookup.specs.Lookup.{isSaid, verdictNumber, all, headPlaces, headLines, headSamples, lineStart, lineLength, wholeHead, wholeLineAt, wholeLine, wholeAnswer, saidAt, lookedUp}
+use Rattle.lookup.specs.Lookup.{isSaid, verdictNumber, all, headPlaces, headLines, headSamples, lineStart, lineExtent, wholeHead, wholeLineAt, wholeLine, wholeAnswer, saidAt, lookedUp}
 
--- ---- a test decides between a number and 0
+-- ---- the samples of an extent
+pub has-e : (e : Extent) (t : ℕ) → T (has e t) → (e .first ≤ t) × (t < endOf e)
+has-e e t h = (leb→le (e .first) t (and-l (leb (e .first) t) _ h), ltb→lt t (endOf e) (and-r (leb (e .first) t) _ h))
+
+pub has-i : (e : Extent) (t : ℕ) → e .first ≤ t → t < endOf e → T (has e t)
+has-i e t from to = and-i (leb (e .first) t) _ (le→leb (e .first) t from) (lt→ltb t (endOf e) to)
+
+-- ---- what a test decides
+holds : (b : Bool) → T b → b ≡ true
+holds true h = refl
+holds false h = absurd h
+
+fails : (b : Bool) → T (not b) → b ≡ false
+fails true h = absurd h
+fails false h = refl
+
 chosen : (b : Bool) (number : ℕ) → T b → cond b number 0 ≡ number
 chosen true number h = refl
 chosen false number h = absurd h
@@ -38,7 +54,7 @@ one-or-two nothing some = absurd some
 module _ (a : List ℕ) (i t l : ℕ) where
   -- the word that is asked for
   abbrev pub asked : ℕ
-  asked = wordAt a (lineStart a i + 1 + (t * headPlaces a + l))
+  asked = wordAt a (lineStart a i + 1 + ((t - lineExtent a i .first) * headPlaces a + l))
 
   pub whole-looked : T (wholeAnswer a) → lookedUp a i t l ≡ verdictNumber (saidAt a i t l)
   unfolding lookedUp
@@ -49,30 +65,37 @@ module _ (a : List ℕ) (i t l : ℕ) where
   unfolding wholeAnswer
   whole-line whole line = all-e (λ _. true) (wholeLine a) (headLines a) (and-l (all (wholeLine a) (headLines a)) _ (and-r (wholeHead a) _ whole)) i line tt
 
-  line-says : T (wholeLine a i) → t < lineLength a i → l < headPlaces a → T (isSaid (saidBy asked))
+  line-says : T (wholeLine a i) → T (has (lineExtent a i) t) → l < headPlaces a → T (isSaid (saidBy asked))
   unfolding wholeLineAt
   line-says whole sample place =
       let at : ℕ = lineStart a i in
-      let length-good = and-r (eqb (bits 12 16 (wordAt a at)) 0) _ (and-r (isKind 14 a at) _ whole) in
-      all-e (λ _. true) (λ j. isSaid (saidBy (wordAt a (at + 1 + j)))) (lineLength a i * headPlaces a)
-      (and-r (between 1 (headSamples a) (lineLength a i)) _ length-good) (t * headPlaces a + l) (in-table sample place) tt
+      let e : Extent = lineExtent a i in
+      let good = and-r (eqb (bits 24 4 (wordAt a at)) 0) _ (and-r (isKind 14 a at) _ whole) in
+      let verdicts = and-r (leb (endOf e) (headSamples a)) _ (and-r (leb 1 (e .length)) _ good) in
+      let row : t - e .first < e .length = omega (arith, has-e e t sample) in
+      all-e (λ _. true) (λ j. isSaid (saidBy (wordAt a (at + 1 + j)))) (e .length * headPlaces a) verdicts ((t - e .first) * headPlaces a + l) (in-table row place) tt
 
-  pub says-there : i < headLines a → t < lineLength a i → l < headPlaces a → saidAt a i t l ≡ saidBy asked
+  pub says-there : i < headLines a → T (has (lineExtent a i) t) → l < headPlaces a → saidAt a i t l ≡ saidBy asked
   unfolding saidAt
-  says-there line sample place = simp (lt-ltb i (headLines a) line, lt-ltb t (lineLength a i) sample, lt-ltb l (headPlaces a) place)
+  says-there line sample place = simp (lt-ltb i (headLines a) line, holds (has (lineExtent a i) t) sample, lt-ltb l (headPlaces a) place)
 
-  pub verdict-there : T (wholeAnswer a) → i < headLines a → t < lineLength a i → l < headPlaces a → (lookedUp a i t l ≡ 1) ⊎ (lookedUp a i t l ≡ 2)
+  pub verdict-there : T (wholeAnswer a) → i < headLines a → T (has (lineExtent a i) t) → l < headPlaces a → (lookedUp a i t l ≡ 1) ⊎ (lookedUp a i t l ≡ 2)
   verdict-there whole line sample place = rw (whole-looked whole, says-there line sample place) (one-or-two (saidBy asked) (line-says (whole-line whole line) sample place))
 
   -- ---- no whole answer, or no such line, sample or place
   abbrev pub NotInIt : Type 0
-  NotInIt = (headLines a ≤ i) ⊎ ((lineLength a i ≤ t) ⊎ (headPlaces a ≤ l))
+  NotInIt = (headLines a ≤ i) ⊎ (T (not (has (lineExtent a i) t)) ⊎ (headPlaces a ≤ l))
 
   pub says-none : NotInIt → verdictNumber (saidAt a i t l) ≡ 0
   unfolding saidAt
   says-none = ⊎-elim (λ line. rw (le-ltb i (headLines a) line) refl) (⊎-elim
-      (λ sample. rw (le-ltb t (lineLength a i) sample, and-false) refl)
-      (λ place. rw (le-ltb l (headPlaces a) place, and-false (ltb t (lineLength a i)), and-false) refl))
+      (λ sample. rw (fails (has (lineExtent a i) t) sample, and-false) refl)
+      (λ place. rw (le-ltb l (headPlaces a) place, and-false (has (lineExtent a i) t), and-false) refl))
+
+  no-place : lookedUp a i t l ≡ 0 → T (wholeAnswer a) → i < headLines a → T (has (lineExtent a i) t) → headPlaces a ≤ l
+  no-place zero whole line sample = ⊎-elim (λ h. h)
+      (λ place. absurd (⊎-elim (λ one. omega (arith, zero, one)) (λ two. omega (arith, zero, two)) (verdict-there whole line sample place)))
+      (le-or-lt (headPlaces a) l)
 
   pub zero-exactly : (lookedUp a i t l ≡ 0 → T (not (wholeAnswer a)) ⊎ NotInIt) × (T (not (wholeAnswer a)) ⊎ NotInIt → lookedUp a i t l ≡ 0)
   unfolding lookedUp
@@ -81,11 +104,8 @@ module _ (a : List ℕ) (i t l : ℕ) where
       zero-only : lookedUp a i t l ≡ 0 → T (not (wholeAnswer a)) ⊎ NotInIt
       zero-only zero = ⊎-elim
           (λ whole. inr (⊎-elim inl
-          (λ line. inr (⊎-elim inl
-          (λ sample. inr (⊎-elim (λ h. h)
-          (λ place. absurd (⊎-elim (λ one. omega (arith, zero, one)) (λ two. omega (arith, zero, two)) (verdict-there whole line sample place)))
-          (le-or-lt (headPlaces a) l)))
-          (le-or-lt (lineLength a i) t)))
+          (λ line. inr (⊎-elim (λ sample. inr (no-place zero whole line sample)) inl
+          (decT (has (lineExtent a i) t))))
           (le-or-lt (headLines a) i)))
           inl
           (decT (wholeAnswer a))

@@ -12,7 +12,7 @@ use Rattle.logic.specs.Lattice.{verdictLattice, leastOver}
 use Rattle.counting.proofs.Tests.{bool-ext}
 use Rattle.logic.proofs.Quantifiers.{all-e, all-i}
 use Rattle.values.specs.Said.{Said, says, nothing}
-use Rattle.lookup.specs.Lookup.{isSaid, verdictNumber, headPlaces, lengthAt, lineStart}
+use Rattle.lookup.specs.Lookup.{isSaid, verdictNumber, headPlaces, extentAt, lineStart}
 
 -- ---- all numbers below n that pass the test t
 pub one-fails : (t f : ℕ → Bool) (n l : ℕ) → l < n → T (t l) → f l ≡ false → leastOver verdictLattice t f n ≡ false
@@ -33,18 +33,18 @@ says-nothing nothing none = refl
 
 -- ---- where the lines begin
 module _ (a : List ℕ) where
-  pub next-start : {at : ℕ} (i : ℕ) → at ≡ lineStart a i → at + 1 + lengthAt a at * headPlaces a ≡ lineStart a (i + 1)
+  pub next-start : {at : ℕ} (i : ℕ) → at ≡ lineStart a i → at + 1 + extentAt a at .length * headPlaces a ≡ lineStart a (i + 1)
   unfolding lineStart
   next-start i here = rw (here, add-one i) refl
 
   -- a length has 12 bits and a count of places 8
-  pub line-size : {m n : ℕ} (at : ℕ) → m ≤ lengthAt a at → n ≤ headPlaces a → m * n ≤ 4095 * 255
+  pub line-size : {m n : ℕ} (at : ℕ) → m ≤ extentAt a at .length → n ≤ headPlaces a → m * n ≤ 4095 * 255
   line-size at samples places = mul-le-mul {n₂ = 4095} {m₂ = 255} (omega arith) (omega arith)
 
   start-bound : (i : ℕ) → lineStart a i ≤ 1 + i * (1 + 4095 * 255)
   unfolding lineStart
   start-bound zero = omega arith
-  start-bound (suc i) = omega (arith, start-bound i, line-size {m = lengthAt a (lineStart a i)} {n = headPlaces a} (lineStart a i) (omega arith) (omega arith))
+  start-bound (suc i) = omega (arith, start-bound i, line-size {m = extentAt a (lineStart a i) .length} {n = headPlaces a} (lineStart a i) (omega arith) (omega arith))
 
   pub start-small : {at : ℕ} (i : ℕ) → at ≡ lineStart a i → i < 2 ^ 8 → at < 2 ^ 28
   start-small i here few = omega (arith, start-bound i)

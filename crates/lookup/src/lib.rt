@@ -1,6 +1,6 @@
 // The lookup: whether bytes hold a whole answer, and the verdict that it has at a line, sample and place. Every slice of bytes is taken: a word
-// that is missing is read as 0, which is no word of an answer up to its end. Lengths and counts are fields of 12 and 8 bits, so even by words
-// that are no answer the index of a line stays below 2^28, and none wraps.
+// that is missing is read as 0, which is no word of an answer up to its end. First samples and lengths are fields of 12 bits and counts of 8, so
+// even by words that are no answer the index of a line stays below 2^28, and none wraps.
 use checks::limits::MOST_LINES;
 use checks::limits::MOST_PLACES;
 use checks::limits::MOST_SAMPLES;
@@ -15,7 +15,7 @@ ghost use Rattle.words.specs.Bytes.{wordsOf};
 ghost use Rattle.logic.specs.Lattice.{verdictLattice, leastOver};
 ghost use Rattle.checks.specs.Checked.{wordAt};
 ghost use Rattle.values.specs.Said.{saidBy};
-ghost use Rattle.lookup.specs.Lookup.{isSaid, verdictNumber, all, headPlaces, headLines, headSamples, lengthAt, lineStart, wholeHead, wholeLineAt, wholeLine, wholeEnd, wholeAnswer, saidAt, lookedUp};
+ghost use Rattle.lookup.specs.Lookup.{isSaid, verdictNumber, all, headPlaces, headLines, headSamples, extentAt, lineStart, wholeHead, wholeLineAt, wholeLine, wholeEnd, wholeAnswer, saidAt, lookedUp};
 
 // The payload -2^27, which no margin has: below it stand the margins from 0 up, above it those below 0.
 const NO_MARGIN: u32 = 134217728;
@@ -40,7 +40,7 @@ fn verdict(w: u32) -> u64
     }
 }
 
-// The fields of an answer's head, and the length in a line's first word, whatever the words are.
+// The fields of an answer's head, and of a line's first word, whatever the words are.
 pub fn places(answer: &[u8]) -> usize
     ensures { λ r. ⌜ r ≡ headPlaces (wordsOf (now (answer .entry))) ⌝ }
 {
@@ -53,8 +53,14 @@ pub fn lines(answer: &[u8]) -> usize
     (words::word_or_zero(answer, 0) / 4096 % 256) as usize
 }
 
+pub fn first_at(answer: &[u8], at: usize) -> usize
+    ensures { λ r. ⌜ r ≡ extentAt (wordsOf (now (answer .entry))) at .first ⌝ }
+{
+    (words::word_or_zero(answer, at) / 4096 % 4096) as usize
+}
+
 pub fn length_at(answer: &[u8], at: usize) -> usize
-    ensures { λ r. ⌜ r ≡ lengthAt (wordsOf (now (answer .entry))) at ⌝ }
+    ensures { λ r. ⌜ r ≡ extentAt (wordsOf (now (answer .entry))) at .length ⌝ }
 {
     (words::word_or_zero(answer, at) % 4096) as usize
 }
@@ -94,7 +100,7 @@ fn whole_verdicts(answer: &[u8], start: usize, count: usize) -> bool
     true
 }
 
-// Whether a line begins at an index, with a verdict for each sample and place.
+// Whether a line begins at an index, with samples that the recording has and a verdict for each sample and place.
 fn whole_line(answer: &[u8], at: usize) -> bool
     requires { ⌜ at < 2 ^ 28 ⌝ }
     ensures { λ r. ⌜ r ≡ wholeLineAt (wordsOf (now (answer .entry))) at ⌝ }
@@ -102,11 +108,15 @@ fn whole_line(answer: &[u8], at: usize) -> bool
     if !is_kind(answer, at, 14) {
         return false;
     }
-    if words::word_or_zero(answer, at) / 4096 % 65536 != 0 {
+    if words::word_or_zero(answer, at) / 16777216 % 16 != 0 {
         return false;
     }
     let length = length_at(answer, at);
-    if !within(length, samples(answer)) {
+    if length < 1 {
+        return false;
+    }
+    let end = first_at(answer, at) + length;
+    if samples(answer) < end {
         return false;
     }
     whole_verdicts(answer, at + 1, length * places(answer))
@@ -115,7 +125,7 @@ fn whole_line(answer: &[u8], at: usize) -> bool
 // The index after a line, by its length.
 fn next_line(answer: &[u8], at: usize) -> usize
     requires { ⌜ at < 2 ^ 28 ⌝ }
-    ensures { λ r. ⌜ r ≡ at + 1 + lengthAt (wordsOf (now (answer .entry))) at * headPlaces (wordsOf (now (answer .entry))) ⌝ }
+    ensures { λ r. ⌜ r ≡ at + 1 + extentAt (wordsOf (now (answer .entry))) at .length * headPlaces (wordsOf (now (answer .entry))) ⌝ }
 {
     at + 1 + length_at(answer, at) * places(answer)
 }
@@ -188,14 +198,19 @@ fn verdict_at(answer: &[u8], line: u64, sample: u64, place: u64) -> u64
         return 0;
     }
     let start = line_start(answer, line as usize);
-    if length_at(answer, start) as u64 <= sample {
+    let first = first_at(answer, start) as u64;
+    if sample < first {
+        return 0;
+    }
+    let row = sample - first;
+    if length_at(answer, start) as u64 <= row {
         return 0;
     }
     let n = places(answer);
     if n as u64 <= place {
         return 0;
     }
-    let at = start + 1 + (sample as usize * n + place as usize);
+    let at = start + 1 + (row as usize * n + place as usize);
     verdict(words::word_or_zero(answer, at))
 }
 

@@ -4,7 +4,8 @@
 //
 // Output, where the sheet is accepted:
 //     accepted WORDS ROUNDS YES          the words of the answer, the greatest rounds of a surround, how many verdicts are yes
-//     LINE SAMPLE VERDICT MARGIN ..      a row for each line and sample, with a verdict and its margin for each place
+//     LINE SAMPLE VERDICT MARGIN ..      a row for each line and each of its samples, by the recording's numbers, with a verdict and its
+//                                        margin for each place
 //     end ROWS                           how many such rows there are
 // where it is refused:
 //     refused NUMBER PLACE
@@ -13,7 +14,7 @@ use host::BYTES_REFUSED;
 use libc::STDIN_FILENO;
 use libc::STDOUT_FILENO;
 ghost use mathlib.Core.Path.{_≡_};
-ghost use Prim.Native.Nat.{_+_, _*_, _^_, _≤_};
+ghost use Prim.Native.Nat.{_+_, _*_, _^_, _<_, _≤_};
 ghost use lib.ListN.{length};
 ghost use Rattle.words.specs.Bytes.{wordsOf, numbersOf};
 ghost use Rattle.engine.specs.Result.{resultSaid};
@@ -73,15 +74,16 @@ fn print_places(answer: &[u8], at: usize, places: usize)
     io::write_all(STDOUT_FILENO, b"\n");
 }
 
-// The rows of a line whose first verdict stands at index `at`. Tells the index after them.
-fn print_line(answer: &[u8], line: usize, at: usize, samples: usize, places: usize) -> usize
-    requires { ⌜ (at ≤ 2 ^ 28) × (samples ≤ 2 ^ 12) × (places ≤ 2 ^ 8) ⌝ }
-    ensures { λ r. ⌜ r ≤ at + samples * 2 ^ 8 ⌝ }
+// The rows of the line whose first word stands at index `at`, from its first sample on. Tells the index after the line.
+fn print_line(answer: &[u8], line: usize, at: usize, places: usize) -> usize
+    requires { ⌜ (at < 2 ^ 28) × (places < 2 ^ 8) ⌝ }
+    ensures { λ r. ⌜ r ≤ at + 2 ^ 20 ⌝ }
 {
-    let mut next = at;
-    for sample in 0..samples {
+    let first = lookup::first_at(answer, at);
+    let mut next = at + 1;
+    for row in 0..lookup::length_at(answer, at) {
         io::print_decimal(STDOUT_FILENO, line as u64);
-        print_number(sample as u64);
+        print_number((first + row) as u64);
         print_places(answer, next, places);
         next += places;
     }
@@ -94,9 +96,8 @@ fn print_lines(answer: &[u8]) {
     let mut at: usize = 1;
     let mut rows: usize = 0;
     for line in 0..lookup::lines(answer) {
-        let samples = lookup::length_at(answer, at);
-        at = print_line(answer, line, at + 1, samples, places);
-        rows += samples;
+        rows += lookup::length_at(answer, at);
+        at = print_line(answer, line, at, places);
     }
     io::write_all(STDOUT_FILENO, b"end");
     print_number(rows as u64);

@@ -1,15 +1,16 @@
--- Kind, spare bits, length, then the verdicts: each test of the code decides one of the definition's.
+-- Kind, spare bits, samples, then the verdicts: each test of the code decides one of the definition's.
 use mathlib.Core.Path.{_≡_, sym, ap, ap₂, _∙_}
 use mathlib.Core.Bool.{true}
-use Prim.Native.Nat.{ℕ, _+_, _*_, _≤_}
+use Prim.Native.Nat.{ℕ, _+_, _*_, _<_, _≤_}
 use native.Mathlib.Omega.{arith}
-use lib.Dec.{eqb}
-use borrow.Author.Tests.{eq-eqb, ne-eqb, not-true, not-false}
+use lib.Dec.{leb, eqb}
+use borrow.Author.Tests.{le-leb, lt-leb, eq-eqb, ne-eqb, not-true, not-false}
 use Rattle.words.specs.Word.{bits}
 use Rattle.words.specs.Bytes.{wordsOf}
-use Rattle.checks.specs.Checked.{between, wordAt, isKind}
+use Rattle.formulas.specs.Formulas.{Extent, endOf}
+use Rattle.checks.specs.Checked.{wordAt, isKind}
 use Rattle.values.specs.Said.{saidBy}
-use Rattle.lookup.specs.Lookup.{isSaid, all, headSamples, lengthAt, wholeLineAt}
+use Rattle.lookup.specs.Lookup.{isSaid, all, headSamples, extentAt, wholeLineAt}
 use Rattle.lookup.proofs.Walk.{line-size}
 use borrow.Author.Needs.{needs}
 use Rattle.lookup.proofs.whole_line.Statement.{statement}
@@ -26,22 +27,41 @@ returns-2 : tie.Need-returns-2
 unfolding wholeLineAt
 returns-2 c = simp (kind-14 (c .before .before), ← c .before .word-or-zero .ensures, ne-eqb _ 0 (c .if2 .taken))
 
-spare-zero : (c : tie.Else2) → eqb (bits 12 16 (wordAt (wordsOf (c .before .before .before .before .before .args .answer .now)) (c .before .before .before .before .before .args .at))) 0 ≡ true
-spare-zero c = eq-eqb _ 0 (ap (bits 12 16) (sym (c .before .word-or-zero .ensures)) ∙ c .if2 .left)
-
-length-told : (c : tie.After-within)
-    → c .within .result ≡ between 1 (headSamples (wordsOf (c .before .before .before .before .before .before .before .before .args .answer .now))) (lengthAt (wordsOf (c .before .before .before .before .before .before .before .before .args .answer .now)) (c .before .before .before .before .before .before .before .before .args .at))
-length-told c = c .within .ensures ∙ ap₂ (between 1) (c .before .samples .ensures) (c .before .before .length-at .ensures)
+spare-zero : (c : tie.Else2) → eqb (bits 24 4 (wordAt (wordsOf (c .before .before .before .before .before .args .answer .now)) (c .before .before .before .before .before .args .at))) 0 ≡ true
+spare-zero c = eq-eqb _ 0 (ap (bits 24 4) (sym (c .before .word-or-zero .ensures)) ∙ c .if2 .left)
 
 returns-3 : tie.Need-returns-3
 unfolding wholeLineAt
 returns-3 c =
-    let spare = c .before .before .before .before in
-    simp (kind-14 (spare .before .before), spare-zero spare, sym (length-told (c .before)) ∙ not-true _ (c .if3 .taken))
+    let spare = c .before .before in
+    let g = spare .before .before .before .before .before .args in
+    let none : extentAt (wordsOf (g .answer .now)) (g .at) .length < 1 = omega arith in
+    simp (kind-14 (spare .before .before), spare-zero spare, lt-leb 1 _ none)
 
-few-words : (c : tie.After-places) → c .before .before .before .before .length-at .result * c .places .result ≤ 4095 * 255
+-- the line has a sample
+module _ (c : tie.Else3) where
+  abbrev spare : tie.Else2
+  spare = c .before .before
+
+  abbrev start : tie.Start
+  start = spare .before .before .before .before .before
+
+  abbrev extent : Extent
+  extent = extentAt (wordsOf (start .args .answer .now)) (start .args .at)
+
+  some-sample : leb 1 (extent .length) ≡ true
+  some-sample = le-leb 1 (extent .length) (omega arith)
+
+returns-4 : tie.Need-returns-4
+unfolding wholeLineAt
+returns-4 c =
+    let line = c .before .before .before in
+    let late : headSamples (wordsOf (start line .args .answer .now)) < endOf (extent line) = omega arith in
+    simp (kind-14 (spare line .before .before), spare-zero (spare line), some-sample line, lt-leb _ _ late)
+
+few-words : (c : tie.After-places) → c .before .before .before .before .before .length-at .result * c .places .result ≤ 4095 * 255
 few-words c =
-    let g = c .before .before .before .before .before .before .before .before .before .before .args in
+    let g = start (c .before .before .before .before) .args in
     line-size (wordsOf (g .answer .now)) (g .at) (omega arith) (omega arith)
 
 mul-whole-verdicts : tie.Need-mul-whole-verdicts
@@ -50,15 +70,15 @@ mul-whole-verdicts c = omega (arith, few-words c)
 whole-verdicts-requires : tie.Need-whole-verdicts-requires
 whole-verdicts-requires c κs = omega (arith, few-words c)
 
-returns-4 : tie.Need-returns-4
+returns-5 : tie.Need-returns-5
 unfolding wholeLineAt
-returns-4 c =
-    let g = c .before .before .before .before .before .before .before .before .before .before .before .args in
-    let spare = c .before .before .before .before .before .before in
-    let within = c .before .before .before in
+returns-5 c =
+    let line = c .before .before .before .before .before in
+    let g = start line .args in
+    let ends : endOf (extent line) ≤ headSamples (wordsOf (g .answer .now)) = omega arith in
     c .whole-verdicts .ensures
-    ∙ ap₂ (λ (m n : ℕ). all (λ j. isSaid (saidBy (wordAt (wordsOf (g .answer .now)) (g .at + 1 + j)))) (m * n)) (within .before .before .length-at .ensures) (c .before .places .ensures)
-    ∙ simp (kind-14 (spare .before .before), spare-zero spare, sym (length-told within) ∙ not-false _ (c .before .before .if3 .left))
+    ∙ ap₂ (λ (m n : ℕ). all (λ j. isSaid (saidBy (wordAt (wordsOf (g .answer .now)) (g .at + 1 + j)))) (m * n)) (line .before .length-at .ensures) (c .before .places .ensures)
+    ∙ simp (kind-14 (spare line .before .before), spare-zero (spare line), some-sample line, le-leb _ _ ends)
 
 pub whole-line-spec : {M : Type 1} → statement M
 whole-line-spec =
@@ -69,11 +89,13 @@ whole-line-spec =
     (λ c κs. search needs)
     returns-2
     (λ c κs. search needs)
-    (λ c κs. search needs)
-    (λ c κs. search needs)
     returns-3
+    (λ c κs. search needs)
+    (λ c. search needs)
+    (λ c κs. search needs)
+    returns-4
     (λ c. search needs)
     (λ c κs. search needs)
     mul-whole-verdicts
     whole-verdicts-requires
-    returns-4)
+    returns-5)

@@ -5,10 +5,10 @@ use Rattle.print_verdicts.proofs.print_line.Statement.{statement}
 use Rattle.print_verdicts.proofs.print_line.Tie as tie
 
 abbrev Inv-loop : tie.InvT-loop
-Inv-loop answer line at samples places next₀ sample₀ next sample = (sample ≤ samples) × (next ≤ at + sample * 2 ^ 8)
+Inv-loop answer line at places first next₀ row₀ row-end next row = (row ≤ row-end) × (next ≤ at + 1 + row * 2 ^ 8)
 
 abbrev μ-loop : tie.MeasureT-loop
-μ-loop answer line at samples places next₀ sample₀ next sample = samples - sample
+μ-loop answer line at places first next₀ row₀ row-end next row = row-end - row
 
 pub print-line-spec : {M : Type 1} → statement M
 print-line-spec =
@@ -16,8 +16,12 @@ print-line-spec =
     (tie.spec
     Inv-loop
     μ-loop
+    (λ c κs. search needs)
     (λ c. search needs)
     (λ c κs. search needs)
+    (λ c. search needs)
+    (λ c κs. search needs)
+    (λ c. search needs)
     (λ c κs. search needs)
     (λ c κs. search needs)
     (λ c. search needs)
