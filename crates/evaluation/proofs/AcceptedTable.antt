@@ -22,7 +22,7 @@ use Rattle.lines.specs.Lines.{lineAt}
 use Rattle.lines.specs.GoodLines.{GoodTable}
 use Rattle.roads.specs.Roads.{distanceNumber, distanceTable}
 use Rattle.sheet.specs.Recording.{network}
-use Rattle.lines.specs.Decoding.{lineSaid, decodedSaid}
+use Rattle.lines.specs.Decoding.{lineSaid, decodedSaid, extentIn}
 use Rattle.sheet.specs.Checking.{layoutOf}
 use Rattle.sheet.proofs.Surveys.{accepted-roads}
 use Rattle.checks.proofs.Checks.{never, same-accepted}
@@ -47,7 +47,7 @@ pub record Table (s : List ℕ) (layout : Code.Layout) (distances : List ℕ) (l
   pub counted : layout .lines ≡ length lines
   pub sizes : InAnswer (layout .places) (layout .samples) lines
   pub good : GoodTable (layout .signals) (layout .samples) lines
-  pub starts : Walk s (layout .signals) (layout .samples) lines 0 (layout .table) (replicate mostLines 0)
+  pub starts : Walk s (layout .signals) (layout .samples) lines 0 (layout .table) (replicate mostLines 0) (replicate mostLines 0)
   pub surveyed : Surveyed s layout distances
   pub roads : RoadsIn s (layout .roads) (layout .places)
 
@@ -89,24 +89,24 @@ accepted-table s layout distances accepting =
 
 -- ---- a line is decoded as the check has read it
 
-pub record Passed (s : List ℕ) (v T : ℕ) (lines : List Line) (k : ℕ) (lengths : List ℕ) (line : Read.Line) (next : ℕ) : Type 0 where
+pub record Passed (s : List ℕ) (v T : ℕ) (lines : List Line) (k : ℕ) (firsts lengths : List ℕ) (line : Read.Line) (next : ℕ) : Type 0 where
   pub said : lineSaid line ≡ lineIn lines k
-  pub walk : Walk s v T lines (k + 1) next (set lengths k (line .length))
+  pub walk : Walk s v T lines (k + 1) next (set firsts k (line .extent .first)) (set lengths k (line .extent .length))
 
-module _ (s : List ℕ) (v T : ℕ) (lines : List Line) (k at : ℕ) (lengths : List ℕ) (walk : Walk s v T lines k at lengths) (more : k < length lines)
-    (decoded : Decoded) (reads : decodedSaid decoded ≡ lineAt s v T k (λ i. getD lengths i 0) at) where
-  step : Step s v T lines k at lengths
-  step = walk-step s v T lines k at lengths walk more
+module _ (s : List ℕ) (v T : ℕ) (lines : List Line) (k at : ℕ) (firsts lengths : List ℕ) (walk : Walk s v T lines k at firsts lengths) (more : k < length lines)
+    (decoded : Decoded) (reads : decodedSaid decoded ≡ lineAt s v T k (extentIn firsts lengths) at) where
+  step : Step s v T lines k at firsts lengths
+  step = walk-step s v T lines k at firsts lengths walk more
 
   pub never-refused : (fault : Fault) (place : ℕ) → decoded ≡ D.Refused fault place → ⊥
   never-refused fault place e = never (sym (ap decodedSaid e) ∙ reads ∙ step .reads)
 
-  pub line-passed : (line : Read.Line) (next : ℕ) → decoded ≡ D.Line line next → Passed s v T lines k lengths line next
+  pub line-passed : (line : Read.Line) (next : ℕ) → decoded ≡ D.Line line next → Passed s v T lines k firsts lengths line next
   line-passed line next e =
       let same : _≡_ {A = Line × ℕ} (lineSaid line, next) (lineIn lines k, step .next) = same-accepted (sym (ap decodedSaid e) ∙ reads ∙ step .reads) in
       let said : lineSaid line ≡ lineIn lines k = ap (λ (read : Line × ℕ). read .0) same in
       let after : next ≡ step .next = ap (λ (read : Line × ℕ). read .1) same in
-      record { said = said; walk = rw (after, ap (λ (l : Line). l .length) said) (step .walk) }
+      record { said = said; walk = rw (after, ap (λ (l : Line). l .extent .first) said, ap (λ (l : Line). l .extent .length) said) (step .walk) }
 
 -- ---- where a line of the answer ends
 
@@ -114,9 +114,9 @@ pub record Ends (n : ℕ) (lines : List Line) (k size : ℕ) : Type 0 where
   pub index : lineIndex n lines k + (1 + size * n) ≡ lineIndex n lines (k + 1)
   pub small : lineIndex n lines (k + 1) < 2 ^ 28
 
-pub line-ends : (n T : ℕ) (lines : List Line) (k : ℕ) → k < length lines → {line : Line} → InAnswer n T lines → line ≡ lineIn lines k → Ends n lines k (line .length)
+pub line-ends : (n T : ℕ) (lines : List Line) (k : ℕ) → k < length lines → {line : Line} → InAnswer n T lines → line ≡ lineIn lines k → Ends n lines k (line .extent .length)
 unfolding lineIndex
 line-ends n T lines k inside within said = record {
-  index = omega (arith, sum-more (λ i. 1 + lineIn lines i .length * n) k, ap (λ (l : Line). l .length * n) said);
+  index = omega (arith, sum-more (λ i. 1 + lineIn lines i .extent .length * n) k, ap (λ (l : Line). l .extent .length * n) said);
   small = omega (arith, index-bound n T lines within (k + 1) (omega arith), within .count);
 }

@@ -38,19 +38,22 @@ module _ (N : Network) (T : ℕ) (x : Recording) (samples : (s t l : ℕ) → In
         take-at (take 1 answer ++ done) (drop (1 + length done) answer) (1 + sizes N T x lines k)
         (length-front answer 1 done head ∙ ap (λ (m : ℕ). 1 + m) (lines-size N T x lines k))
 
-    pub signal-before : (first i t l : ℕ) → i < k → t < lineIn lines i .length → l < N.places
-        → signalIn (take (lineIndex (N.places) lines k) (put answer 1 done) ++ (first ∷ [])) (lineIndex (N.places) lines i + 1) (N.places) t l ≡ valueAt chains N x lines i t l
+    -- u samples after a line's first
+    pub signal-before : (first i u l : ℕ) → i < k → u < lineIn lines i .extent .length → l < N.places
+        → signalIn (take (lineIndex (N.places) lines k) (put answer 1 done) ++ (first ∷ [])) (lineIndex (N.places) lines i + 1) (N.places) u l
+        ≡ valueAt chains N x lines i (lineIn lines i .extent .first + u) l
     unfolding signalIn lineIndex
-    signal-before first i t l h u b =
+    signal-before first i u l h among b =
+        let t : ℕ = lineIn lines i .extent .first + u in
         let front : List ℕ = take 1 answer in
         let one : length front ≡ 1 = length-take-le 1 answer head in
-        let j : ℕ = sizes N T x lines i + suc (t * N.places + l) in
-        let index : lineIndex (N.places) lines i + 1 + (t * N.places + l) ≡ length front + j = omega arith in
+        let j : ℕ = sizes N T x lines i + suc (u * N.places + l) in
+        let index : lineIndex (N.places) lines i + 1 + (u * N.places + l) ≡ length front + j = omega arith in
         let inside : length front + j < length (front ++ done) =
-        omega (arith, length-append front done, lines-size N T x lines k, sizes-below N T x lines i k h, in-table u b) in
-        let word : getD (front ++ done ++ (first ∷ [])) (lineIndex (N.places) lines i + 1 + (t * N.places + l)) 0 ≡ wordFor N T x lines i t l =
+        omega (arith, length-append front done, lines-size N T x lines k, sizes-below N T x lines i k h, in-table among b) in
+        let word : getD (front ++ done ++ (first ∷ [])) (lineIndex (N.places) lines i + 1 + (u * N.places + l)) 0 ≡ wordFor N T x lines i t l =
         ap (λ (m : ℕ). getD (front ++ done ++ (first ∷ [])) m 0) index ∙ List·getD-append (front ++ done) (first ∷ []) 0 (length front + j) inside
-        ∙ getD-append-add front done j 0 ∙ verdict-among N T x lines k i t l h u b in
-        ap (λ (w : List ℕ). wordChain (getD (w ++ (first ∷ [])) (lineIndex (N.places) lines i + 1 + (t * N.places + l)) 0)) before-line
+        ∙ getD-append-add front done j 0 ∙ verdict-among N T x lines k i u l h among b in
+        ap (λ (w : List ℕ). wordChain (getD (w ++ (first ∷ [])) (lineIndex (N.places) lines i + 1 + (u * N.places + l)) 0)) before-line
         ∙ ap wordChain (word ∙ sym (word-meant i t l b))
         ∙ word-back (valueAt chains N x lines i t l) (chains-valid N x samples lines constants i t l b)

@@ -3,12 +3,12 @@
 use mathlib.Core.Path.{_≡_, refl, ap, ap₂, subst, fun-ext, _∙_}
 use mathlib.Core.Bool.{Bool, true, false}
 use mathlib.Core.List.{List}
-use Prim.Native.Nat.{ℕ, _+_, _-_, _*_, _≤_, _<_, _^_}
-use native.Mathlib.Nat.{add-mul, mul-le-mul-right}
+use Prim.Native.Nat.{ℕ, _+_, _-_, _*_, _≤_, _<_, _^_, zero-le}
+use native.Mathlib.Nat.{le-refl, add-mul, mul-le-mul-right}
 use native.Mathlib.Omega.{arith}
 use lib.ListN.{length, getD}
-use Rattle.formulas.specs.Formulas.{forward, backward, Extent, extentOf}
-use Rattle.logic.specs.Table.{Signal, untilAt, somewhereAt, surroundAt, value}
+use Rattle.formulas.specs.Formulas.{forward, backward, Extent, span, common, looking, extentOf}
+use Rattle.logic.specs.Table.{Signal, untilAt, everTrue, somewhereAt, surroundAt, value}
 use Rattle.logic.specs.Counts.{roundsAt}
 use Rattle.sheet.specs.declared.check.Layout.{Layout}
 use Rattle.lines.specs.declared.operator.Bounds.{Bounds}
@@ -17,20 +17,20 @@ use Rattle.lines.specs.declared.operator.Direction.the-variants.{Forward, Backw
 use Rattle.lines.specs.declared.operator.Operator.{Operator}
 use Rattle.lines.specs.declared.operator.Operator.the-variants.{True, AtLeast, AtMost, Not, And, Until, Somewhere, Surrounded, Or, Eventually, Always, Everywhere}
 use Rattle.lines.specs.declared.line.Line.{Line}
-use Rattle.lines.specs.Decoding.{operatorSaid, lineSaid}
+use Rattle.lines.specs.Decoding.{sideSaid, operatorSaid, lineSaid}
 use Rattle.lines.specs.GoodLines.{Sound}
 use Rattle.lines.specs.GoodLines as Good
-use Rattle.values.specs.Chain.{chains, chainLattice, chainOpposite}
+use Rattle.values.specs.Chain.{chains, chainLattice, chainOpposite, Valid}
 use Rattle.values.specs.Signals.{signalIn, turned}
 use Rattle.values.proofs.ChainWords.{signal-bound, signal-later}
 use Rattle.operators.specs.Reach.{Window}
-use Rattle.operators.specs.Rows.{eventuallyAt}
+use Rattle.operators.specs.Rows.{atomValue, eventuallyAt}
 use Rattle.operators.proofs.Later.{until-later, since-later, eventually-from, once-from}
 use Rattle.verdicts.specs.declared.around.Around.{Around}
 use Rattle.verdicts.specs.declared.around.Around.the-variants.{Surround, Range}
 use Rattle.verdicts.specs.declared.located.Located.{Located}
 use Rattle.verdicts.specs.declared.located.Located.the-variants.{Rows, Blocks}
-use Rattle.verdicts.specs.Located.{startAt, untilLocated, eventuallyLocated, rangeLocated, locatedBy, locatedOf}
+use Rattle.verdicts.specs.Located.{startAt, untilLocated, eventuallyLocated, surroundLocated, rangeLocated, locatedBy, locatedOf}
 use Rattle.verdicts.specs.Rows.{sheetRecording, rowValue, RowReads}
 use Rattle.verdicts.specs.Around.{SurroundReads, AroundReads, AroundReady, aroundValue, aroundRounds}
 use Rattle.evaluation.specs.Writing.{sheetNetwork, earlier, lineValue, lineRounds}
@@ -88,11 +88,31 @@ module _ {s : List ℕ} {L : Layout} {distances words starts firsts : List ℕ} 
       let among : skipped + m ≤ ready .extents i .length = omega (arith, ready .begins i (begun .0), begun .1) in
       omega (arith, add-mul skipped m n, mul-le-mul-right n among, ready .written i (begun .0))
 
+  valid-from : {i sample t l : ℕ} → Begun sample i → sample + t < ready .extents i .first + ready .extents i .length → l < n → Valid (signalIn words (start sample i) n t l)
+  valid-from {i} {sample} {t} {l} begun inside place =
+      let skipped : ℕ = sample - getD firsts i 0 in
+      rw (signal-later words (getD starts i 0) n skipped t l) (ready .valid i (skipped + t) l (begun .0) (omega (arith, ready .begins i (begun .0), begun .1)) place)
+
   there : {i sample t : ℕ} → Begun sample i → sample + t < ready .extents i .first + ready .extents i .length → start sample i + (t + 1) * n ≤ length words
   there {i} {sample} {t} begun inside = samples-there {m = t + 1} begun (omega arith)
 
   window : {i sample t lower upper : ℕ} → Begun sample i → lower ≤ upper → sample + (t + upper) < ready .extents i .first + ready .extents i .length → Window words (start sample i) n lower upper t
   window begun order inside = record { bounds = order; inside = there begun inside }
+
+  -- two operands, both read from the first sample that they have in common on
+  module _ {i j : ℕ} (left : i < ready .earlier) (right : j < ready .earlier) (e : extent ≡ common (ready .extents i) (ready .extents j)) where
+    both-begun : Begun (extent .first) i × Begun (extent .first) j
+    both-begun = let first = ap (λ (x : Extent). x .first) e in (left, omega arith, right, omega arith)
+
+    both-there : {m : ℕ} → m ≤ extent .length → (start (extent .first) i + m * n ≤ length words) × (start (extent .first) j + m * n ≤ length words)
+    both-there h =
+        let first = ap (λ (x : Extent). x .first) e in
+        let many = ap (λ (x : Extent). x .length) e in
+        (samples-there (both-begun .0) (omega arith), samples-there (both-begun .1) (omega arith))
+
+    both-same : {A : Type 0} (f : Signal chains → Signal chains → A)
+        → f (signalIn words (start (extent .first) i) n) (signalIn words (start (extent .first) j) n) ≡ f (λ t. operand i (extent .first + t)) (λ t. operand j (extent .first + t))
+    both-same f = ap₂ f (read-from (both-begun .0)) (read-from (both-begun .1))
 
   -- ---- over time
 
@@ -214,43 +234,65 @@ module _ {s : List ℕ} {L : Layout} {distances words starts firsts : List ℕ} 
       → Known (Surrounded i j b) (surroundLocated starts firsts n (extent .first) i j b)
   unfolding lineValue value surroundAt lineRounds roundsAt
   surround-known i j b left right small e =
-      let first = ap (λ (x : Extent). x .first) e in
-      let many = ap (λ (x : Extent). x .length) e in
-      let begun : Begun (extent .first) i = (left, omega arith) in
-      let begun′ : Begun (extent .first) j = (right, omega arith) in
       let from : ℕ = start (extent .first) i in
       let from′ : ℕ = start (extent .first) j in
       record {
         reads = around-ready (Surround (record { left = from; right = from′; bounds = b })) (record {
-          left-there = samples-there begun (omega arith);
-          right-there = samples-there begun′ (omega arith);
+          left-there = both-there left right e (le-refl _) .0;
+          right-there = both-there left right e (le-refl _) .1;
           roads-in = ready .roads;
-          left-valid = λ t l h k. valid-from begun (omega arith) k;
-          right-valid = λ t l h k. valid-from begun′ (omega arith) k;
+          left-valid = λ t l h k. valid-from (both-begun left right e .0) (omega (arith, ap (λ (x : Extent). x .first) e, ap (λ (x : Extent). x .length) e)) k;
+          right-valid = λ t l h k. valid-from (both-begun left right e .1) (omega (arith, ap (λ (x : Extent). x .first) e, ap (λ (x : Extent). x .length) e)) k;
         });
         values = λ t l place. value-by-table s L distances (ready .surveyed) words from from′ (b .lower) (b .upper) t l small place
-            ∙ ap₂ (λ (p q : Signal chains). surroundAt chains (sheetNetwork s L) p q (b .lower) (b .upper) t l) (read-from begun) (read-from begun′);
+            ∙ both-same left right e (λ p q. surroundAt chains (sheetNetwork s L) p q (b .lower) (b .upper) t l);
         rounds = λ t l place. rounds-by-table s L distances (ready .surveyed) words from from′ (b .lower) (b .upper) t l small place
-            ∙ ap₂ (λ (p q : Signal chains). roundsAbout s L p q (b .lower) (b .upper) t l) (read-from begun) (read-from begun′);
+            ∙ both-same left right e (λ p q. roundsAbout s L p q (b .lower) (b .upper) t l);
       }
 
   -- ---- every line
 
-  both-known : (dual : Bool) (i j : ℕ) → i < ready .earlier → j < ready .earlier → extent ≡ common (ready .extents i) (ready .extents j)
-      → Known (paired dual i j) (bothLocated starts firsts n (extent .first) i j dual)
-  both-known dual i j left right e =
-      let first = ap (λ (x : Extent). x .first) e in
-      let many = ap (λ (x : Extent). x .length) e in
-      let begun : Begun (extent .first) i = (left, omega arith) in
-      let begun′ : Begun (extent .first) j = (right, omega arith) in
-      record {
-        reads = λ t h. (there begun (omega arith), there begun′ (omega arith));
-        values = ?;
-        rounds = ?;
-      }
+  -- a line without operands begins with the recording
+  from-start : (f : ℕ → ℕ) → extent ≡ span 0 (L .samples) → (t : ℕ) → f t ≡ f (extent .first + t)
+  from-start f e t = let first = ap (λ (x : Extent). x .first) e in let same : t ≡ extent .first + t = omega arith in ap f same
 
-  known : (o : Operator) → Sound (L .signals) (ready .earlier) (operatorSaid o) → extent ≡ extentOf (L .samples) (ready .extents) (operatorSaid o) → Known o (locatedBy starts firsts n (extent .first) o)
-  known = ?
+  known : (o : Operator) → Sound (L .signals) (ready .earlier) (operatorSaid o) → extent ≡ extentOf (L .samples) (ready .extents) (operatorSaid o)
+      → Known o (locatedBy starts firsts n (extent .first) o)
+  unfolding rowValue lineValue value lineRounds roundsAt
+  known True h e = record { reads = λ t b. tt; values = λ t l b. refl; rounds = λ t l b. refl }
+  known (AtLeast x c) h e = record {
+    reads = λ t b. (h .0, omega (arith, ap (λ (x : Extent). x .length) e), h .1);
+    values = λ t l b. from-start (λ u. atomValue true (sheetRecording s L x u l) c) e t;
+    rounds = λ t l b. refl;
+  }
+  known (AtMost x c) h e = record {
+    reads = λ t b. (h .0, omega (arith, ap (λ (x : Extent). x .length) e), h .1);
+    values = λ t l b. from-start (λ u. atomValue false (sheetRecording s L x u l) c) e t;
+    rounds = λ t l b. refl;
+  }
+  known (Not i) h e =
+      let begun : Begun (extent .first) i = (h, omega (arith, ap (λ (x : Extent). x .first) e)) in
+      record {
+        reads = λ t b. there begun (omega (arith, ap (λ (x : Extent). x .first) e, ap (λ (x : Extent). x .length) e));
+        values = λ t l b. ap (λ (p : Signal chains). chainOpposite (p t l)) (read-from begun);
+        rounds = λ t l b. refl;
+      }
+  known (And i j) h e = record {
+    reads = λ t b. both-there (h .0) (h .1) e (omega arith);
+    values = λ t l b. both-same (h .0) (h .1) e (λ p q. chainLattice .meet (p t l) (q t l));
+    rounds = λ t l b. refl;
+  }
+  known (Until direction i j b) h e = until-known direction i j b (h .0) (h .1) (h .2) e
+  known (Somewhere i b) h e = range-known false i b (h .0) (h .1 .small) e
+  known (Surrounded i j b) h e = surround-known i j b (h .0) (h .1) (h .2 .small) e
+  known (Or i j) h e = record {
+    reads = λ t b. both-there (h .0) (h .1) e (omega arith);
+    values = λ t l b. both-same (h .0) (h .1) e (λ p q. chainOpposite (chainLattice .meet (chainOpposite (p t l)) (chainOpposite (q t l))));
+    rounds = λ t l b. refl;
+  }
+  known (Eventually direction i b) h e = eventually-known false direction i b (h .0) (h .1) e
+  known (Always direction i b) h e = eventually-known true direction i b (h .0) (h .1) e
+  known (Everywhere i b) h e = range-known true i b (h .0) (h .1 .small) e
 
   pub line-located : {located : Located} → locatedOf starts firsts n line ≡ located → LineLocated s L distances words starts firsts (line .operator) extent located
   line-located e = subst (LineLocated s L distances words starts firsts (line .operator) extent) e (known (line .operator) (ready .good .sound) (ready .good .extent))

@@ -39,26 +39,26 @@ module _ (answer : List ℕ) (to : ℕ) (line : Line) {first : List ℕ} (room :
   behind-first : (v : List ℕ) → put first (to + 1) v ≡ put answer to (firstWord (lineSaid line) ∷ v)
   behind-first v = ap (λ w. put w (to + 1) v) first-put ∙ put-append answer to (firstWord (lineSaid line) ∷ []) v (omega arith)
 
-  module _ {s : List ℕ} {L : Layout} {starts : List ℕ} where
+  module _ {s : List ℕ} {L : Layout} {starts firsts : List ℕ} where
     -- ---- values and rounds that are the line's at each point
 
     line-written : (value roundsOf : ℕ → ℕ → ℕ)
-        → ((t l : ℕ) → l < L .places → value t l ≡ valueHere s L answer starts to (lineSaid line) t l)
-        → ((t l : ℕ) → l < L .places → roundsOf t l ≡ roundsHere s L answer starts to (lineSaid line) t l)
-        → {after : List ℕ} {tally : Tally} → SamplesWritten value roundsOf (L .places) first (to + 1) (line .length) after tally
-        → LineWritten s L answer starts to (lineSaid line) after tally
+        → ((t l : ℕ) → l < L .places → value t l ≡ valueHere s L answer starts firsts to (lineSaid line) t l)
+        → ((t l : ℕ) → l < L .places → roundsOf t l ≡ roundsHere s L answer starts firsts to (lineSaid line) t l)
+        → {after : List ℕ} {tally : Tally} → SamplesWritten value roundsOf (L .places) first (to + 1) (line .extent .length) after tally
+        → LineWritten s L answer starts firsts to (lineSaid line) after tally
     line-written value roundsOf same same-rounds done = record {
-      written = done .written ∙ behind-first (rows (λ t l. chainWord (value t l)) (line .length) (L .places))
-          ∙ ap (λ v. put answer to (firstWord (lineSaid line) ∷ v)) (rows-ext _ _ (line .length) (L .places) (λ t l _ b. ap chainWord (same t l b)));
-      counted = done .counted ∙ sum-same _ _ (line .length) (λ t _. sum-same _ _ (L .places) (λ l b. ap (λ c. count (chainVerdict c)) (same t l b)));
-      greatest = done .greatest ∙ most-same _ _ (line .length) (λ t _. most-same _ _ (L .places) (λ l b. same-rounds t l b));
+      written = done .written ∙ behind-first (rows (λ t l. chainWord (value t l)) (line .extent .length) (L .places))
+          ∙ ap (λ v. put answer to (firstWord (lineSaid line) ∷ v)) (rows-ext _ _ (line .extent .length) (L .places) (λ t l _ b. ap chainWord (same t l b)));
+      counted = done .counted ∙ sum-same _ _ (line .extent .length) (λ t _. sum-same _ _ (L .places) (λ l b. ap (λ c. count (chainVerdict c)) (same t l b)));
+      greatest = done .greatest ∙ most-same _ _ (line .extent .length) (λ t _. most-same _ _ (L .places) (λ l b. same-rounds t l b));
     }
 
     -- in the words that stand before the verdicts
-    pub located-written : (distances : List ℕ) (located : Located) → LineLocated s L distances (wordsUpTo answer to (lineSaid line)) starts (line .operator) (line .length) located
+    pub located-written : (distances : List ℕ) (located : Located) → LineLocated s L distances (wordsUpTo answer to (lineSaid line)) starts firsts (line .operator) (lineSaid line .extent) located
         → {after : List ℕ} {tally : Tally}
-        → SamplesWritten (valueOf s L distances (take (to + 1) first) located) (roundsOf s L distances (take (to + 1) first) located) (L .places) first (to + 1) (line .length) after tally
-        → LineWritten s L answer starts to (lineSaid line) after tally
+        → SamplesWritten (valueOf s L distances (take (to + 1) first) located) (roundsOf s L distances (take (to + 1) first) located) (L .places) first (to + 1) (line .extent .length) after tally
+        → LineWritten s L answer starts firsts to (lineSaid line) after tally
     unfolding valueHere roundsHere
     located-written distances located here {after} {tally} done = line-written _ _ (here .values) (here .rounds)
-        (subst (λ w. SamplesWritten (valueOf s L distances w located) (roundsOf s L distances w located) (L .places) first (to + 1) (line .length) after tally) before-verdicts done)
+        (subst (λ w. SamplesWritten (valueOf s L distances w located) (roundsOf s L distances w located) (L .places) first (to + 1) (line .extent .length) after tally) before-verdicts done)

@@ -2,15 +2,18 @@
 use mathlib.Core.Path.{_≡_, refl, sym, _∙_, ap, ap₂, subst}
 use mathlib.Core.Logic.{⊎-elim}
 use mathlib.Core.List.{List, [], _∷_}
-use Prim.Native.Nat.{ℕ, _+_, _*_, _<_, _≤_, max}
+use Prim.Native.Nat.{ℕ, _+_, _-_, _*_, _<_, _≤_, max}
+use native.Mathlib.Decide.{ℕ-discrete}
 use native.Mathlib.Nat.{not-suc-le-zero, mul-le-mul}
 use native.Mathlib.Numerals.{add-one}
 use native.Mathlib.Omega.{arith}
 use lib.ListN.{length, getD, set, take, replicate, length-append, length-set, length-replicate}
 use lib.Seq.{length-take-le, getD-set-same, getD-set-other}
 use Rattle.words.specs.Rows.{concat, put}
+use Rattle.words.proofs.Zeros.{zero-at}
 use Rattle.words.proofs.Puts.{put-nil, length-put, put-append}
-use Rattle.formulas.specs.Formulas.{Line, lineIn, InBits}
+use Rattle.formulas.specs.Formulas.{Extent, Line, lineIn, InBits}
+use Rattle.formulas.proofs.Extents.{Has}
 use Rattle.logic.specs.Table.{verdicts, margins, valueAt}
 use Rattle.counting.specs.Totals.{count, sumBelow, mostBelow}
 use Rattle.logic.specs.Counts.{roundsAt, greatestRounds, yesCount}
@@ -19,11 +22,12 @@ use Rattle.formulas.specs.Formulas.{ConstantsIn}
 use Rattle.counting.proofs.Totals.{sum-more, sum-bound, table-yes-bound, most-more}
 use Rattle.sheet.specs.declared.check.Layout as Code
 use Rattle.checks.specs.Limits.{mostPlaces, mostSamples, mostLines}
-use Rattle.lines.specs.GoodLines.{lengthsOf}
+use Rattle.lines.specs.GoodLines.{extentsOf}
 use Rattle.sheet.specs.Layout.{Layout}
 use Rattle.sheet.specs.Recording.{network, recording}
-use Rattle.lines.proofs.AcceptedLines.{good-length, good-constants}
+use Rattle.lines.proofs.AcceptedLines.{good-end, good-constants}
 use Rattle.values.specs.Chain.{chains, Valid}
+use Rattle.values.specs.Signals.{signalIn}
 use Rattle.values.proofs.ChainTable.{chains-valid}
 use Rattle.samples.specs.declared.tally.Tally.{Tally}
 use Rattle.samples.specs.Tally.{together}
@@ -44,16 +48,21 @@ module _ (s : List ℕ) (layout : Code.Layout) (lines : List Line) where
   wordsOfLine = lineWords (sheetNetwork s layout) (layout .samples) (sheetRecording s layout) lines
 
   abbrev pub roundsOfLine : ℕ → ℕ
-  roundsOfLine i = mostBelow (λ t. mostBelow (λ l.
-      roundsAt (sheetNetwork s layout) (valueAt margins (sheetNetwork s layout) (sheetRecording s layout) lines) (lineIn lines i .operator) t l) (layout .places)) (lineIn lines i .length)
+  roundsOfLine i =
+      let e : Extent = lineIn lines i .extent in
+      mostBelow (λ u. mostBelow (λ l.
+      roundsAt (sheetNetwork s layout) (valueAt margins (sheetNetwork s layout) (sheetRecording s layout) lines) (lineIn lines i .operator) (e .first + u) l) (layout .places)) (e .length)
 
   abbrev pub yesOfLine : ℕ → ℕ
-  yesOfLine i = sumBelow (λ t. sumBelow (λ l. count (valueAt verdicts (sheetNetwork s layout) (sheetRecording s layout) lines i t l)) (layout .places)) (lineIn lines i .length)
+  yesOfLine i =
+      let e : Extent = lineIn lines i .extent in
+      sumBelow (λ u. sumBelow (λ l. count (valueAt verdicts (sheetNetwork s layout) (sheetRecording s layout) lines i (e .first + u) l)) (layout .places)) (e .length)
 
   pub record LinesDone (answer : List ℕ) (k : ℕ) (words starts : List ℕ) (to : ℕ) (tally : Tally) : Type 0 where
     -- where the signal of each line begins, and where the next line will
     pub room : length starts ≡ mostLines
     pub begins : (i : ℕ) → i < k → getD starts i 0 ≡ lineIndex (layout .places) lines i + 1
+    pub low : (i : ℕ) → getD starts i 0 ≤ to
     pub ends : to ≡ lineIndex (layout .places) lines k
     pub written : words ≡ put answer 1 (concat wordsOfLine k)
     pub greatest : tally .rounds ≡ mostBelow roundsOfLine k
@@ -64,6 +73,7 @@ module _ (s : List ℕ) (layout : Code.Layout) (lines : List Line) where
   none-done answer = record {
     room = length-replicate {A = ℕ} mostLines 0;
     begins = λ i h. absurd (not-suc-le-zero h);
+    low = λ i. omega (arith, zero-at mostLines i);
     ends = refl;
     written = sym (put-nil answer 1);
     greatest = refl;
@@ -91,12 +101,14 @@ module _ (s : List ℕ) (layout : Code.Layout) (distances : List ℕ) (lines : L
       one : (i : ℕ) → yesOfLine s layout lines i ≤ mostSamples * mostPlaces
       one i =
           let n : ℕ = layout .places in
-          let long : lineIn lines i .length ≤ mostSamples = omega (arith, good-length (layout .signals) (layout .samples) lines (table .good) i, table .sizes .samples) in
+          let e : Extent = lineIn lines i .extent in
+          let long : e .length ≤ mostSamples = omega (arith, good-end (layout .signals) (layout .samples) lines (table .good) i, table .sizes .samples) in
           let wide : n ≤ mostPlaces = omega (arith, table .sizes .places) in
-          omega (arith, table-yes-bound (valueAt verdicts (sheetNetwork s layout) (sheetRecording s layout) lines i) (lineIn lines i .length) n, mul-le-mul long wide)
+          omega (arith, table-yes-bound (λ u. valueAt verdicts (sheetNetwork s layout) (sheetRecording s layout) lines i (e .first + u)) (e .length) n, mul-le-mul long wide)
 
   module _ (answer : List ℕ) (enough : lineIndex (layout .places) lines (layout .lines) ≤ length answer)
-      (k : ℕ) (inside : k < length lines) (words starts : List ℕ) (to : ℕ) (tally : Tally) (done : LinesDone s layout lines answer k words starts to tally) where
+      (k : ℕ) (inside : k < length lines) (words starts : List ℕ) (to : ℕ) (tally : Tally) (done : LinesDone s layout lines answer k words starts to tally)
+      (firsts : List ℕ) (first-known : (i : ℕ) → i < k → getD firsts i 0 ≡ lineIn lines i .extent .first) where
     abbrev n : ℕ
     n = layout .places
 
@@ -104,7 +116,7 @@ module _ (s : List ℕ) (layout : Code.Layout) (distances : List ℕ) (lines : L
     before = wordsUpTo words to (lineIn lines k)
 
     -- the words of the lines up to k fit
-    fits : lineIndex n lines k + (1 + lineIn lines k .length * n) ≤ length answer
+    fits : lineIndex n lines k + (1 + lineIn lines k .extent .length * n) ≤ length answer
     unfolding lineIndex
     fits = omega (arith, enough, ap (lineIndex n lines) (table .counted), sizes-below (sheetNetwork s layout) (layout .samples) (sheetRecording s layout) lines k (length lines) inside)
 
@@ -115,23 +127,35 @@ module _ (s : List ℕ) (layout : Code.Layout) (distances : List ℕ) (lines : L
     length-kept : length words ≡ length answer
     length-kept = ap length (done .written) ∙ length-put answer 1 (concat (wordsOfLine s layout lines) k) (omega (arith, fits, length-done))
 
-    room-left : to + (1 + lineIn lines k .length * n) ≤ length words
+    room-left : to + (1 + lineIn lines k .extent .length * n) ≤ length words
     room-left = omega (arith, fits, length-kept, done .ends)
 
-    signal-here : (i t l : ℕ) → i < k → t < lengthsOf lines i → l < n → earlier layout before starts i t l ≡ valueAt chains (sheetNetwork s layout) (sheetRecording s layout) lines i t l
+    -- u samples after a line's first, and by the recording's own samples
+    signal-after : (i u l : ℕ) → i < k → u < lineIn lines i .extent .length → l < n
+        → signalIn before (getD starts i 0) n u l ≡ valueAt chains (sheetNetwork s layout) (sheetRecording s layout) lines i (lineIn lines i .extent .first + u) l
     unfolding before
-    signal-here i t l h u b =
+    signal-after i u l h among b =
         rw (done .begins i h, done .ends, done .written)
-        (signal-before (sheetNetwork s layout) (layout .samples) (sheetRecording s layout) (sheet-bits s layout) lines constants answer (omega (arith, fits, length-done)) k (firstWord (lineIn lines k)) i t l h u b)
+        (signal-before (sheetNetwork s layout) (layout .samples) (sheetRecording s layout) (sheet-bits s layout) lines constants answer (omega (arith, fits, length-done)) k (firstWord (lineIn lines k)) i u l h among b)
 
-    ready : LineReady s layout distances (wordsUpTo words to (lineIn lines k)) starts (lineIn lines k)
+    signal-here : (i t l : ℕ) → i < k → Has (extentsOf lines i) t → l < n → earlier layout before starts firsts i t l ≡ valueAt chains (sheetNetwork s layout) (sheetRecording s layout) lines i t l
+    signal-here i t l h among b =
+        let first : ℕ = lineIn lines i .extent .first in
+        let back : first + (t - first) ≡ t = omega (arith, among .from) in
+        ap (λ (f : ℕ). signalIn before (getD starts i 0) n (t - f) l) (first-known i h)
+        ∙ signal-after i (t - first) l h (omega (arith, among .from, among .to)) b
+        ∙ ap (λ (u : ℕ). valueAt chains (sheetNetwork s layout) (sheetRecording s layout) lines i u l) back
+
+    ready : LineReady s layout distances (wordsUpTo words to (lineIn lines k)) starts firsts (lineIn lines k)
     unfolding before lineIndex
     ready = record {
       surveyed = table .surveyed;
       roads = table .roads;
       earlier = k;
-      lengths = lengthsOf lines;
+      extents = extentsOf lines;
       good = table .good k inside;
+      begins = first-known;
+      low = λ i. omega (arith, done .low i, done .ends, line-ends n (layout .samples) lines k inside (table .sizes) refl);
       written = λ i h. omega (
         arith,
         done .begins i h,
@@ -140,7 +164,8 @@ module _ (s : List ℕ) (layout : Code.Layout) (distances : List ℕ) (lines : L
         length-take-le to words (omega (arith, room-left)),
         sizes-below (sheetNetwork s layout) (layout .samples) (sheetRecording s layout) lines i k h,
       );
-      valid = λ i t l h u b. subst Valid (sym (signal-here i t l h u b)) (chains-valid (sheetNetwork s layout) (sheetRecording s layout) (sheet-bits s layout) lines constants i t l b);
+      valid = λ i u l h among b. subst Valid (sym (signal-after i u l h among b))
+          (chains-valid (sheetNetwork s layout) (sheetRecording s layout) (sheet-bits s layout) lines constants i (lineIn lines i .extent .first + u) l b);
     }
 
     -- the line's words go behind those before it
@@ -157,19 +182,28 @@ module _ (s : List ℕ) (layout : Code.Layout) (distances : List ℕ) (lines : L
         (λ l. getD-set-other starts k i (to + 1) 0 (λ e. omega arith) ∙ done .begins i l)
         (below (omega arith))
 
-    more-done : (after : List ℕ) (more : Tally) → LineWritten s layout words starts to (lineIn lines k) after more
-        → LinesDone s layout lines answer (k + 1) after (set starts k (to + 1)) (to + (1 + lineIn lines k .length * n)) (together tally more)
+    -- no start lies beyond the line
+    low-more : (i : ℕ) → getD (set starts k (to + 1)) i 0 ≤ to + (1 + lineIn lines k .extent .length * n)
+    low-more i = by (ℕ-discrete i k)
+      where
+        by : Dec (i ≡ k) → getD (set starts k (to + 1)) i 0 ≤ to + (1 + lineIn lines k .extent .length * n)
+        by (yes e) = omega (arith, rw e (getD-set-same starts k (to + 1) 0 (omega (arith, done .room, table .sizes .count))))
+        by (no e) = omega (arith, getD-set-other starts k i (to + 1) 0 e, done .low i)
+
+    more-done : (after : List ℕ) (more : Tally) → LineWritten s layout words starts firsts to (lineIn lines k) after more
+        → LinesDone s layout lines answer (k + 1) after (set starts k (to + 1)) (to + (1 + lineIn lines k .extent .length * n)) (together tally more)
     unfolding before valueHere roundsHere lineValue lineRounds lineWords
     more-done after more here =
         let N = sheetNetwork s layout in
         let x = sheetRecording s layout in
         let T : ℕ = layout .samples in
-        let meant = words-meant N T x (sheet-bits s layout) lines constants (layout .signals) (table .good) k inside (earlier layout before starts) signal-here in
-        let many = yes-meant N T x (sheet-bits s layout) lines constants (layout .signals) (table .good) k inside (earlier layout before starts) signal-here in
-        let most = rounds-meant N T x (sheet-bits s layout) lines constants (layout .signals) (table .good) k inside (earlier layout before starts) signal-here in
+        let meant = words-meant N T x (sheet-bits s layout) lines constants (layout .signals) (table .good) k inside (earlier layout before starts firsts) signal-here in
+        let many = yes-meant N T x (sheet-bits s layout) lines constants (layout .signals) (table .good) k inside (earlier layout before starts firsts) signal-here in
+        let most = rounds-meant N T x (sheet-bits s layout) lines constants (layout .signals) (table .good) k inside (earlier layout before starts firsts) signal-here in
         record {
           room = length-set starts k (to + 1) ∙ done .room;
           begins = begun;
+          low = low-more;
           ends = omega (arith, done .ends, line-ends n T lines k inside (table .sizes) refl);
           written = here .written ∙ ap (λ (w : List ℕ). put words to (firstWord (lineIn lines k) ∷ w)) meant ∙ joined;
           greatest = ap₂ max (done .greatest) (here .greatest ∙ most) ∙ sym (most-more (roundsOfLine s layout lines) k);
@@ -178,12 +212,12 @@ module _ (s : List ℕ) (layout : Code.Layout) (distances : List ℕ) (lines : L
 
     -- the same of the line as it was decoded
     module _ (line : Line) (said : line ≡ lineIn lines k) where
-      pub line-fits : to + (1 + line .length * n) ≤ length words
+      pub line-fits : to + (1 + line .extent .length * n) ≤ length words
       line-fits = rw said room-left
 
-      pub line-ready : LineReady s layout distances (wordsUpTo words to line) starts line
+      pub line-ready : LineReady s layout distances (wordsUpTo words to line) starts firsts line
       line-ready = rw said ready
 
-      pub line-done : (after : List ℕ) (more : Tally) → LineWritten s layout words starts to line after more
-          → LinesDone s layout lines answer (k + 1) after (set starts k (to + 1)) (to + (1 + line .length * n)) (together tally more)
+      pub line-done : (after : List ℕ) (more : Tally) → LineWritten s layout words starts firsts to line after more
+          → LinesDone s layout lines answer (k + 1) after (set starts k (to + 1)) (to + (1 + line .extent .length * n)) (together tally more)
       line-done after more here = rw said (more-done after more (rw said at here))

@@ -113,6 +113,11 @@ walk-start s v T start {lines} {end} e = record {
   rest = e;
 }
 
+-- the extent of a line before, by the arrays
+pub walk-extent : (s : List ℕ) (v T : ℕ) (lines : List Line) (k at : ℕ) (firsts lengths : List ℕ) → Walk s v T lines k at firsts lengths → (i : ℕ) → i < k
+    → extentIn firsts lengths i ≡ lineIn lines i .extent
+walk-extent s v T lines k at firsts lengths walk i h = walk .known i ∙ ap (λ (line : Line). line .extent) (getD-take k lines i noLine h)
+
 -- no line before ends beyond the samples
 pub walk-within : (s : List ℕ) (v T : ℕ) (lines : List Line) (k at : ℕ) (firsts lengths : List ℕ) → Walk s v T lines k at firsts lengths → ExtentsWithin T firsts lengths
 walk-within s v T lines k at firsts lengths walk i = subst (λ (e : Extent). endOf e ≤ T) (sym (walk .known i)) (go (decLt i k))
