@@ -1,4 +1,4 @@
-// Code 12, since. Row t has its values at sample t + upper of the signals, the first that has so many samples before it.
+// Code 12, since. Row t has its values at sample t + upper of the signals, which looks back as far as sample t.
 use crate::signals::least_between;
 use crate::window::Bounds;
 use values::signal_at;
@@ -9,8 +9,8 @@ ghost use Rattle.words.specs.Bytes.{wordsOf};
 ghost use Rattle.operators.specs.Reach.{Window, Reached};
 ghost use Rattle.operators.specs.Rows.{RowLeft, sinceIn};
 
-// At one place. The samples are read from t + upper back to t, with the least of left so far; from t + upper - lower back each offers the lesser
-// of right and that least.
+// At one place. The least of left after sample t + upper - lower comes first; from that sample back to t each offers the lesser of right and the
+// least of left so far.
 fn since_at(
     words: &[u8],
     left: usize,
