@@ -82,33 +82,33 @@ module _ {s : List ℕ} {L : Layout} {distances words starts firsts : List ℕ} 
       signal-later words (getD starts i 0) n (sample - getD firsts i 0) t l ∙ ap (λ (u : ℕ). signalIn words (getD starts i 0) n u l) later))
 
   -- so many samples stand there
-  samples-there : {i sample m : ℕ} → Begun sample i → sample + m ≤ ready .extents i .first + ready .extents i .length → start sample i + m * n ≤ length words
-  samples-there {i} {sample} {m} begun inside =
+  samples-there : {i sample : ℕ} (m : ℕ) → Begun sample i → sample + m ≤ ready .extents i .first + ready .extents i .length → start sample i + m * n ≤ length words
+  samples-there {i} {sample} m begun inside =
       let skipped : ℕ = sample - getD firsts i 0 in
       let among : skipped + m ≤ ready .extents i .length = omega (arith, ready .begins i (begun .0), begun .1) in
       omega (arith, add-mul skipped m n, mul-le-mul-right n among, ready .written i (begun .0))
 
-  valid-from : {i sample t l : ℕ} → Begun sample i → sample + t < ready .extents i .first + ready .extents i .length → l < n → Valid (signalIn words (start sample i) n t l)
-  valid-from {i} {sample} {t} {l} begun inside place =
+  valid-from : {i sample : ℕ} (t l : ℕ) → Begun sample i → sample + t < ready .extents i .first + ready .extents i .length → l < n → Valid (signalIn words (start sample i) n t l)
+  valid-from {i} {sample} t l begun inside place =
       let skipped : ℕ = sample - getD firsts i 0 in
       rw (signal-later words (getD starts i 0) n skipped t l) (ready .valid i (skipped + t) l (begun .0) (omega (arith, ready .begins i (begun .0), begun .1)) place)
 
-  there : {i sample t : ℕ} → Begun sample i → sample + t < ready .extents i .first + ready .extents i .length → start sample i + (t + 1) * n ≤ length words
-  there {i} {sample} {t} begun inside = samples-there {m = t + 1} begun (omega arith)
+  there : {i sample : ℕ} (t : ℕ) → Begun sample i → sample + t < ready .extents i .first + ready .extents i .length → start sample i + (t + 1) * n ≤ length words
+  there t begun inside = samples-there (t + 1) begun (omega arith)
 
-  window : {i sample t lower upper : ℕ} → Begun sample i → lower ≤ upper → sample + (t + upper) < ready .extents i .first + ready .extents i .length → Window words (start sample i) n lower upper t
-  window begun order inside = record { bounds = order; inside = there begun inside }
+  window : {i sample lower upper : ℕ} (t : ℕ) → Begun sample i → lower ≤ upper → sample + (t + upper) < ready .extents i .first + ready .extents i .length → Window words (start sample i) n lower upper t
+  window {upper = upper} t begun order inside = record { bounds = order; inside = there (t + upper) begun inside }
 
   -- two operands, both read from the first sample that they have in common on
   module _ {i j : ℕ} (left : i < ready .earlier) (right : j < ready .earlier) (e : extent ≡ common (ready .extents i) (ready .extents j)) where
     both-begun : Begun (extent .first) i × Begun (extent .first) j
-    both-begun = let first = ap (λ (x : Extent). x .first) e in (left, omega arith, right, omega arith)
+    both-begun = let first = ap (λ (x : Extent). x .first) e in ((left, omega arith), (right, omega arith))
 
-    both-there : {m : ℕ} → m ≤ extent .length → (start (extent .first) i + m * n ≤ length words) × (start (extent .first) j + m * n ≤ length words)
-    both-there h =
+    both-there : (m : ℕ) → m ≤ extent .length → (start (extent .first) i + m * n ≤ length words) × (start (extent .first) j + m * n ≤ length words)
+    both-there m h =
         let first = ap (λ (x : Extent). x .first) e in
         let many = ap (λ (x : Extent). x .length) e in
-        (samples-there (both-begun .0) (omega arith), samples-there (both-begun .1) (omega arith))
+        (samples-there m (both-begun .0) (omega arith), samples-there m (both-begun .1) (omega arith))
 
     both-same : {A : Type 0} (f : Signal chains → Signal chains → A)
         → f (signalIn words (start (extent .first) i) n) (signalIn words (start (extent .first) j) n) ≡ f (λ t. operand i (extent .first + t)) (λ t. operand j (extent .first + t))
@@ -128,7 +128,7 @@ module _ {s : List ℕ} {L : Layout} {distances words starts firsts : List ℕ} 
       let begun : Begun (extent .first) i = (left, omega arith) in
       let begun′ : Begun (extent .first) j = (right, omega arith) in
       record {
-        reads = λ t h. (window begun (bounds .order) (omega arith), window begun′ (bounds .order) (omega arith));
+        reads = λ t h. (window t begun (bounds .order) (omega arith), window t begun′ (bounds .order) (omega arith));
         values = λ t l _. ap₂ (λ (p q : Signal chains). untilAt chains forward p q (b .lower) (b .upper) t l) (read-from begun) (read-from begun′)
             ∙ until-later (operand i) (operand j) (extent .first) (b .lower) (b .upper) t l;
         rounds = λ t l _. refl;
@@ -140,7 +140,7 @@ module _ {s : List ℕ} {L : Layout} {distances words starts firsts : List ℕ} 
       let begun : Begun back i = (left, omega arith) in
       let begun′ : Begun back j = (right, omega arith) in
       record {
-        reads = λ t h. (window begun (bounds .order) (omega arith), window begun′ (bounds .order) (omega arith));
+        reads = λ t h. (window t begun (bounds .order) (omega arith), window t begun′ (bounds .order) (omega arith));
         values = λ t l _.
             let sample : back + (t + b .upper) ≡ extent .first + t = omega arith in
             ap₂ (λ (p q : Signal chains). untilAt chains backward p q (b .lower) (b .upper) (t + b .upper) l) (read-from begun) (read-from begun′)
@@ -173,7 +173,7 @@ module _ {s : List ℕ} {L : Layout} {distances words starts firsts : List ℕ} 
       let many = ap (λ (x : Extent). x .length) e in
       let begun : Begun (extent .first) i = (left, omega arith) in
       record {
-        reads = λ t h. window begun (bounds .order) (omega arith);
+        reads = λ t h. window t begun (bounds .order) (omega arith);
         values = λ t l _. ap (λ (q : Signal chains). eventuallyAt dual q (b .lower) (b .upper) t l) (read-from begun)
             ∙ eventually-from dual (operand i) (extent .first) (b .lower) (b .upper) t l ∙ ever-value dual Forward i b (extent .first + t) l;
         rounds = λ t l _. ever-rounds dual Forward i b (extent .first + t) l;
@@ -183,7 +183,7 @@ module _ {s : List ℕ} {L : Layout} {distances words starts firsts : List ℕ} 
       let many = ap (λ (x : Extent). x .length) e in
       let begun : Begun (extent .first - b .upper) i = (left, omega arith) in
       record {
-        reads = λ t h. window begun zero-le (omega arith);
+        reads = λ t h. window t begun zero-le (omega arith);
         values = λ t l _. ap (λ (q : Signal chains). eventuallyAt dual q 0 (b .upper - b .lower) t l) (read-from begun)
             ∙ once-from dual (operand i) (λ u k. signal-bound words (getD starts i 0) n (u - getD firsts i 0) k) (extent .first) (b .lower) (b .upper) t l (bounds .order) (omega arith)
             ∙ ever-value dual Backward i b (extent .first + t) l;
@@ -223,7 +223,7 @@ module _ {s : List ℕ} {L : Layout} {distances words starts firsts : List ℕ} 
       let many = ap (λ (x : Extent). x .length) e in
       let begun : Begun (extent .first) i = (left, omega arith) in
       record {
-        reads = around-ready (Range (record { left = start (extent .first) i; bounds = b; dual = dual })) (samples-there begun (omega arith));
+        reads = around-ready (Range (record { left = start (extent .first) i; bounds = b; dual = dual })) (samples-there (extent .length) begun (omega arith));
         values = λ t l place. somewhere-same s L distances (ready .surveyed) dual (signalIn words (start (extent .first) i) n) (b .lower) (b .upper) t l small place
             ∙ ap (λ (p : Signal chains). turned dual (somewhereAt chains (sheetNetwork s L) (turned dual p) (b .lower) (b .upper)) t l) (read-from begun)
             ∙ ranged-value dual i b (extent .first) t l;
@@ -238,11 +238,11 @@ module _ {s : List ℕ} {L : Layout} {distances words starts firsts : List ℕ} 
       let from′ : ℕ = start (extent .first) j in
       record {
         reads = around-ready (Surround (record { left = from; right = from′; bounds = b })) (record {
-          left-there = both-there left right e (le-refl _) .0;
-          right-there = both-there left right e (le-refl _) .1;
+          left-there = both-there left right e (extent .length) (le-refl _) .0;
+          right-there = both-there left right e (extent .length) (le-refl _) .1;
           roads-in = ready .roads;
-          left-valid = λ t l h k. valid-from (both-begun left right e .0) (omega (arith, ap (λ (x : Extent). x .first) e, ap (λ (x : Extent). x .length) e)) k;
-          right-valid = λ t l h k. valid-from (both-begun left right e .1) (omega (arith, ap (λ (x : Extent). x .first) e, ap (λ (x : Extent). x .length) e)) k;
+          left-valid = λ t l h k. valid-from t l (both-begun left right e .0) (omega (arith, ap (λ (x : Extent). x .first) e, ap (λ (x : Extent). x .length) e)) k;
+          right-valid = λ t l h k. valid-from t l (both-begun left right e .1) (omega (arith, ap (λ (x : Extent). x .first) e, ap (λ (x : Extent). x .length) e)) k;
         });
         values = λ t l place. value-by-table s L distances (ready .surveyed) words from from′ (b .lower) (b .upper) t l small place
             ∙ both-same left right e (λ p q. surroundAt chains (sheetNetwork s L) p q (b .lower) (b .upper) t l);
@@ -273,12 +273,12 @@ module _ {s : List ℕ} {L : Layout} {distances words starts firsts : List ℕ} 
   known (Not i) h e =
       let begun : Begun (extent .first) i = (h, omega (arith, ap (λ (x : Extent). x .first) e)) in
       record {
-        reads = λ t b. there begun (omega (arith, ap (λ (x : Extent). x .first) e, ap (λ (x : Extent). x .length) e));
+        reads = λ t b. there t begun (omega (arith, ap (λ (x : Extent). x .first) e, ap (λ (x : Extent). x .length) e));
         values = λ t l b. ap (λ (p : Signal chains). chainOpposite (p t l)) (read-from begun);
         rounds = λ t l b. refl;
       }
   known (And i j) h e = record {
-    reads = λ t b. both-there (h .0) (h .1) e (omega arith);
+    reads = λ t b. both-there (h .0) (h .1) e (t + 1) (omega arith);
     values = λ t l b. both-same (h .0) (h .1) e (λ p q. chainLattice .meet (p t l) (q t l));
     rounds = λ t l b. refl;
   }
@@ -286,7 +286,7 @@ module _ {s : List ℕ} {L : Layout} {distances words starts firsts : List ℕ} 
   known (Somewhere i b) h e = range-known false i b (h .0) (h .1 .small) e
   known (Surrounded i j b) h e = surround-known i j b (h .0) (h .1) (h .2 .small) e
   known (Or i j) h e = record {
-    reads = λ t b. both-there (h .0) (h .1) e (omega arith);
+    reads = λ t b. both-there (h .0) (h .1) e (t + 1) (omega arith);
     values = λ t l b. both-same (h .0) (h .1) e (λ p q. chainOpposite (chainLattice .meet (chainOpposite (p t l)) (chainOpposite (q t l))));
     rounds = λ t l b. refl;
   }

@@ -187,7 +187,7 @@ module _ (s : List ℕ) (layout : Code.Layout) (distances : List ℕ) (lines : L
     low-more i = by (ℕ-discrete i k)
       where
         by : Dec (i ≡ k) → getD (set starts k (to + 1)) i 0 ≤ to + (1 + lineIn lines k .extent .length * n)
-        by (yes e) = omega (arith, rw e (getD-set-same starts k (to + 1) 0 (omega (arith, done .room, table .sizes .count))))
+        by (yes e) = rw e (omega (arith, getD-set-same starts k (to + 1) 0 (omega (arith, done .room, table .sizes .count))))
         by (no e) = omega (arith, getD-set-other starts k i (to + 1) 0 e, done .low i)
 
     more-done : (after : List ℕ) (more : Tally) → LineWritten s layout words starts firsts to (lineIn lines k) after more

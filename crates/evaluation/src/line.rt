@@ -1,4 +1,5 @@
 // One line of the answer: its first word, and its verdicts, sample by sample or, over space, in blocks of samples.
+use lines::extent::Extent;
 use lines::line::Line;
 use samples::tally::Tally;
 use sheet::check::Layout;
@@ -7,14 +8,27 @@ use verdicts::located::Located;
 use verdicts::located::locate;
 use verdicts::row::write_rows;
 ghost use mathlib.Core.Path.{_≡_};
-ghost use Prim.Native.Nat.{_+_, _*_, _≤_};
+ghost use Prim.Native.Nat.{_+_, _*_, _≤_, _^_};
 ghost use lib.ListN.{length};
+ghost use Rattle.words.specs.Word.{wordOf};
 ghost use Rattle.words.specs.Bytes.{wordsOf, afterWords};
-ghost use Rattle.lines.specs.Decoding.{lineSaid};
+ghost use Rattle.formulas.specs.Formulas.{endOf};
+ghost use Rattle.checks.specs.Limits.{mostSamples};
+ghost use Rattle.lines.specs.Decoding.{extentSaid, lineSaid};
 ghost use Rattle.evaluation.specs.Line.{LineReadyIn, LineWritten};
 
 // Kind 14, in bits 31..28.
 const LINE: u32 = 3758096384;
+
+// The first sample in bits 23..12, the length in 11..0.
+fn first_word(extent: Extent) -> u32
+    requires { ⌜ endOf (extentSaid extent) ≤ mostSamples ⌝ }
+    ensures { λ r. ⌜ r ≡ wordOf 14 (extent .first * 2 ^ 12 + extent .length) ⌝ }
+{
+    let first = extent.first;
+    let length = extent.length;
+    LINE + first * 4096 + length
+}
 
 // Writes a line from index `to` on, after the earlier lines, whose signals begin where `starts` tells, with the samples that `firsts` tells.
 pub(crate) fn write_line(
@@ -32,7 +46,7 @@ pub(crate) fn write_line(
     ensures tail { λ _. ⌜ afterWords (now (answer .exit)) ≡ afterWords (now (answer .entry)) ⌝ }
 {
     let extent = line.extent;
-    words::put_word(answer, to, LINE + extent.first * 4096 + extent.length);
+    words::put_word(answer, to, first_word(extent));
     let begin = to + 1;
     let samples = extent.length as usize;
     match locate(line, starts, firsts, layout.places) {

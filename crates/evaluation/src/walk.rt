@@ -28,7 +28,15 @@ pub fn words_needed(sheet: &[u8], layout: Layout, distances: &[u8]) -> usize
     let mut at = layout.table;
     let mut needed: usize = 2;
     for k in 0..layout.lines {
-        match decode_line(sheet, at, layout.signals, layout.samples, k, &firsts, &lengths) {
+        match decode_line(
+            sheet,
+            at,
+            layout.signals,
+            layout.samples,
+            k,
+            &firsts,
+            &lengths,
+        ) {
             // the check has read every line already
             Decoded::Refused(_, _) => return 0,
             Decoded::Line(line, next) => {
@@ -56,7 +64,15 @@ pub fn write_lines(sheet: &[u8], layout: Layout, distances: &[u8], answer: &mut 
     let mut to: usize = 1;
     let mut tally = Tally::NONE;
     for k in 0..layout.lines {
-        match decode_line(sheet, at, layout.signals, layout.samples, k, &firsts, &lengths) {
+        match decode_line(
+            sheet,
+            at,
+            layout.signals,
+            layout.samples,
+            k,
+            &firsts,
+            &lengths,
+        ) {
             // the check has read every line already
             Decoded::Refused(_, _) => return Written { end: 0, tally },
             Decoded::Line(line, next) => {
