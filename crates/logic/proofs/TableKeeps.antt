@@ -19,13 +19,13 @@ module _ (R M : Reading) (N : Network) (Rel : R.lattice.Value → M.lattice.Valu
   window-kept : (p q : Signal R) (p′ q′ : Signal M) → Alike p p′ → Alike q q′ → (first last : ℕ) (from to : ℕ → ℕ) (l : ℕ) → l < N.places
       → Rel (windowAt R p q first last from to l) (windowAt M p′ q′ first last from to l)
   unfolding windowAt
-  window-kept p q p′ q′ hp hq first last from to l b = greatest-kept R.lattice M.lattice Rel K (leb first) _ _ (suc last)
-      (λ u _ _. K.keeps-meet _ _ _ _ (hq u l b) (least-kept R.lattice M.lattice Rel K (leb (from u)) _ _ (suc (to u)) (λ v _ _. hp v l b)))
+  window-kept p q p′ q′ hp hq first last from to l b = greatest-kept R.lattice M.lattice Rel K _ _ _ _
+      (λ u _ _. K.keeps-meet _ _ _ _ (hq u l b) (least-kept R.lattice M.lattice Rel K _ _ _ _ (λ v _ _. hp v l b)))
 
   until-kept : (side : Direction) (p q : Signal R) (p′ q′ : Signal M) → Alike p p′ → Alike q q′ → (lower upper : ℕ) → Alike (untilAt R side p q lower upper) (untilAt M side p′ q′ lower upper)
   unfolding untilAt
-  until-kept forward p q p′ q′ hp hq lower upper t = window-kept p q p′ q′ hp hq (t + lower) (t + upper) (λ _. t) (λ u. u)
-  until-kept backward p q p′ q′ hp hq lower upper t = window-kept p q p′ q′ hp hq (t - upper) (t - lower) (λ u. u) (λ _. t)
+  until-kept forward p q p′ q′ hp hq lower upper t = window-kept p q p′ q′ hp hq _ _ _ _
+  until-kept backward p q p′ q′ hp hq lower upper t = window-kept p q p′ q′ hp hq _ _ _ _
 
   somewhere-kept : (p : Signal R) (p′ : Signal M) → Alike p p′ → (lower upper : ℕ) → Alike (somewhereAt R N p lower upper) (somewhereAt M N p′ lower upper)
   unfolding somewhereAt

@@ -24,16 +24,16 @@ module _ (R : Reading) (N : Network) where
   unfolding windowAt
   window-same p q p′ q′ e hp hq first last from to window path l c = greatest-kept R.lattice R.lattice Same (same-kept R.lattice) (leb first) _ _ (suc last)
       (λ u b f. let i = leb→le first u f in ap₂ (R.lattice .meet) (hq u l (window u i (omega arith)) c)
-      (least-kept R.lattice R.lattice Same (same-kept R.lattice) (leb (from u)) _ _ (suc (to u))
+      (least-kept R.lattice R.lattice Same (same-kept R.lattice) (leb (from u)) _ _ _
       (λ v d g. hp v l (path u v i (omega arith) (leb→le (from u) v g) (omega arith)) c)))
 
   until-same : (side : Direction) (p q p′ q′ : Signal R) (e : Extent) → AlikeIn e p p′ → AlikeIn e q q′ → (lower upper : ℕ)
       → AlikeIn (looking side upper e) (untilAt R side p q lower upper) (untilAt R side p′ q′ lower upper)
   unfolding untilAt
-  until-same forward p q p′ q′ e hp hq lower upper t l h c = window-same p q p′ q′ e hp hq (t + lower) (t + upper) (λ _. t) (λ u. u)
+  until-same forward p q p′ q′ e hp hq lower upper t l h c = window-same p q p′ q′ e hp hq _ _ _ _
       (λ u a b. record { from = omega (arith, h .from); to = omega (arith, h .to) })
       (λ u v a b d f. record { from = omega (arith, h .from); to = omega (arith, h .to) }) l c
-  until-same backward p q p′ q′ e hp hq lower upper t l h c = window-same p q p′ q′ e hp hq (t - upper) (t - lower) (λ u. u) (λ _. t)
+  until-same backward p q p′ q′ e hp hq lower upper t l h c = window-same p q p′ q′ e hp hq _ _ _ _
       (λ u a b. record { from = omega (arith, h .from); to = omega (arith, h .to) })
       (λ u v a b d f. record { from = omega (arith, h .from); to = omega (arith, h .to) }) l c
 
