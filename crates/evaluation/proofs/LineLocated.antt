@@ -32,7 +32,7 @@ use Rattle.verdicts.specs.declared.located.Located.{Located}
 use Rattle.verdicts.specs.declared.located.Located.the-variants.{Rows, Blocks}
 use Rattle.verdicts.specs.Located.{startAt, untilLocated, eventuallyLocated, surroundLocated, rangeLocated, locatedBy, locatedOf}
 use Rattle.verdicts.specs.Rows.{sheetRecording, rowValue, RowReads}
-use Rattle.verdicts.specs.Around.{SurroundReads, AroundReads, AroundReady, aroundValue, aroundRounds}
+use Rattle.verdicts.specs.Around.{AroundReads, AroundReady, aroundValue, aroundRounds}
 use Rattle.evaluation.specs.Writing.{sheetNetwork, earlier, lineValue, lineRounds}
 use Rattle.evaluation.specs.Line.{LineReady}
 use Rattle.evaluation.proofs.SpaceTable.{roundsAbout, somewhere-same, value-by-table, rounds-by-table}

@@ -1,8 +1,7 @@
 -- One induction over the lines of a table, for every relation that the operations keep. Steadiness and the agreement of margin and verdict
 -- are its instances.
 use mathlib.Core.List.{List, [], _∷_}
-use Prim.Native.Nat.{ℕ, suc, _+_, _-_, _<_}
-use lib.Dec.{leb}
+use Prim.Native.Nat.{ℕ, _-_, _<_}
 use lib.IntN.{ℤ, _-ℤ_}
 use Rattle.network.specs.Network.{Network, joined, within}
 use Rattle.formulas.specs.Formulas.{Direction, forward, backward, Operator, True, AtLeast, AtMost, Not, And, Until, Somewhere, Surrounded, Or, Eventually, Always, Everywhere, Line, Recording, ConstantIn, ConstantsIn}

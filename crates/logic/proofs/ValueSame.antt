@@ -1,6 +1,6 @@
 -- The value of a line depends on its operands within their extents alone: an operator over time looks no further than its upper bound.
 use mathlib.Core.Path.{_≡_, refl, ap, ap₂}
-use Prim.Native.Nat.{ℕ, suc, _+_, _-_, _<_, _≤_}
+use Prim.Native.Nat.{ℕ, suc, _-_, _<_, _≤_}
 use native.Mathlib.Omega.{arith}
 use lib.Dec.{leb, leb→le}
 use Rattle.network.specs.Network.{Network, joined, within}

@@ -44,7 +44,7 @@ module _ (p q : Signal chains) (k : ℕ) where
   since-later lower upper t l h past =
       window-later (t - upper) (t - lower) (k + t - upper) (k + t - lower) (λ u. u) (λ _. t) (λ u. u) (λ _. k + t) (omega arith) (omega arith) (λ _. refl) (λ _. refl) l
 
-pub once-ahead : (q : Signal chains) (lower upper t l : ℕ) → lower ≤ upper → ((u : ℕ) → q u l ≤ highest)
+once-ahead : (q : Signal chains) (lower upper t l : ℕ) → lower ≤ upper → ((u : ℕ) → q u l ≤ highest)
     → untilAt chains backward (everTrue chains) q lower upper (t + upper) l ≡ ahead q 0 (upper - lower) t l
 unfolding untilAt
 once-ahead q lower upper t l h small =

@@ -1,13 +1,13 @@
 -- By the operator: each arm computes what the definition says of it.
 use mathlib.Core.Path.{_≡_, sym, _∙_, ap, subst}
-use Prim.Native.Nat.{ℕ, _≤_, _<_, _^_}
+use Prim.Native.Nat.{ℕ, _≤_}
 use mathlib.Core.List.{List}
 use native.Mathlib.Omega.{arith}
-use Rattle.formulas.specs.Formulas.{Extent, span, endOf, common, looking, extentOf}
+use Rattle.formulas.specs.Formulas.{Extent, endOf, common, looking, extentOf}
 use Rattle.checks.specs.Limits.{mostSamples}
 use Rattle.lines.specs.declared.operator.Operator.{Operator}
 use Rattle.lines.specs.GoodLines.{Sound}
-use Rattle.lines.specs.Decoding.{sideSaid, operatorSaid, extentSaid, extentIn, ExtentsWithin}
+use Rattle.lines.specs.Decoding.{sideSaid, operatorSaid, extentSaid, extentIn}
 use borrow.Author.Needs.{needs}
 use Rattle.lines.proofs.extent.extent_of.Statement.{statement}
 use Rattle.lines.proofs.extent.extent_of.Tie as tie

@@ -1,7 +1,6 @@
 -- Field by field.
 use mathlib.Core.Path.{ap}
 use Prim.Native.Nat.{ℕ}
-use Rattle.verdicts.specs.declared.located.Origin.{Origin}
 use borrow.Author.Needs.{needs}
 use Rattle.verdicts.proofs.located.earlier.Statement.{statement}
 use Rattle.verdicts.proofs.located.earlier.Tie as tie
