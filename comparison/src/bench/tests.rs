@@ -22,7 +22,7 @@ fn the_grid_has_every_code() {
 #[test]
 fn a_grid_may_have_one_sample() {
     let sheet = checked(&sheets::grid(8, 1));
-    assert!(sheet.lines.iter().all(|line| line.length == 1));
+    assert!(sheet.lines.iter().all(|line| line.extent.length() == 1));
 }
 
 #[test]
