@@ -36,9 +36,9 @@
 extern "C" {
 #endif
 
-#define TECUHUALMA_VERSION "0.1.0"
+#define TECUHUALMA_VERSION "0.2.0"
 #define TECUHUALMA_VERSION_MAJOR 0
-#define TECUHUALMA_VERSION_MINOR 1
+#define TECUHUALMA_VERSION_MINOR 2
 #define TECUHUALMA_VERSION_PATCH 0
 
 /* The limits of a sheet. */
@@ -61,7 +61,7 @@ extern "C" {
 #define TECUHUALMA_RESULT_BYTES 40
 
 /* Answer words that are enough for every sheet of so many places, samples and
- * lines; lines that look ahead in time need fewer. */
+ * lines; lines that look ahead or back in time need fewer. */
 #define TECUHUALMA_ANSWER_WORDS(places, samples, lines) \
     (2 + (size_t)(lines) * (1 + (size_t)(places) * (size_t)(samples)))
 #define TECUHUALMA_MOST_ANSWER_WORDS \
@@ -100,7 +100,7 @@ enum tecuhualma_number {
     TECUHUALMA_LINE_COUNT = 10,       /* no first line, or a 65th */
     TECUHUALMA_LINE_WORD = 11,        /* code, signal, operand or unused field */
     TECUHUALMA_LINE_PARAMETER = 12,   /* constant or bounds of a line */
-    TECUHUALMA_LINE_LENGTH = 13,      /* a line that looks past the recording */
+    TECUHUALMA_LINE_LENGTH = 13,      /* a line without a sample */
     TECUHUALMA_END = 14,              /* end absent, not kind 15, miscounted, or not last */
     TECUHUALMA_SHORT_ANSWER = 15,     /* fewer answer words lent than needed */
     TECUHUALMA_BYTE_LENGTHS = 16      /* a length in bytes that cannot be */
@@ -133,15 +133,21 @@ uint64_t judge(const uint8_t *sheet, size_t sheet_len, uint8_t *distances, size_
 /*
  * Looks up the verdict of a line at a sample and a place: 1 yes, 2 no, 0 none.
  *
+ * The sample is one of the recording, from 0 to T - 1. A line has verdicts from
+ * its first sample on, for as many samples as its length says: where lines look
+ * back in time they may begin after sample 0, and where they look ahead they may
+ * end before T.
+ *
  * It is 0 exactly if line, sample or place is not in the answer, or if the bytes
  * are not a whole answer, which is to say:
  *
  *  - a multiple of 4 bytes, of which the words are, in this order,
  *  - a head of kind 13: 1 to 64 places, 1 to 64 lines, 1 to 1,024 samples T;
- *  - for each line a word of kind 14 whose payload is its length, 1 to T; then for
- *    each sample of that length and each place a word of kind 9 with a margin of
- *    0 or above, of kind 10 with one of 0 or below but not -2^27, or of kind 11
- *    or 12 with a payload of 0;
+ *  - for each line a word of kind 14 with its first sample in bits 23..12, its
+ *    length in bits 11..0 and bits 27..24 zero: the length at least 1, and both
+ *    together at most T; then for each of these samples and each place a word of
+ *    kind 9 with a margin of 0 or above, of kind 10 with one of 0 or below but not
+ *    -2^27, or of kind 11 or 12 with a payload of 0;
  *  - an end of kind 15 with the count of words before it;
  *  - nothing but zeros.
  *

@@ -1,9 +1,9 @@
 //! A run of the comparison: a seed after the other, everything it determines.
 
 use crate::difference::Checked;
-use crate::printing::{self, Program};
+use crate::printing::{self, Printer};
 use crate::reached::Reached;
-use crate::{judging, laws, lookups, steadiness, Engine};
+use crate::{judging, laws, lookups, mirror, steadiness, Engine};
 use reference::generate::random::Random;
 use reference::generate::{aim, case, valid, Case};
 use reference::page;
@@ -12,7 +12,7 @@ use reference::print::ANSWER_WORDS;
 /// Networks have at most so many places.
 const MOST_PLACES: usize = 64;
 
-/// One seed in so many also tries steadiness and laws.
+/// One seed in so many also tries steadiness, laws, and time turned round.
 const PAIRS_EVERY: u64 = 8;
 
 /// One seed in so many is also given to the printing program.
@@ -27,19 +27,19 @@ const OF_TABLE: [u64; 5] = [10, 11, 12, 13, 14];
 /// What is compared, and what has been reached so far.
 pub struct Comparison<'a> {
     engine: &'a dyn Engine,
-    program: Option<Program>,
+    printer: Option<&'a dyn Printer>,
     /// The counts.
     pub reached: Reached,
 }
 
 impl<'a> Comparison<'a> {
-    /// A comparison of an engine, and of a printing program if there is one.
-    pub fn new(engine: &'a dyn Engine, program: Option<Program>) -> Self {
+    /// A comparison of an engine, and of a printer if there is one.
+    pub fn new(engine: &'a dyn Engine, printer: Option<&'a dyn Printer>) -> Self {
         let mut reached = Reached::default();
-        if program.is_some() {
+        if printer.is_some() {
             reached.expect(printing::labels());
         }
-        Comparison { engine, program, reached }
+        Comparison { engine, printer, reached }
     }
 
     /// Compares everything that a seed determines.
@@ -49,9 +49,9 @@ impl<'a> Comparison<'a> {
         let mut random = Random::new(!seed);
         self.judge(&mut random, &case)?;
         if seed.is_multiple_of(PAIRS_EVERY) {
-            steadiness::check(self.engine, &mut random)?;
-            self.reached.count("steadiness of two sheets");
+            steadiness::check(self.engine, &mut random, &mut self.reached)?;
             laws::check(self.engine, &mut random, &mut self.reached)?;
+            mirror::check(self.engine, &mut random, &mut self.reached)?;
         }
         if seed.is_multiple_of(PRINTS_EVERY) {
             self.print(&mut random, &case)?;
@@ -69,8 +69,8 @@ impl<'a> Comparison<'a> {
         for label in page::SHEETS {
             let case = Case::of(&page::words(label), ANSWER_WORDS);
             self.judge(&mut random, &case)?;
-            if let Some(program) = &self.program {
-                program.compare(&case.sheet, &mut self.reached)?;
+            if let Some(printer) = self.printer {
+                printing::compare(printer, &case.sheet, &mut self.reached)?;
             }
         }
         Ok(())
@@ -108,12 +108,12 @@ impl<'a> Comparison<'a> {
 
     /// The case's bytes, and sometimes a sheet at a limit, in print.
     fn print(&mut self, random: &mut Random, case: &Case) -> Checked {
-        let Some(program) = &self.program else {
+        let Some(printer) = self.printer else {
             return Ok(());
         };
-        program.compare(&case.sheet, &mut self.reached)?;
+        printing::compare(printer, &case.sheet, &mut self.reached)?;
         if random.chance(5) {
-            program.compare_limit(random, &mut self.reached)?;
+            printing::compare_limit(printer, random, &mut self.reached)?;
         }
         Ok(())
     }

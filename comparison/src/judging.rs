@@ -73,16 +73,28 @@ fn same(left: &Left, right: &Left) -> Checked {
     same_bytes("answer", BYTES_PER_WORD, &left.answer, &right.answer)
 }
 
+/// Judges the words of a valid sheet with enough lent; gives what is left.
+pub fn accepted(
+    engine: &dyn Engine,
+    random: &mut Random,
+    words: &[u32],
+) -> Result<Left, Difference> {
+    let case = Case::lend(random, words);
+    let left = judged(engine, random, &case).and_then(|left| {
+        demand(left.number == 0, || format!("a valid sheet was refused with {}", left.number))?;
+        Ok(left)
+    });
+    left.map_err(|difference| difference.on_case(&case))
+}
+
 /// Judges the words of a valid sheet with enough lent; gives the whole answer.
 pub fn answered(
     engine: &dyn Engine,
     random: &mut Random,
     words: &[u32],
 ) -> Result<Answer, Difference> {
-    let case = Case::lend(random, words);
-    let whole = judged(engine, random, &case).and_then(|left| {
-        demand(left.number == 0, || format!("a valid sheet was refused with {}", left.number))?;
-        left.whole_answer().ok_or(Difference::new("the answer is not a whole one"))
-    });
-    whole.map_err(|difference| difference.on_case(&case))
+    let whole = accepted(engine, random, words)?.whole_answer();
+    whole.ok_or_else(|| {
+        Difference::new("the answer is not a whole one").on("sheet", &words::to_bytes(words))
+    })
 }

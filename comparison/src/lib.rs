@@ -15,6 +15,7 @@ pub mod judging;
 pub mod laws;
 pub mod lent;
 pub mod lookups;
+pub mod mirror;
 pub mod printing;
 pub mod reached;
 pub mod steadiness;

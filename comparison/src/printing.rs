@@ -22,12 +22,26 @@ const LIMITS: [&str; 4] = [
     "printed: answer above 16,384 words",
 ];
 
-/// What a run must have reached in print: acceptance, every refusal but that of
-/// too few distances, of which the program lends enough, and its limits.
+/// What a run must have reached in print: acceptance, also of a line that begins
+/// late, every refusal but that of too few distances, of which the program lends
+/// enough, and its limits.
 pub fn labels() -> Vec<String> {
     let refusals = (2..=16).map(|number| format!("printed: refused {number}"));
     let accepted = std::iter::once("printed: accepted".into());
-    accepted.chain(refusals).chain(LIMITS.map(String::from)).collect()
+    let late = std::iter::once(LATE.into());
+    accepted.chain(late).chain(refusals).chain(LIMITS.map(String::from)).collect()
+}
+
+/// A row that follows one of another line and has a sample above 0.
+const LATE: &str = "printed: a line that begins late";
+
+fn begins_late(text: &str) -> bool {
+    let rows = text.lines().map(|row| row.split(' ').take(2).collect::<Vec<_>>());
+    let rows: Vec<Vec<&str>> = rows.collect();
+    rows.windows(2).any(|pair| {
+        let [before, row] = pair else { return false };
+        row[0] != "end" && row[0] != before[0] && row[1] != "0"
+    })
 }
 
 /// The label of a printed text: its first word and, of a refusal, the number.
@@ -39,44 +53,53 @@ fn label(text: &str) -> String {
     }
 }
 
+/// Anything that prints what a sheet's bytes say.
+pub trait Printer {
+    /// What is printed for an input, errors included.
+    fn print(&self, input: &[u8]) -> std::io::Result<String>;
+}
+
+/// Gives the input to a printer, which must print what the implementation prints,
+/// nothing on standard error, and end well.
+pub fn compare(printer: &dyn Printer, input: &[u8], reached: &mut Reached) -> Checked {
+    let printed = printer
+        .print(input)
+        .map_err(|error| Difference::new(format!("the printing program cannot be run: {error}")))?;
+    let expected = print::<Fast>(input);
+    demand(printed == expected, || told(&printed, &expected))
+        .map_err(|difference| difference.on("input", input))?;
+    reached.count(&label(&expected));
+    if begins_late(&expected) {
+        reached.count(LATE);
+    }
+    Ok(())
+}
+
+/// Gives a sheet just at or just beyond a limit to a printer.
+pub fn compare_limit(printer: &dyn Printer, random: &mut Random, reached: &mut Reached) -> Checked {
+    let (words, label) = match random.below(4) {
+        0 => (limits::sheet_of_words(random, MOST_WORDS), LIMITS[0]),
+        1 => (limits::sheet_of_words(random, MOST_WORDS + 1), LIMITS[1]),
+        2 => (limits::sheet_of_answer(random, ANSWER_WORDS), LIMITS[2]),
+        _ => (limits::sheet_of_answer(random, ANSWER_WORDS + 1), LIMITS[3]),
+    };
+    let mut input = words::to_bytes(&words);
+    // Beyond the limit of the input some bytes more or less change nothing.
+    if label == LIMITS[1] {
+        let more = random.pick(&[0, 0, 1, 3, 8_000, 60_000, 300_000]);
+        input.truncate(input.len() - random.below(4));
+        input.resize(input.len() + more, 0);
+    }
+    compare(printer, &input, reached)?;
+    reached.count(label);
+    Ok(())
+}
+
 /// The printing program, by its path.
 pub struct Program(pub PathBuf);
 
-impl Program {
-    /// Gives the input to the program, which must print what the implementation
-    /// prints, nothing on standard error, and end well.
-    pub fn compare(&self, input: &[u8], reached: &mut Reached) -> Checked {
-        let printed = self.run(input).map_err(|error| {
-            Difference::new(format!("{} cannot be run: {error}", self.0.display()))
-        })?;
-        let expected = print::<Fast>(input);
-        demand(printed == expected, || told(&printed, &expected))
-            .map_err(|difference| difference.on("input", input))?;
-        reached.count(&label(&expected));
-        Ok(())
-    }
-
-    /// Gives a sheet just at or just beyond a limit to the program.
-    pub fn compare_limit(&self, random: &mut Random, reached: &mut Reached) -> Checked {
-        let (words, label) = match random.below(4) {
-            0 => (limits::sheet_of_words(random, MOST_WORDS), LIMITS[0]),
-            1 => (limits::sheet_of_words(random, MOST_WORDS + 1), LIMITS[1]),
-            2 => (limits::sheet_of_answer(random, ANSWER_WORDS), LIMITS[2]),
-            _ => (limits::sheet_of_answer(random, ANSWER_WORDS + 1), LIMITS[3]),
-        };
-        let mut input = words::to_bytes(&words);
-        // Beyond the limit of the input some bytes more or less change nothing.
-        if label == LIMITS[1] {
-            let more = random.pick(&[0, 0, 1, 3, 8_000, 60_000, 300_000]);
-            input.truncate(input.len() - random.below(4));
-            input.resize(input.len() + more, 0);
-        }
-        self.compare(&input, reached)?;
-        reached.count(label);
-        Ok(())
-    }
-
-    fn run(&self, input: &[u8]) -> std::io::Result<String> {
+impl Printer for Program {
+    fn print(&self, input: &[u8]) -> std::io::Result<String> {
         let mut child = Command::new(&self.0)
             .stdin(Stdio::piped())
             .stdout(Stdio::piped())

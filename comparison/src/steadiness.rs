@@ -4,15 +4,29 @@
 
 use crate::difference::{demand, Checked};
 use crate::judging::answered;
+use crate::reached::Reached;
 use crate::Engine;
-use reference::answer::Answer;
+use reference::answer::{Answer, AnswerLine};
 use reference::generate::random::Random;
 use reference::generate::valid::{self, LEAST, MOST};
 use reference::margin::{Margin, Verdict};
+use reference::sheet::LAST_CODE;
 use reference::words::{self, kinds};
 
+/// What a run must have reached: pairs of sheets, and a line of every code in
+/// them.
+pub fn labels() -> impl Iterator<Item = String> {
+    std::iter::once(PAIR.into()).chain((0..=LAST_CODE).map(code_label))
+}
+
+const PAIR: &str = "steadiness of two sheets";
+
+fn code_label(code: u32) -> String {
+    format!("steadiness: code {code}")
+}
+
 /// Judges a random sheet and another whose samples are at most d away.
-pub fn check(engine: &dyn Engine, random: &mut Random) -> Checked {
+pub fn check(engine: &dyn Engine, random: &mut Random, reached: &mut Reached) -> Checked {
     let first = valid::sheet(random, 16);
     let any = random.between(0, 1 << 27);
     let far = random.pick(&[0, 1, 1, 2, 3, 10, any]);
@@ -22,15 +36,22 @@ pub fn check(engine: &dyn Engine, random: &mut Random) -> Checked {
     all_steady(&one, &other, far).map_err(|difference| {
         let difference = difference.on("one sheet", &words::to_bytes(&first));
         difference.on("the other sheet", &words::to_bytes(&second))
-    })
+    })?;
+    reached.count(PAIR);
+    for code in words::line_codes(&first) {
+        reached.count(&code_label(code));
+    }
+    Ok(())
 }
 
 /// Demands that two whole answers are as near as samples so far apart allow.
 fn all_steady(one: &Answer, other: &Answer, far: i64) -> Checked {
-    let shape = |answer: &Answer| answer.lines.iter().map(Vec::len).collect::<Vec<_>>();
+    let size = |line: &AnswerLine| (line.first, line.verdicts.len());
+    let shape = |answer: &Answer| answer.lines.iter().map(size).collect::<Vec<_>>();
     demand(shape(one) == shape(other), || "answers of unlike shape".into())?;
-    for (line, pair) in one.lines.iter().zip(&other.lines).enumerate() {
-        let unsteady = pair.0.iter().zip(pair.1).find(|(x, y)| !steady(x, y, far));
+    for (line, (one, other)) in one.lines.iter().zip(&other.lines).enumerate() {
+        let mut pairs = one.verdicts.iter().zip(&other.verdicts);
+        let unsteady = pairs.find(|(x, y)| !steady(x, y, far));
         demand(unsteady.is_none(), || {
             format!("line {line} is not steady for samples {far} apart: {unsteady:?}")
         })?;

@@ -142,7 +142,7 @@ static const char *const MEANINGS[] = {
     "there is no first line, or a 65th",
     "a line has an unknown code, signal or operand, or an unused field set",
     "a line's constant or bounds are absent, of another kind, or out of order",
-    "a line looks past the end of the recording",
+    "a line has no sample: it looks past the recording, or its operands share none",
     "the end is absent, not of kind 15, miscounted, or not the last word",
     "fewer answer words lent than needed",
     "a length in bytes cannot be",
@@ -151,27 +151,36 @@ static const char *const MEANINGS[] = {
 /* By what lookup() gives: silence is neither a yes nor a no. */
 static const char *const VERDICTS[] = {" none", " yes", " no"};
 
-/* The verdicts of a line at its first sample, by the lookup. */
-static void print_first_sample(const struct job *job, uint64_t line)
+/* The verdicts of a line at a sample of the recording, by the lookup. */
+static void print_sample(const struct job *job, uint64_t line, uint64_t sample)
 {
     uint32_t places = word_at(job->answer, 0) >> 20 & 0xFF;
-    printf("line %" PRIu64 " at sample 0:", line);
+    printf("line %" PRIu64 " at sample %" PRIu64 ":", line, sample);
     for (uint64_t place = 0; place < places; place++) {
-        uint64_t verdict = lookup(job->answer.at, job->answer.length, line, 0, place);
+        uint64_t verdict = lookup(job->answer.at, job->answer.length, line, sample, place);
         fputs(VERDICTS[verdict], stdout);
     }
     putchar('\n');
 }
 
-/* Walks an answer's words from the head to the end; kinds 9 and 11 say yes. */
+/*
+ * Walks an answer's words from the head to the end; kinds 9 and 11 say yes. A
+ * line's own word, of kind 14, tells its first sample, which need not be 0; the
+ * last line is shown there.
+ */
 static void print_lines(const struct job *job)
 {
     size_t last = (size_t)result_of(job, TECUHUALMA_WORDS) - 1;
     uint32_t counts[2] = {0, 0};
     uint64_t line = 0;
+    uint32_t first = 0;
     for (size_t index = 1; index < last; index++) {
-        uint32_t kind = word_at(job->answer, index) >> 28;
-        counts[kind == 9 || kind == 11] += kind != 14;
+        uint32_t word = word_at(job->answer, index);
+        uint32_t kind = word >> 28;
+        if (kind == 14)
+            first = word >> 12 & 0xFFF;
+        else
+            counts[kind == 9 || kind == 11]++;
         int whole = index + 1 == last || word_at(job->answer, index + 1) >> 28 == 14;
         if (!whole)
             continue;
@@ -179,7 +188,7 @@ static void print_lines(const struct job *job)
         memset(counts, 0, sizeof counts);
         line++;
     }
-    print_first_sample(job, line - 1);
+    print_sample(job, line - 1, first);
 }
 
 static void print_distance(const struct job *job)

@@ -2,14 +2,14 @@
 
 use crate::evaluation::Evaluation;
 use crate::margin::Verdict;
-use crate::sheet::{Sheet, MOST_LINES, MOST_PLACES, MOST_SAMPLES};
+use crate::sheet::{Extent, Sheet, MOST_LINES, MOST_PLACES, MOST_SAMPLES};
 use crate::words::{self, kinds};
 
 /// How many words the answer to a sheet needs: the head, for each line its
 /// word and its verdicts, and the end.
 pub fn needed(sheet: &Sheet) -> usize {
-    let line = |length: usize| 1 + length * sheet.head.places;
-    let lines: usize = sheet.lines.iter().map(|held| line(held.length)).sum();
+    let line = |extent: Extent| 1 + extent.length() * sheet.head.places;
+    let lines: usize = sheet.lines.iter().map(|held| line(held.extent)).sum();
     1 + lines + 1
 }
 
@@ -20,8 +20,8 @@ pub fn write<E: Evaluation>(sheet: &Sheet, evaluation: &E, bytes: &mut [u8]) -> 
     let mut yes_count = 0;
     writer.push(head(sheet));
     for (number, line) in sheet.lines.iter().enumerate() {
-        writer.push(words::word(kinds::ANSWER_LINE, line.length as u32));
-        for sample in 0..line.length {
+        writer.push(line_word(line.extent));
+        for sample in line.extent.samples() {
             for place in 0..sheet.head.places {
                 let verdict = evaluation.verdict(number, sample, place);
                 yes_count += u64::from(verdict.yes);
@@ -37,6 +37,12 @@ pub fn write<E: Evaluation>(sheet: &Sheet, evaluation: &E, bytes: &mut [u8]) -> 
 fn head(sheet: &Sheet) -> u32 {
     let sizes = sheet.head.places << 20 | sheet.lines.len() << 12 | sheet.head.samples;
     words::word(kinds::ANSWER_HEAD, sizes as u32)
+}
+
+/// "For each line kind 14": the first sample in bits 23..12, the length in bits
+/// 11..0, the rest zero.
+fn line_word(extent: Extent) -> u32 {
+    words::word(kinds::ANSWER_LINE, (extent.first << 12 | extent.length()) as u32)
 }
 
 struct Writer<'a> {
@@ -56,15 +62,24 @@ impl Writer<'_> {
 pub struct Answer {
     /// The number of places, n.
     pub places: usize,
-    /// For each line its verdicts, "sample outermost, then place".
-    pub lines: Vec<Vec<Verdict>>,
+    /// The lines.
+    pub lines: Vec<AnswerLine>,
+}
+
+/// A line of an answer.
+#[derive(Clone, Debug, PartialEq, Eq)]
+pub struct AnswerLine {
+    /// The first sample that it has verdicts for.
+    pub first: usize,
+    /// Its verdicts, "sample outermost, then place".
+    pub verdicts: Vec<Verdict>,
 }
 
 impl Answer {
     /// Reads the words of a lent answer, if they are "a whole answer as laid
     /// out (sizes in the head's limits; 1 to 64 lines; lengths 1 to T; kind 9
     /// not negative, kind 10 not positive, payload never -2^27; only zeros
-    /// after the end)".
+    /// after the end)", and "first plus length is at most T".
     pub fn read(words: &[u32]) -> Option<Answer> {
         let (&head, mut rest) = words.split_first()?;
         let places = words::field(head, 27, 20) as usize;
@@ -83,24 +98,38 @@ impl Answer {
         Some(Answer { places, lines })
     }
 
-    /// The verdict of a line at a sample and a place, if the answer has it.
+    /// The verdict of a line at a sample of the recording and a place, if the
+    /// answer has it.
     pub fn verdict(&self, line: u64, sample: u64, place: u64) -> Option<Verdict> {
         let line = self.lines.get(usize::try_from(line).ok()?)?;
-        let row = line.chunks(self.places).nth(usize::try_from(sample).ok()?)?;
+        let since_first = usize::try_from(sample).ok()?.checked_sub(line.first)?;
+        let row = line.verdicts.chunks(self.places).nth(since_first)?;
         row.get(usize::try_from(place).ok()?).copied()
+    }
+
+    /// A line's samples, each with its verdicts at all places.
+    pub fn rows<'a>(&self, line: &'a AnswerLine) -> impl Iterator<Item = (usize, &'a [Verdict])> {
+        (line.first..).zip(line.verdicts.chunks(self.places))
     }
 }
 
-/// "For each line kind 14: bits 11..0 length, rest zero; then its verdicts."
-fn read_line(rest: &mut &[u32], places: usize, samples: usize) -> Option<Vec<Verdict>> {
+/// A line's word, whose length is at least 1 and whose samples are samples of
+/// the recording, "then its verdicts".
+fn read_line(rest: &mut &[u32], places: usize, samples: usize) -> Option<AnswerLine> {
     let (&word, after) = rest.split_first()?;
-    let length = words::payload(word) as usize;
-    if words::kind(word) != kinds::ANSWER_LINE || !(1..=samples).contains(&length) {
+    let first = words::field(word, 23, 12) as usize;
+    let length = words::field(word, 11, 0) as usize;
+    let laid_out = words::kind(word) == kinds::ANSWER_LINE
+        && words::field(word, 27, 24) == 0
+        && length >= 1
+        && first + length <= samples;
+    if !laid_out {
         return None;
     }
     let (verdicts, after) = after.split_at_checked(length * places)?;
     *rest = after;
-    verdicts.iter().copied().map(Verdict::from_word).collect()
+    let verdicts = verdicts.iter().copied().map(Verdict::from_word).collect::<Option<_>>()?;
+    Some(AnswerLine { first, verdicts })
 }
 
 /// The end, its payload "the count of words before it", and "only zeros after

@@ -11,7 +11,7 @@ pub trait Evaluation {
     /// Evaluates every line at every sample and place where it has a verdict.
     fn evaluate(sheet: &Sheet, distances: &Distances) -> Self;
 
-    /// The verdict of a line at a sample below its length and a place.
+    /// The verdict of a line at a sample of its extent and a place.
     fn verdict(&self, line: usize, sample: usize, place: usize) -> Verdict;
 
     /// "The result carries the greatest such count, 0 without a surround."

@@ -3,9 +3,9 @@
 //! The engine reads a sheet of 32-bit words (a network of places, the samples
 //! recorded there and a table of formulas), checks it, and writes an answer
 //! of 32-bit words: for every formula, sample and place a verdict and a
-//! margin. Comments call the document that lays the engine out *the scope*
-//! and quote it; *the paper* is its source on the logic SSTL, from which the
-//! numbered definitions are taken.
+//! margin. Comments call what lays the engine out *the scope*, its base and the
+//! requests that follow it, and quote it; *the paper* is its source on the
+//! logic SSTL, from which the numbered definitions are taken.
 //!
 //! Two evaluators stand side by side and share nothing but the sheet and the
 //! distances:

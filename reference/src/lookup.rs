@@ -17,7 +17,8 @@ pub const NO: u64 = 2;
 /// out, or line, sample or place isn't in it."
 ///
 /// A fault anywhere in the bytes therefore takes away every verdict, also those
-/// before it.
+/// before it. The sample is one of the recording, so one before the line's first
+/// "isn't in it".
 pub fn lookup(answer: &[u8], line: u64, sample: u64, place: u64) -> u64 {
     let answer = words::from_bytes(answer).and_then(|words| Answer::read(&words));
     let verdict = answer.and_then(|answer| answer.verdict(line, sample, place));

@@ -18,7 +18,8 @@ pub const ANSWER_WORDS: usize = 16_384;
 /// What the printing program prints for its input, every row ended by a
 /// newline: "first row: words, rounds, yes count; then line, sample, and
 /// verdict and margin for each place; infinities as +inf, -inf; last the count
-/// of verdict rows; a refusal prints one row `refused`, number, place".
+/// of verdict rows; a refusal prints one row `refused`, number, place". Rows
+/// "keep the recording's own sample numbers".
 pub fn print<E: Evaluation>(input: &[u8]) -> String {
     // A length that is no multiple of 4 the judge refuses with the same number.
     if input.len() > MOST_BYTES {
@@ -44,8 +45,8 @@ fn accepted(outcome: &Outcome, answer: &Answer) -> String {
     let Outcome { words, rounds, yes, .. } = outcome;
     let mut text = format!("accepted {words} {rounds} {yes}\n");
     let mut rows = 0;
-    for (line, verdicts) in answer.lines.iter().enumerate() {
-        for (sample, row) in verdicts.chunks(answer.places).enumerate() {
+    for (line, held) in answer.lines.iter().enumerate() {
+        for (sample, row) in answer.rows(held) {
             let columns: String = row.iter().map(column).collect();
             push(&mut text, format_args!("{line} {sample}{columns}\n"));
             rows += 1;

@@ -24,13 +24,13 @@ pub enum Fault {
     SampleBit = 9,
     /// There is no first line, or a 65th kind 5 word.
     LineCount = 10,
-    /// Code above 11; signal not below v; operand not an earlier line; unused
+    /// Code above 14; signal not below v; operand not an earlier line; unused
     /// field not zero.
     LineWord = 11,
     /// A parameter is absent, of a wrong kind, a constant with bit 27 set, or
     /// an upper bound below the lower.
     Parameter = 12,
-    /// A line's length is below 1.
+    /// A line has no sample.
     LineLength = 13,
     /// The end is absent, not kind 15, of a wrong count, or a word follows.
     End = 14,

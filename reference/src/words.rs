@@ -89,6 +89,12 @@ pub fn indices(words: &[u32], wanted: impl Fn(u32) -> bool) -> Vec<usize> {
     (0..words.len()).filter(|&index| wanted(kind(words[index]))).collect()
 }
 
+/// The codes of the line words, in their order.
+pub fn line_codes(words: &[u32]) -> Vec<u32> {
+    let lines = words.iter().filter(|&&word| kind(word) == kinds::LINE);
+    lines.map(|&word| field(word, 27, 20)).collect()
+}
+
 /// The words that bytes hold, "each word four bytes, lowest byte first", or
 /// nothing where the length is no multiple of four.
 pub fn from_bytes(bytes: &[u8]) -> Option<Vec<u32>> {

@@ -57,7 +57,7 @@ fn results_are_in_order() {
         let outcome = outcome(&left);
         let answer = left.whole_answer().expect("a whole answer");
         assert!(outcome.rounds <= answer.places as u64);
-        let verdicts: Vec<_> = answer.lines.concat();
+        let verdicts: Vec<_> = answer.lines.iter().flat_map(|line| &line.verdicts).collect();
         let count = verdicts.iter().filter(|verdict| verdict.yes).count();
         assert_eq!(outcome.yes, count as u64);
         assert!(verdicts.iter().all(|verdict| match verdict.margin {
@@ -77,11 +77,11 @@ fn lookups_find_their_word() {
         let (places, lines) = (words[0] >> 20 & 0xFF, words[0] >> 12 & 0xFF);
         let mut index = 1;
         for line in 0..u64::from(lines) {
-            let length = (words[index] & 0xFFF).min(8);
+            let (first, length) = (words[index] >> 12 & 0xFFF, (words[index] & 0xFFF).min(8));
             for at in 0..length * places {
                 let word = words[index + 1 + at as usize];
                 let expected = if matches!(word >> 28, 9 | 11) { 1 } else { 2 };
-                let (sample, place) = (at / places, at % places);
+                let (sample, place) = (first + at / places, at % places);
                 let found = lookup(&left.answer, line, sample.into(), place.into());
                 assert_eq!(found, expected);
             }

@@ -7,7 +7,7 @@ use reference::answer::Answer;
 use reference::fast::Fast;
 use reference::generate::random::Random;
 use reference::generate::{aim, answers, case, limits, rounds, valid, Case};
-use reference::sheet::{check, DISTANCE_ENTRIES};
+use reference::sheet::{check, Reach, DISTANCE_ENTRIES};
 
 #[test]
 fn a_seed_determines_its_case() {
@@ -19,7 +19,7 @@ fn a_seed_determines_its_case() {
 
 #[test]
 fn valid_sheets_are_accepted_and_use_every_code() {
-    let mut used = [0; 12];
+    let mut used = [0; 15];
     for seed in 0..500 {
         let words = valid::sheet(&mut Random::new(seed), 64);
         let sheet = check(&words, DISTANCE_ENTRIES).expect("a valid sheet");
@@ -28,6 +28,27 @@ fn valid_sheets_are_accepted_and_use_every_code() {
         }
     }
     assert!(used.iter().all(|&count| count > 50), "{used:?}");
+}
+
+/// Lines that begin late under lines that end early, and the other way round.
+#[test]
+fn valid_sheets_look_both_ways() {
+    let (mut back_of_early, mut ahead_of_late, mut last_sample) = (0, 0, 0);
+    for seed in 0..2000 {
+        let words = valid::sheet(&mut Random::new(seed), 4);
+        let sheet = check(&words, DISTANCE_ENTRIES).expect("a valid sheet");
+        for line in &sheet.lines {
+            let operand = line.operator.operands()[0].map(|line| sheet.lines[line].extent);
+            let begins_late = operand.is_some_and(|extent| extent.first > 0);
+            let ends_early = operand.is_some_and(|extent| extent.end < sheet.head.samples);
+            let reach = line.operator.reach();
+            back_of_early += u32::from(ends_early && matches!(reach, Reach::Back(1..)));
+            ahead_of_late += u32::from(begins_late && matches!(reach, Reach::Ahead(1..)));
+            last_sample += u32::from(line.extent.first == sheet.head.samples - 1);
+        }
+    }
+    let counts = [back_of_early, ahead_of_late, last_sample];
+    assert!(counts.iter().all(|&count| count > 50), "{counts:?}");
 }
 
 #[test]
@@ -68,7 +89,7 @@ fn limits_are_reached() {
 fn the_largest_sheet_is_judged() {
     let words = valid::largest_sheet(&mut Random::new(1));
     assert!(words.len() > 16 * 64 * 1024);
-    let left = judged_by::<Fast>(&Case::of(&words, 2 + 5 * (1 + 64 * 1024)));
+    let left = judged_by::<Fast>(&Case::of(&words, 2 + 6 * (1 + 64 * 1024)));
     assert_eq!(left.number, 0);
 }
 
@@ -90,7 +111,7 @@ fn verdicts_wander_where_margins_rest() {
         let words = rounds::wandering_verdicts(&mut Random::new(seed), 64);
         let left = judged_by::<Fast>(&Case::of(&words, 2 + 7 * (1 + 33 * 64)));
         let answer = left.whole_answer().expect("a whole answer");
-        assert!(answer.lines[5].iter().all(|verdict| *verdict == no(0)), "seed {seed}");
+        assert!(answer.lines[5].verdicts.iter().all(|verdict| *verdict == no(0)), "seed {seed}");
         few += u64::from(answer.places > 8 && outcome(&left).rounds < 5);
     }
     assert!(few > 5, "{few}");

@@ -101,13 +101,68 @@ fn the_lines() {
         for kind in (0..16).filter(|&kind| kind != 14) {
             assert!(!whole_with(index, words::word(kind, length)));
         }
-        for bit in 12..28 {
+        for bit in 24..28 {
             assert!(!whole_with(index, words::word(14, length | 1 << bit)));
         }
         for other in (0..5).filter(|&other| other != length) {
             assert!(!whole_with(index, words::word(14, other)));
         }
     }
+}
+
+/// Laid out as it is counted, but a length is at least 1: the verdict of the
+/// other line is gone too.
+#[test]
+fn a_line_without_a_sample() {
+    for empty in [0xE000_0000, 0xE000_1000, 0xE000_2000] {
+        let words = [0xD010_2002, empty, 0xE000_0001, 0x9000_0000, 0xF000_0004];
+        assert_eq!(look(&words, 1, 0, 0), 0);
+    }
+    let words = [0xD010_2002, 0xE000_1001, 0x9000_0000, 0xE000_0001, 0x9000_0000, 0xF000_0005];
+    assert_eq!(look(&words, 1, 0, 0), 1);
+}
+
+/// First plus length is at most T, which is 2: only line 1, of length 1, has
+/// room for another first sample.
+#[test]
+fn the_first_samples() {
+    for index in [1, 6, 9, 14] {
+        let length = words::payload(answer()[index]);
+        for first in [1, 2, 3, 1023, 1024, 2048, 4095] {
+            let fits = first + length <= 2;
+            assert_eq!(whole_with(index, words::word(14, first << 12 | length)), fits);
+        }
+    }
+    let mut moved = answer();
+    moved[6] = words::word(14, 1 << 12 | 1);
+    assert_eq!([0, 1, 2].map(|sample| look(&moved, 1, sample, 0)), [0, 1, 0]);
+}
+
+/// A T that leaves no room for a line's first sample takes away every verdict.
+#[test]
+fn a_first_sample_and_a_lesser_t() {
+    let words = answer_words(&judged_words(&LOOKING_BACK));
+    let with_t = |samples: u32| {
+        let mut words = words.clone();
+        words[0] = words::word(13, 1 << 20 | 4 << 12 | samples);
+        whole(&words)
+    };
+    assert_eq!([3, 4, 5, 1024].map(with_t), [false, true, true, true]);
+    let mut words = words.clone();
+    words[6] = words::word(14, 3 << 12 | 2);
+    assert!(!whole(&words));
+    words[0] = words::word(13, 1 << 20 | 4 << 12 | 5);
+    assert!(whole(&words));
+}
+
+#[test]
+fn around_a_late_line() {
+    let words = answer_words(&judged_words(&LOOKING_BACK));
+    for beyond in [4, 1 << 32, (1 << 32) + 2, u64::MAX, u64::MAX - 1] {
+        assert_eq!(look(&words, 1, beyond, 0), 0);
+    }
+    assert_eq!([0, 1, 2, 3].map(|sample| look(&words, 1, sample, 0)), [0, 0, 1, 1]);
+    assert_eq!(look(&words, 1, 2, 1), 0);
 }
 
 #[test]

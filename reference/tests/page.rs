@@ -6,6 +6,7 @@ use common::*;
 use reference::fast::Fast;
 use reference::page;
 use reference::print::print;
+use reference::sheet::LAST_CODE;
 use reference::words;
 
 fn printed(words: &[u32]) -> String {
@@ -33,6 +34,24 @@ fn example_a_as_a_file() {
 fn the_worked_network() {
     let sheet = page::words("words network-sheet");
     assert_eq!(printed(&sheet), page::block("rows network-printed").join("\n") + "\n");
+}
+
+#[test]
+fn looking_back() {
+    let sheet = page::words("words back-sheet");
+    assert_eq!(sheet, LOOKING_BACK);
+    let answer = page::words("words back-answer");
+    assert_eq!(answer_words(&judged_words(&sheet))[..answer.len()], answer);
+    assert_eq!(outcome(&judged_words(&sheet)).words, answer.len() as u64);
+    assert_eq!(printed(&sheet), page::block("rows back-printed").join("\n") + "\n");
+}
+
+/// The page's table of codes has a row for each that there is, and no other.
+#[test]
+fn every_code_has_its_row() {
+    let rows = page::rows().skip_while(|row| !row.starts_with("| Code |")).skip(2);
+    let codes = rows.map_while(|row| row.split('|').nth(1)?.trim().parse::<u32>().ok());
+    assert_eq!(codes.collect::<Vec<_>>(), (0..=LAST_CODE).collect::<Vec<_>>());
 }
 
 /// Every block of words that is a sheet is among those that others try too.

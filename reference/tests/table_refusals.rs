@@ -23,13 +23,18 @@ fn bounded(code: u32, lower: u32, upper: u32) -> (u64, u64) {
     refused(&two_lines().bounded(code, 0, 0, (lower, upper)).end())
 }
 
-const BOUNDED: [u32; 6] = [5, 6, 7, 9, 10, 11];
-const TIMED: [u32; 3] = [5, 9, 10];
+const BOUNDED: [u32; 9] = [5, 6, 7, 9, 10, 11, 12, 13, 14];
+const TIMED: [u32; 6] = [5, 9, 10, 12, 13, 14];
 
 #[test]
-fn number_11_codes_above_11() {
-    for code in [12, 13, 64, 128, 255] {
+fn number_11_codes_above_14() {
+    for code in [15, 16, 64, 128, 255] {
         assert_eq!(third(code, 0, 0), (11, 10));
+        assert_eq!(bounded(code, 0, 0), (11, 10));
+    }
+    for code in 12..=14 {
+        let words = two_lines().bounded(code, 0, 0, (0, 0)).end();
+        assert_eq!(judged_words(&words).number, 0);
     }
 }
 
@@ -47,16 +52,16 @@ fn number_11_signals_not_below_v() {
 #[test]
 fn number_11_operands_that_are_no_earlier_lines() {
     for operand in [2, 3, 64, 1023] {
-        for code in [3, 4, 5, 6, 7, 8, 9, 10, 11] {
+        for code in 3..=14 {
             assert_eq!(third(code, operand, 0), (11, 10));
         }
-        for code in [4, 5, 7, 8] {
+        for code in [4, 5, 7, 8, 12] {
             assert_eq!(third(code, 0, operand), (11, 10));
             assert_eq!(third(code, 1, operand), (11, 10));
         }
     }
     let first = SheetBuilder::new(1, 1, 1).samples(&[0]);
-    for code in 3..=11 {
+    for code in 3..=14 {
         assert_eq!(refused(&first.clone().line(code, 0, 0).end()), (11, 2));
     }
 }
@@ -65,7 +70,7 @@ fn number_11_operands_that_are_no_earlier_lines() {
 fn number_11_unused_fields() {
     for field in [1, 2, 512, 1023] {
         assert_eq!(third(0, field, 0), (11, 10));
-        for code in [0, 1, 2, 3, 6, 9, 10, 11] {
+        for code in [0, 1, 2, 3, 6, 9, 10, 11, 13, 14] {
             assert_eq!(third(code, 0, field), (11, 10));
         }
     }
@@ -149,7 +154,7 @@ fn number_13_counts_the_lesser_operand() {
 fn number_13_comes_before_what_follows() {
     let line = two_lines().bounded(10, 0, 0, (0, 3));
     assert_eq!(refused(&line.clone().words()), (13, 10));
-    assert_eq!(refused(&line.clone().line(12, 0, 0).end()), (13, 10));
+    assert_eq!(refused(&line.clone().line(15, 0, 0).end()), (13, 10));
     assert_eq!(refused(&line.word(kinds::END, 0).words()), (13, 10));
 }
 

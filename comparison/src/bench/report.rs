@@ -1,13 +1,16 @@
 //! What is timed, and the rows that tell it.
 
-use super::{sheets, timed, Times};
+use super::sheets::{self, BothWays};
+use super::{timed, Times};
 use crate::Engine;
+use std::time::Duration;
 
 /// Times the three sheets of the benchmark, then how time grows with samples,
-/// places, lines, windows of time and ranges; prints a row for each.
+/// places, lines, windows of time and ranges; prints a row for each. Last come
+/// windows ahead beside the same windows back.
 pub fn print(engine: &dyn Engine) {
     section("The three sheets, 64 places and 1,024 samples");
-    row(engine, "8×8 grid, every code", &sheets::full_grid());
+    row(engine, "8×8 grid, codes 0 to 11", &sheets::full_grid());
     row(engine, "path", &sheets::path());
     row(engine, "full graph of 2,016 roads", &sheets::full_graph());
     by_samples(engine);
@@ -15,17 +18,18 @@ pub fn print(engine: &dyn Engine) {
     by_lines(engine);
     by_windows(engine);
     by_ranges(engine);
+    both_ways(engine);
 }
 
 fn by_samples(engine: &dyn Engine) {
-    section("By samples: 8×8 grid, every code");
+    section("By samples: 8×8 grid, codes 0 to 11");
     for samples in [1, 8, 16, 64, 256, 1024] {
         row(engine, &format!("samples: {samples}"), &sheets::grid(8, samples));
     }
 }
 
 fn by_places(engine: &dyn Engine) {
-    section("By places: square grids, every code, 256 samples");
+    section("By places: square grids, codes 0 to 11, 256 samples");
     for side in [2, 3, 4, 5, 6, 7, 8] {
         row(engine, &format!("places: {}", side * side), &sheets::grid(side, 256));
     }
@@ -52,6 +56,26 @@ fn by_ranges(engine: &dyn Engine) {
     }
 }
 
+/// Bounds of the windows that are timed both ways.
+const BOTH_WAYS: [(u32, u32); 7] =
+    [(0, 4), (0, 16), (0, 64), (0, 256), (0, 512), (16, 16), (256, 512)];
+
+fn both_ways(engine: &dyn Engine) {
+    println!("\nAhead and back: 8×8 grid, 1,024 samples, the same windows both ways");
+    println!("{:28}{:^36}{:^36}", "", "engine", "implementation");
+    let columns = format!("{:>12}{:>12}{:>12}", "ahead", "back", "back/ahead");
+    println!("{:28}{columns}{columns}", "");
+    for (lower, upper) in BOTH_WAYS {
+        let sheets = sheets::until_and_since((lower, upper));
+        pair(engine, &format!("until, since {lower}..{upper}"), &sheets);
+    }
+    println!("Eventually and always; once and historically");
+    for (lower, upper) in BOTH_WAYS {
+        let sheets = sheets::windows_both_ways((lower, upper));
+        pair(engine, &format!("{lower}..{upper}"), &sheets);
+    }
+}
+
 fn section(title: &str) {
     println!("\n{title}");
     println!("{:28}{:>8}{:>12}{:>16}{:>8}", "", "rounds", "engine", "implementation", "share");
@@ -60,11 +84,27 @@ fn section(title: &str) {
 fn row(engine: &dyn Engine, name: &str, words: &[u32]) {
     let times = timed(engine, words);
     let Times { engine, implementation, rounds } = times;
-    let milliseconds = |time: std::time::Duration| format!("{:.2} ms", time.as_secs_f64() * 1e3);
     println!(
         "{name:28}{rounds:>8}{:>12}{:>16}{:>8.2}",
         milliseconds(engine),
         milliseconds(implementation),
         times.share()
     );
+}
+
+fn pair(engine: &dyn Engine, name: &str, sheets: &BothWays) {
+    let (ahead, back) = (timed(engine, &sheets.ahead), timed(engine, &sheets.back));
+    let columns = |ahead: Duration, back: Duration| {
+        let ratio = back.as_secs_f64() / ahead.as_secs_f64();
+        format!("{:>12}{:>12}{ratio:>12.2}", milliseconds(ahead), milliseconds(back))
+    };
+    println!(
+        "{name:28}{}{}",
+        columns(ahead.engine, back.engine),
+        columns(ahead.implementation, back.implementation)
+    );
+}
+
+fn milliseconds(time: Duration) -> String {
+    format!("{:.2} ms", time.as_secs_f64() * 1e3)
 }

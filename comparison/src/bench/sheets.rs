@@ -9,11 +9,11 @@ const SAMPLES: u32 = 1024;
 /// The most places.
 const PLACES: u32 = 64;
 
-/// A square grid of so many places a side with every code, two signals and so
+/// A square grid of so many places a side with codes 0 to 11, two signals and so
 /// many samples.
 pub fn grid(side: u32, samples: u32) -> Vec<u32> {
     let sheet = grid_network(side, samples);
-    every_code(sheet, samples).end()
+    codes_0_to_11(sheet, samples).end()
 }
 
 /// The 8×8 grid, full length.
@@ -53,8 +53,8 @@ fn drifting(side: u32, samples: u32, random: &mut Random) -> Vec<i32> {
     (0..points).map(number).collect()
 }
 
-/// Every code once, and two surrounds more with other bounds.
-fn every_code(sheet: SheetBuilder, samples: u32) -> SheetBuilder {
+/// Codes 0 to 11 once each, and two surrounds more with other bounds.
+fn codes_0_to_11(sheet: SheetBuilder, samples: u32) -> SheetBuilder {
     let ahead = 20.min(samples / 4);
     // Of few samples no line can look at another than its own.
     let next = ahead.min(1);
@@ -136,6 +136,34 @@ pub fn grid_of_windows(ahead: u32) -> Vec<u32> {
         .bounded(9, 0, 0, (0, ahead))
         .bounded(10, 1, 0, (0, ahead))
         .end()
+}
+
+/// Two sheets of the same words but for codes: one looks ahead, the other back.
+pub struct BothWays {
+    /// The sheet that looks ahead.
+    pub ahead: Vec<u32>,
+    /// The sheet that looks back, over the same windows.
+    pub back: Vec<u32>,
+}
+
+/// The 8×8 grid with until in the one sheet, since in the other.
+pub fn until_and_since(bounds: (u32, u32)) -> BothWays {
+    let sheet = |code: u32| two_conditions().bounded(code, 0, 1, bounds).end();
+    BothWays { ahead: sheet(5), back: sheet(12) }
+}
+
+/// The 8×8 grid with eventually and always in the one sheet, once and
+/// historically in the other.
+pub fn windows_both_ways(bounds: (u32, u32)) -> BothWays {
+    let sheet = |some: u32, all: u32| {
+        two_conditions().bounded(some, 0, 0, bounds).bounded(all, 1, 0, bounds).end()
+    };
+    BothWays { ahead: sheet(9, 10), back: sheet(13, 14) }
+}
+
+/// The 8×8 grid with a line for each of its signals.
+fn two_conditions() -> SheetBuilder {
+    grid_network(8, SAMPLES).at_least(0, -20).at_most(1, 10)
 }
 
 /// The 8×8 grid with no surround: somewhere and everywhere up to a distance.

@@ -11,7 +11,7 @@ mod library;
 
 use comparison::compare::Comparison;
 use comparison::difference::Difference;
-use comparison::printing::Program;
+use comparison::printing::{Printer, Program};
 use library::Library;
 use reference::words::BYTES_PER_WORD;
 use std::process::ExitCode;
@@ -33,7 +33,8 @@ fn main() -> ExitCode {
     if program.is_none() {
         println!("no printing program given: not compared");
     }
-    let mut comparison = Comparison::new(&Library, program);
+    let printer = program.as_ref().map(|program| program as &dyn Printer);
+    let mut comparison = Comparison::new(&Library, printer);
     if let Err(difference) = comparison.page() {
         println!("comparison: a sheet of docs/SHEETS.md");
         tell(&difference);

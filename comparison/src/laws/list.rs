@@ -1,19 +1,20 @@
-//! The laws.
+//! The laws, and those of them that do not look back.
 
+use super::back;
 use super::table::{Bounds, Table};
 use super::{Law, Pair};
 use reference::generate::random::Random;
 use reference::sheet::GREATEST_WEIGHT as GREATEST;
 
-const AND: u32 = 4;
+pub const AND: u32 = 4;
 const SOMEWHERE: u32 = 6;
-const OR: u32 = 8;
-const EVENTUALLY: u32 = 9;
-const ALWAYS: u32 = 10;
+pub const OR: u32 = 8;
+pub const EVENTUALLY: u32 = 9;
+pub const ALWAYS: u32 = 10;
 const EVERYWHERE: u32 = 11;
 
 /// All laws.
-pub const LAWS: [Law; 17] = [
+pub const LAWS: [Law; 26] = [
     ("not not left is left", not_not),
     ("or is not (not left and not right)", or_is_not_and),
     ("and exchanges its sides", and_exchanges),
@@ -31,10 +32,21 @@ pub const LAWS: [Law; 17] = [
     ("surround by true is left", surround_by_true),
     ("surround grows with its bounds", surround_grows),
     ("surround by both is no more than by one", surround_of_both),
+    ("once is true since left", back::once_is_since),
+    ("historically is not once not, and once not historically not", back::historically_is_not_once),
+    ("since 0..0 is and", back::since_now),
+    ("since takes one step at a time", back::since_unrolled),
+    ("since that waits takes one step at a time", back::since_waits),
+    ("since goes through or", back::since_of_or),
+    ("windows back add up", back::windows_back_add_up),
+    ("looking ahead and looking back exchange", back::ahead_and_back_exchange),
+    ("a step back and a step ahead lead to the present", back::one_sample_back),
 ];
 
-fn two(table: &Table, random: &mut Random) -> Pair {
-    (table.any(random), table.any(random))
+/// Two lines that have a sample in common.
+pub fn two(table: &Table, random: &mut Random) -> Pair {
+    let left = table.any(random);
+    (left, table.any_with(random, &[left]))
 }
 
 /// Bounds of distance, mostly of a few roads.
@@ -174,7 +186,7 @@ fn surround_grows(table: &mut Table, random: &mut Random) -> Option<Pair> {
 
 fn surround_of_both(table: &mut Table, random: &mut Random) -> Option<Pair> {
     let (left, right) = two(table, random);
-    let other = table.any(random);
+    let other = table.any_with(random, &[left, right]);
     let bounds = distances(random);
     let both = table.join(AND, right, other);
     let by_both = table.surround(left, both, bounds);

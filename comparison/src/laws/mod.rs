@@ -1,6 +1,7 @@
 //! Laws of the logic, on the engine alone: in one table stand two lines that
 //! must say the same at every sample and place, verdict and margin.
 
+mod back;
 mod list;
 mod table;
 

@@ -1,5 +1,6 @@
 //! What an accepted sheet and its answer show.
 
+use super::extents;
 use reference::distance::NO_DISTANCE;
 use reference::generate::Case;
 use reference::judge::BYTES_PER_DISTANCE;
@@ -53,7 +54,11 @@ const IN_ANSWER: [(&str, u32); 6] = [
 pub fn labels() -> Vec<String> {
     let codes = (0..=LAST_CODE).map(code_label);
     let rest = IN_SHEET.iter().chain(&LENT).chain(IN_ANSWER.iter().map(|(label, _)| label));
-    codes.chain(rest.map(|text| label(text))).collect()
+    let extents = extents::labels();
+    codes
+        .chain(rest.map(|text| label(text)))
+        .chain(extents.iter().map(|text| label(text)))
+        .collect()
 }
 
 fn label(text: &str) -> String {
@@ -64,7 +69,7 @@ fn code_label(code: u32) -> String {
     format!("code {code}")
 }
 
-/// The labels of an accepted case, a code once for each of its lines.
+/// The labels of an accepted case, a code and an extent once for each line.
 pub fn shown(words: &[u32], case: &Case, left: &Left) -> Vec<String> {
     let Ok(sheet) = sheet::check(words, DISTANCE_ENTRIES) else {
         return Vec::new();
@@ -76,6 +81,7 @@ pub fn shown(words: &[u32], case: &Case, left: &Left) -> Vec<String> {
         .chain(shown.map(|(text, _)| label(text)))
         .chain(lent(case, left).map(label))
         .chain(in_answer(left))
+        .chain(extents::shown(&sheet).iter().map(|text| label(text)))
         .collect()
 }
 
@@ -120,25 +126,11 @@ fn surrounds_in_circles(sheet: &Sheet) -> bool {
 fn deepest(lines: &[Line]) -> usize {
     let mut depths: Vec<usize> = Vec::new();
     for line in lines {
-        let below = operands(&line.operator).map(|operand| operand.map_or(0, |line| depths[line]));
+        let operands = line.operator.operands();
+        let below = operands.map(|operand| operand.map_or(0, |line| depths[line]));
         depths.push(1 + below[0].max(below[1]));
     }
     depths.into_iter().max().unwrap_or(0)
-}
-
-fn operands(operator: &Operator) -> [Option<usize>; 2] {
-    match *operator {
-        Operator::True | Operator::AtLeast { .. } | Operator::AtMost { .. } => [None, None],
-        Operator::Not { left }
-        | Operator::Somewhere { left, .. }
-        | Operator::Eventually { left, .. }
-        | Operator::Always { left, .. }
-        | Operator::Everywhere { left, .. } => [Some(left), None],
-        Operator::And { left, right }
-        | Operator::Until { left, right, .. }
-        | Operator::Surround { left, right, .. }
-        | Operator::Or { left, right } => [Some(left), Some(right)],
-    }
 }
 
 fn lent(case: &Case, left: &Left) -> impl Iterator<Item = &'static str> {

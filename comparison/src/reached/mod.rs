@@ -3,11 +3,16 @@
 //! compared what it should.
 
 mod accepted;
+mod extents;
+mod looked_up;
+mod no_sample;
 mod refused;
 mod setting;
 
+pub use looked_up::LookedUp;
+
 use crate::laws::LAWS;
-use crate::lookups;
+use crate::{mirror, steadiness};
 use reference::generate::Case;
 use reference::left::Left;
 use reference::words;
@@ -23,14 +28,14 @@ pub struct Reached {
 impl Default for Reached {
     fn default() -> Self {
         let numbers = (0..=16).map(|number| format!("number {number}"));
-        let lookups = lookups::LABELS.iter().map(|label| label.to_string());
         let laws = LAWS.iter().map(|(name, _)| format!("law: {name}"));
         let labels = numbers
             .chain(refused::labels())
             .chain(accepted::labels())
-            .chain(lookups)
+            .chain(looked_up::labels())
             .chain(laws)
-            .chain(["steadiness of two sheets".into()]);
+            .chain(mirror::labels())
+            .chain(steadiness::labels());
         Reached::of(labels.collect())
     }
 }

@@ -1,6 +1,7 @@
 //! The kinds of places that a refusal strikes.
 
-use super::setting;
+use super::extents::WITH_TWO;
+use super::{no_sample, setting};
 use reference::generate::Case;
 use reference::judge::{BYTES_PER_DISTANCE, RESULT_BYTES};
 use reference::sheet::{LAST_CODE, MOST_PLACES, MOST_SAMPLES, MOST_SIGNALS};
@@ -10,14 +11,14 @@ use reference::words::{self, kinds, BYTES_PER_WORD};
 const WITH_CONSTANT: [u32; 2] = [1, 2];
 
 /// Codes that are followed by bounds.
-const WITH_BOUNDS: [u32; 6] = [5, 6, 7, 9, 10, 11];
+const WITH_BOUNDS: [u32; 9] = [5, 6, 7, 9, 10, 11, 12, 13, 14];
 
-/// Codes whose bounds are of time.
-const TIMED: [u32; 3] = [5, 9, 10];
-
-/// What a field of a line word can be refused for.
-const FIELDS: [&str; 5] =
-    ["signal", "left operand", "right operand", "unused left field", "unused right field"];
+/// What the fields of a line word can stand for.
+const SIGNAL: &str = "signal";
+const LEFT_OPERAND: &str = "left operand";
+const RIGHT_OPERAND: &str = "right operand";
+const UNUSED_LEFT: &str = "unused left field";
+const UNUSED_RIGHT: &str = "unused right field";
 
 /// What is told of a word that is missing, and of one of another kind.
 const ABSENT: &str = "absent";
@@ -25,7 +26,7 @@ const OTHER_KIND: &str = "another kind";
 
 /// All labels.
 pub fn labels() -> Vec<String> {
-    let fixed: [(u64, &[&str]); 12] = [
+    let fixed: [(u64, &[&str]); 11] = [
         (1, &["no entry", "an entry short", "some entries"]),
         (2, &[ABSENT, OTHER_KIND]),
         (3, &["places 0", "signals 0", "samples 0", "65 places or more", "17 signals or more"]),
@@ -34,7 +35,6 @@ pub fn labels() -> Vec<String> {
         (6, &["pair repeated", "pair lower"]),
         (7, &[ABSENT, OTHER_KIND, "weight 0"]),
         (8, &[ABSENT, OTHER_KIND]),
-        (11, &FIELDS),
         (10, &[ABSENT, "an end", "a sample", OTHER_KIND, "65th line"]),
         (14, &[ABSENT, OTHER_KIND, "wrong count", "a word follows"]),
         (15, &["a word short", "no word", "some words"]),
@@ -44,11 +44,31 @@ pub fn labels() -> Vec<String> {
         fixed.iter().flat_map(|(number, shown)| shown.iter().map(|text| label(*number, text)));
     of_fixed
         .chain(of_bytes.iter().map(|text| label(16, text)))
-        .chain((0..=LAST_CODE + 1).map(|code| label(11, &code_text(code))))
+        .chain(line_word_labels())
         .chain(parameter_labels())
-        .chain(TIMED.iter().map(|&code| label(13, &code_text(code))))
+        .chain(no_sample::texts().iter().map(|text| label(13, text)))
         .chain(setting::labels().map(|(number, text)| label(number, text)))
         .collect()
+}
+
+/// 11 for each code and field, and for codes that there are not.
+fn line_word_labels() -> Vec<String> {
+    let known = (0..=LAST_CODE).flat_map(|code| {
+        let (left, right) = fields(code);
+        [left, right].map(|field| format!("code {code}, {field}"))
+    });
+    let unknown = [LAST_CODE + 1, LAST_CODE + 2].map(unknown_text);
+    known.chain(unknown).map(|text| label(11, &text)).collect()
+}
+
+/// What the fields of a line word of this code stand for.
+fn fields(code: u32) -> (&'static str, &'static str) {
+    let left = match code {
+        0 => UNUSED_LEFT,
+        1 | 2 => SIGNAL,
+        _ => LEFT_OPERAND,
+    };
+    (left, if WITH_TWO.contains(&code) { RIGHT_OPERAND } else { UNUSED_RIGHT })
 }
 
 /// 12 for each code and parameter: absent, another kind, and its own fault.
@@ -73,9 +93,10 @@ fn parameter_label(code: u32, parameter: &str, fault: &str) -> String {
     label(12, &format!("code {code}, {parameter}, {fault}"))
 }
 
-fn code_text(code: u32) -> String {
-    if code > LAST_CODE {
-        "code above 11".into()
+/// The first code that there is not is told from those above it.
+fn unknown_text(code: u32) -> String {
+    if code > LAST_CODE + 1 {
+        format!("code above {}", LAST_CODE + 1)
     } else {
         format!("code {code}")
     }
@@ -103,7 +124,7 @@ fn fault(words: &[u32], case: &Case, number: u64, place: usize) -> Vec<String> {
         10 => vec![line_there(word)],
         11 => return line_word(words, place),
         12 => return vec![parameter(words, place)],
-        13 => return vec![label(13, &code_text(code(words[place])))],
+        13 => return no_sample::shown(words, place).iter().map(|text| label(13, text)).collect(),
         14 => vec![end_there(words, place)],
         15 => vec![answer_words(case, words)],
         16 => odd_lengths(case),
@@ -141,25 +162,24 @@ fn limits(head: u32) -> Vec<&'static str> {
     outside.iter().filter(|(_, outside)| *outside).map(|(text, _)| *text).collect()
 }
 
-/// The code of a refused line word, and each of its fields that is at fault.
+/// The code of a refused line word with each of its fields that is at fault.
 fn line_word(words: &[u32], place: usize) -> Vec<String> {
     let word = words[place];
     let code = code(word);
+    if code > LAST_CODE {
+        return vec![label(11, &unknown_text(code))];
+    }
     let signals = words::field(words[0], 19, 12);
     let earlier = words::indices(&words[..place], |kind| kind == kinds::LINE).len() as u32;
-    let (left, right) = (words::field(word, 19, 10), words::field(word, 9, 0));
-    let is_known = code <= LAST_CODE;
-    let (takes_left, takes_right) = (is_known && code > 2, matches!(code, 4 | 5 | 7 | 8));
-    let faults = [
-        WITH_CONSTANT.contains(&code) && left >= signals,
-        takes_left && left >= earlier,
-        takes_right && right >= earlier,
-        code == 0 && left > 0,
-        is_known && !takes_right && right > 0,
-    ];
-    let found = FIELDS.iter().zip(faults).filter(|(_, found)| *found);
-    let fields = found.map(|(text, _)| label(11, text));
-    std::iter::once(label(11, &code_text(code))).chain(fields).collect()
+    let fits = |field: u32, stands_for: &str| match stands_for {
+        SIGNAL => field < signals,
+        LEFT_OPERAND | RIGHT_OPERAND => field < earlier,
+        _ => field == 0,
+    };
+    let (left, right) = fields(code);
+    let written = [(words::field(word, 19, 10), left), (words::field(word, 9, 0), right)];
+    let faulty = written.iter().filter(|(field, stands_for)| !fits(*field, stands_for));
+    faulty.map(|(_, stands_for)| label(11, &format!("code {code}, {stands_for}"))).collect()
 }
 
 fn road_places(word: u32) -> &'static str {

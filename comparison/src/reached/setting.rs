@@ -1,6 +1,7 @@
 //! Where a refusal strikes: in how large a sheet, how far behind in it, just
 //! beyond which limit, and beside what else that would be refused later.
 
+use super::extents::{AHEAD, BACK};
 use reference::answer;
 use reference::generate::Case;
 use reference::judge::BYTES_PER_DISTANCE;
@@ -15,7 +16,7 @@ type Setting = (&'static str, &'static [u64], fn(&Struck) -> bool);
 /// Numbers of faults behind a right head.
 const BEHIND_HEAD: [u64; 12] = [4, 5, 6, 7, 8, 9, 10, 11, 12, 13, 14, 15];
 
-const SETTINGS: [Setting; 13] = [
+const SETTINGS: [Setting; 14] = [
     ("40 places or more", &BEHIND_HEAD, |struck| struck.places() >= 40),
     ("above 8 samples", &BEHIND_HEAD, |struck| struck.samples() > 8),
     ("place above 255", &BEHIND_HEAD, |struck| struck.place > 255),
@@ -24,7 +25,8 @@ const SETTINGS: [Setting; 13] = [
     ("in the 64th line", &[11, 12, 13], |struck| struck.lines() == MOST_LINES),
     ("place 64 of 64", &[5], |struck| struck.is_second_place_64()),
     ("signal 16 of 16", &[11], |struck| struck.is_signal_16()),
-    ("1,024 ahead in 1,024 samples", &[13], |struck| struck.is_ahead_1024()),
+    ("1,024 ahead in 1,024 samples", &[13], |struck| struck.is_far_1024(&AHEAD)),
+    ("1,024 back in 1,024 samples", &[13], |struck| struck.is_far_1024(&BACK)),
     ("a faulty sheet besides", &[1, 16], |struck| struck.is_faulty_besides()),
     ("a short answer besides", &[1, 16], |struck| struck.is_short_besides()),
     ("under 4,096 distances besides", &[16], |struck| struck.has_few_distances()),
@@ -93,9 +95,11 @@ impl Struck<'_> {
     }
 
     /// The upper bound stands two words behind its line word.
-    fn is_ahead_1024(&self) -> bool {
+    fn is_far_1024(&self, codes: &[u32]) -> bool {
         let upper = self.words.get(self.place + 2);
-        self.samples() == MOST_SAMPLES && upper == Some(&words::word(kinds::UPPER, 1024))
+        let is_of_code = codes.contains(&words::field(self.word(), 27, 20));
+        let is_1024 = upper == Some(&words::word(kinds::UPPER, 1024));
+        self.samples() == MOST_SAMPLES && is_of_code && is_1024
     }
 
     fn is_faulty_besides(&self) -> bool {

@@ -1,6 +1,7 @@
 //! Engines that do the right thing and then spoil what they leave.
 
 use super::caught;
+use crate::reached::Reached;
 use crate::{steadiness, Engine, Filled, Implementation};
 use reference::generate::random::Random;
 use reference::judge::Outcome;
@@ -32,7 +33,7 @@ fn assert_caught(spoil: Spoil) {
     assert!(caught(&Spoilt(spoil)).is_some());
 }
 
-/// Changes every word of an answer that is a verdict of this kind.
+/// Changes every word of an answer that is of this kind.
 fn change_words(answer: &mut [u8], kind: u32, change: impl Fn(u32) -> u32) {
     for chunk in answer.chunks_exact_mut(4) {
         let word = chunk.iter().rev().fold(0, |word, &byte| word << 8 | u32::from(byte));
@@ -71,9 +72,33 @@ fn margins_doubled_are_not_steady() {
     let engine = Spoilt(|_, answer, _| {
         change_words(answer, kinds::YES, |word| words::word(kinds::YES, word << 1 & 0x7FF_FFFF))
     });
-    let mut random = Random::new(1);
-    let found = (0..1_000).find_map(|_| steadiness::check(&engine, &mut random).err());
+    let (mut random, mut reached) = (Random::new(1), Reached::default());
+    let found =
+        (0..1_000).find_map(|_| steadiness::check(&engine, &mut random, &mut reached).err());
     assert_eq!(found.map(|difference| difference.found_on.len()), Some(2));
+}
+
+#[test]
+fn line_words_without_the_first_sample() {
+    assert_caught(|_, answer, _| {
+        change_words(answer, kinds::ANSWER_LINE, |word| word & !(0xFFF << 12))
+    });
+}
+
+#[test]
+fn line_words_with_the_end_for_the_length() {
+    assert_caught(|_, answer, _| {
+        change_words(answer, kinds::ANSWER_LINE, |word| word + words::field(word, 23, 12))
+    });
+}
+
+#[test]
+fn line_words_with_the_first_sample_a_bit_higher() {
+    assert_caught(|_, answer, _| {
+        change_words(answer, kinds::ANSWER_LINE, |word| {
+            words::word(kinds::ANSWER_LINE, (word & 0xFFF_000) << 1 | word & 0xFFF)
+        })
+    });
 }
 
 #[test]
@@ -117,25 +142,4 @@ impl Engine for Refuses {
 #[test]
 fn every_sheet_turned_back() {
     assert!(caught(&Refuses).is_some());
-}
-
-/// An engine that looks no further than the word it is asked for.
-struct Trusting;
-
-impl Engine for Trusting {
-    fn judge(&self, sheet: &[u8], left: Filled) -> u64 {
-        Implementation.judge(sheet, left)
-    }
-
-    fn lookup(&self, answer: &[u8], line: u64, sample: u64, place: u64) -> u64 {
-        let words: Vec<u32> = words::from_bytes(answer).unwrap_or_default();
-        let end = words.iter().rposition(|&word| words::kind(word) == kinds::END);
-        let known = end.map_or(&words[..], |end| &words[..=end]);
-        Implementation.lookup(&words::to_bytes(known), line, sample, place)
-    }
-}
-
-#[test]
-fn a_lookup_that_does_not_look_behind_the_end() {
-    assert!(caught(&Trusting).is_some());
 }

@@ -1,22 +1,25 @@
-//! Engines that fall into a trap of the logic: a plain evaluator, right but for
-//! the one fault it is told to make.
+//! A plain evaluator that is right but for the one fault it is told to make, and
+//! the engine over it.
 
-use super::caught;
-use crate::reached::Reached;
-use crate::{laws, Engine, Filled, Implementation};
+use crate::{Engine, Filled, Implementation};
 use reference::distance::Distances;
 use reference::evaluation::Evaluation;
-use reference::generate::random::Random;
 use reference::margin::{Margin, Verdict};
-use reference::sheet::{Bounds, Operator, Sheet};
+use reference::sheet::{Bounds, Extent, Line, Operator, Reach, Sheet};
+use std::ops::RangeInclusive;
 
 /// The faults.
-const NONE: u32 = 0;
-const SIGN: u32 = 1;
-const ONE_ROUND: u32 = 2;
-const IN_PLACE: u32 = 3;
-const UPPER_MASK: u32 = 4;
-const WINDOW_CLIPPED: u32 = 5;
+pub const NONE: u32 = 0;
+pub const SIGN: u32 = 1;
+pub const ONE_ROUND: u32 = 2;
+pub const IN_PLACE: u32 = 3;
+pub const UPPER_MASK: u32 = 4;
+pub const AHEAD_CLIPPED: u32 = 5;
+pub const BACK_CLIPPED: u32 = 6;
+pub const LEFT_OF_WHOLE_WINDOW: u32 = 7;
+pub const LEFT_AFTER_RIGHT: u32 = 8;
+pub const LEFT_BEFORE_NOW: u32 = 9;
+pub const OWN_FIRST: u32 = 10;
 
 /// A row of verdicts, one for each place.
 type Row = Vec<Verdict>;
@@ -24,26 +27,31 @@ type Row = Vec<Verdict>;
 const TOP: Verdict = Verdict { yes: true, margin: Margin::PlusInfinity };
 const BOTTOM: Verdict = Verdict { yes: false, margin: Margin::MinusInfinity };
 
-/// The rows of all lines, and the rounds.
-struct Faulty<const FAULT: u32> {
-    lines: Vec<Vec<Row>>,
+/// The rows of all lines with their extents, and the rounds.
+pub struct Faulty<const FAULT: u32> {
+    lines: Vec<(Extent, Vec<Row>)>,
+    /// The first sample that the line being evaluated looks at.
+    looks_from: usize,
     rounds: u64,
 }
 
 impl<const FAULT: u32> Evaluation for Faulty<FAULT> {
     fn evaluate(sheet: &Sheet, distances: &Distances) -> Self {
-        let mut this = Faulty { lines: Vec::new(), rounds: 0 };
+        let mut this = Faulty { lines: Vec::new(), looks_from: 0, rounds: 0 };
         for line in &sheet.lines {
-            let rows = (0..line.length).map(|at| this.row(sheet, distances, &line.operator, at));
+            this.looks_from = looks_from(line);
+            let samples = line.extent.samples();
+            let rows = samples.map(|at| this.row(sheet, distances, &line.operator, at));
             let rows = rows.collect::<Vec<_>>();
             this.rounds = rows.iter().map(|row| row.1).fold(this.rounds, u64::max);
-            this.lines.push(rows.into_iter().map(|row| row.0).collect());
+            this.lines.push((line.extent, rows.into_iter().map(|row| row.0).collect()));
         }
         this
     }
 
     fn verdict(&self, line: usize, sample: usize, place: usize) -> Verdict {
-        let verdict = self.lines[line][sample][place];
+        let (extent, rows) = &self.lines[line];
+        let verdict = rows[sample - extent.first][place];
         if FAULT == SIGN {
             return Verdict { yes: verdict.margin >= Margin::Finite(0), ..verdict };
         }
@@ -52,6 +60,14 @@ impl<const FAULT: u32> Evaluation for Faulty<FAULT> {
 
     fn rounds(&self) -> u64 {
         self.rounds
+    }
+}
+
+/// An engine that reckons extents wrongly may look back beyond the start.
+fn looks_from(line: &Line) -> usize {
+    match line.operator.reach() {
+        Reach::Back(upper) => line.extent.first.saturating_sub(upper as usize),
+        _ => line.extent.first,
     }
 }
 
@@ -76,6 +92,14 @@ fn each(left: &Row, right: &Row, join: fn(Verdict, Verdict) -> Verdict) -> Row {
 }
 
 impl<const FAULT: u32> Faulty<FAULT> {
+    /// A line's row at a sample, the nearest it has where extents are wrong; the
+    /// fault is that it is read from the line's own first sample.
+    fn at(&self, line: usize, sample: usize) -> &Row {
+        let (extent, rows) = &self.lines[line];
+        let from = if FAULT == OWN_FIRST { self.looks_from } else { extent.first };
+        &rows[sample.saturating_sub(from).min(rows.len() - 1)]
+    }
+
     /// One sample of a line at every place, and the rounds it took.
     fn row(
         &self,
@@ -86,7 +110,7 @@ impl<const FAULT: u32> Faulty<FAULT> {
     ) -> (Row, u64) {
         let places = 0..sheet.head.places;
         let reading = |place, signal| sheet.reading(at, place, signal);
-        let of = |line: usize| &self.lines[line][at];
+        let of = |line: usize| self.at(line, at);
         let row = match *operator {
             Operator::True => vec![TOP; sheet.head.places],
             Operator::AtLeast { signal, constant } => {
@@ -100,7 +124,10 @@ impl<const FAULT: u32> Faulty<FAULT> {
             Operator::Or { left, right } => each(of(left), of(right), greater),
             Operator::Until { left, right, bounds } => self.until(Some(left), right, at, bounds),
             Operator::Eventually { left, bounds } => self.until(None, left, at, bounds),
-            Operator::Always { left, bounds } => self.always(left, at, bounds),
+            Operator::Always { left, bounds } => self.least(left, ahead::<FAULT>(at, bounds)),
+            Operator::Since { left, right, bounds } => self.since(Some(left), right, at, bounds),
+            Operator::Once { left, bounds } => self.since(None, left, at, bounds),
+            Operator::Historically { left, bounds } => self.least(left, back::<FAULT>(at, bounds)),
             Operator::Somewhere { left, bounds } => around(distances, of(left), bounds, BOTTOM),
             Operator::Everywhere { left, bounds } => around(distances, of(left), bounds, TOP),
             Operator::Surround { left, right, bounds } => {
@@ -110,31 +137,48 @@ impl<const FAULT: u32> Faulty<FAULT> {
         (row, 0)
     }
 
-    /// The samples of a window; the fault is that its last is left out.
-    fn window(&self, at: usize, bounds: Bounds) -> std::ops::Range<usize> {
-        let last = at + bounds.upper as usize;
-        let clipped = FAULT == WINDOW_CLIPPED && bounds.lower < bounds.upper;
-        at + bounds.lower as usize..if clipped { last } else { last + 1 }
+    /// The least over some samples.
+    fn least(&self, line: usize, samples: RangeInclusive<usize>) -> Row {
+        let top = vec![TOP; self.lines[line].1[0].len()];
+        samples.fold(top, |row, time| each(&row, self.at(line, time), lesser))
     }
 
+    /// With t' running from t upwards.
     fn until(&self, left: Option<usize>, right: usize, at: usize, bounds: Bounds) -> Row {
-        let mut best = vec![BOTTOM; self.lines[right][at].len()];
+        let mut best = vec![BOTTOM; self.lines[right].1[0].len()];
         let mut held = vec![TOP; best.len()];
-        let window = self.window(at, bounds);
-        for time in at..window.end {
+        let window = ahead::<FAULT>(at, bounds);
+        for time in at..=*window.end() {
             if let Some(left) = left {
-                held = each(&held, &self.lines[left][time], lesser);
+                held = each(&held, self.at(left, time), lesser);
             }
             if window.contains(&time) {
-                best = each(&best, &each(&held, &self.lines[right][time], lesser), greater);
+                best = each(&best, &each(&held, self.at(right, time), lesser), greater);
             }
         }
         best
     }
 
-    fn always(&self, left: usize, at: usize, bounds: Bounds) -> Row {
-        let top = vec![TOP; self.lines[left][at].len()];
-        self.window(at, bounds).fold(top, |row, time| each(&row, &self.lines[left][time], lesser))
+    /// With t' running from t downwards; the faults are the samples at which left
+    /// has to hold.
+    fn since(&self, left: Option<usize>, right: usize, at: usize, bounds: Bounds) -> Row {
+        let window = back::<FAULT>(at, bounds);
+        let mut best = vec![BOTTOM; self.lines[right].1[0].len()];
+        let mut held = vec![TOP; best.len()];
+        if let (Some(left), LEFT_OF_WHOLE_WINDOW) = (left, FAULT) {
+            held = self.least(left, *window.start()..=at);
+        }
+        for time in (*window.start()..=at).rev() {
+            let after = held.clone();
+            if let Some(left) = left.filter(|_| FAULT != LEFT_BEFORE_NOW || time < at) {
+                held = each(&held, self.at(left, time), lesser);
+            }
+            if window.contains(&time) {
+                let offered = if FAULT == LEFT_AFTER_RIGHT { &after } else { &held };
+                best = each(&best, &each(offered, self.at(right, time), lesser), greater);
+            }
+        }
+        best
     }
 
     fn surround(
@@ -157,6 +201,19 @@ impl<const FAULT: u32> Faulty<FAULT> {
         let rounds = settled.iter().map(|centre| centre.1).max();
         (settled.into_iter().map(|centre| centre.0).collect(), rounds.unwrap_or(0))
     }
+}
+
+/// The samples of a window ahead; the fault is that its last is left out.
+fn ahead<const FAULT: u32>(at: usize, bounds: Bounds) -> RangeInclusive<usize> {
+    let clipped = usize::from(FAULT == AHEAD_CLIPPED && bounds.lower < bounds.upper);
+    at + bounds.lower as usize..=at + bounds.upper as usize - clipped
+}
+
+/// The samples of a window back; the fault is that its first is left out.
+fn back<const FAULT: u32>(at: usize, bounds: Bounds) -> RangeInclusive<usize> {
+    let clipped = usize::from(FAULT == BACK_CLIPPED && bounds.lower < bounds.upper);
+    let first = at.saturating_sub(bounds.upper as usize) + clipped;
+    first..=at.saturating_sub(bounds.lower as usize)
 }
 
 /// Everywhere folds from the top, somewhere from the bottom.
@@ -207,7 +264,7 @@ fn step<const FAULT: u32>(neighbours: &[Vec<usize>], row: &Row, right: &Row) -> 
 }
 
 /// An engine over this evaluator.
-struct Trapped<const FAULT: u32>;
+pub struct Trapped<const FAULT: u32>;
 
 impl<const FAULT: u32> Engine for Trapped<FAULT> {
     fn judge(&self, sheet: &[u8], left: Filled) -> u64 {
@@ -217,43 +274,4 @@ impl<const FAULT: u32> Engine for Trapped<FAULT> {
     fn lookup(&self, answer: &[u8], line: u64, sample: u64, place: u64) -> u64 {
         Implementation.lookup(answer, line, sample, place)
     }
-}
-
-#[test]
-fn without_a_fault_nothing_is_found() {
-    assert_eq!(caught(&Trapped::<NONE>), None);
-}
-
-#[test]
-fn verdict_by_the_sign_of_the_margin() {
-    assert!(caught(&Trapped::<SIGN>).is_some());
-}
-
-#[test]
-fn first_round_shown_as_the_limit() {
-    assert!(caught(&Trapped::<ONE_ROUND>).is_some());
-}
-
-#[test]
-fn places_stepping_on_values_of_the_present_round() {
-    assert!(caught(&Trapped::<IN_PLACE>).is_some());
-}
-
-#[test]
-fn right_masked_by_the_upper_bound_alone() {
-    assert!(caught(&Trapped::<UPPER_MASK>).is_some());
-}
-
-#[test]
-fn windows_clipped() {
-    assert!(caught(&Trapped::<WINDOW_CLIPPED>).is_some());
-}
-
-/// The laws alone find it too, with nothing to compare with, and tell the sheet.
-#[test]
-fn windows_clipped_break_a_law() {
-    let (mut random, mut reached) = (Random::new(1), Reached::default());
-    let mut broken = |_| laws::check(&Trapped::<WINDOW_CLIPPED>, &mut random, &mut reached).err();
-    let found = (0..1_000).find_map(&mut broken);
-    assert_eq!(found.map(|difference| difference.found_on.len()), Some(1));
 }

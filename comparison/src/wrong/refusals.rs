@@ -6,7 +6,7 @@ use crate::compare::Comparison;
 use crate::{Engine, Filled, Implementation};
 use reference::generate::random::Random;
 use reference::judge::{Outcome, BYTES_PER_DISTANCE};
-use reference::sheet::{check, DISTANCE_ENTRIES};
+use reference::sheet::{check, DISTANCE_ENTRIES, GREATEST_WEIGHT as GREATEST};
 use reference::words::{self, kinds, BYTES_PER_WORD};
 
 /// What such an engine is given.
@@ -30,6 +30,17 @@ impl Given {
         before.filter(|&&word| words::kind(word) == kinds::LINE).count()
     }
 
+    /// The code of the line word at a place.
+    fn code_at(&self, place: u64) -> Option<u32> {
+        let word = self.words.get(place as usize).filter(|&&word| words::kind(word) == kinds::LINE);
+        word.map(|&word| words::field(word, 27, 20))
+    }
+
+    /// The upper bound of the line at a place.
+    fn upper_at(&self, place: u64) -> Option<u32> {
+        self.words.get(place as usize + 2).map(|&word| words::payload(word))
+    }
+
     /// Whether the sheet is valid and its answer needs more words than are lent.
     fn is_short(&self) -> bool {
         let sheet = check(&self.words, DISTANCE_ENTRIES);
@@ -37,12 +48,15 @@ impl Given {
     }
 }
 
-/// Changes a refusal's number and place.
-type Mistake = fn(&Given, &mut Outcome);
+/// Right, but for the number and place of a refusal, which it changes.
+struct Mistaken<F>(F);
 
-struct Mistaken(Mistake);
+/// As the engine of a mistake.
+fn mistaken(mistake: impl Fn(&Given, &mut Outcome)) -> impl Engine {
+    Mistaken(mistake)
+}
 
-impl Engine for Mistaken {
+impl<F: Fn(&Given, &mut Outcome)> Engine for Mistaken<F> {
     fn judge(&self, sheet: &[u8], left: Filled) -> u64 {
         let Filled { distances, answer, result } = left;
         let given = Given {
@@ -70,8 +84,8 @@ impl Engine for Mistaken {
 }
 
 #[track_caller]
-fn assert_caught(mistake: Mistake) {
-    assert!(caught(&Mistaken(mistake)).is_some());
+fn assert_caught(mistake: impl Fn(&Given, &mut Outcome)) {
+    assert!(caught(&mistaken(mistake)).is_some());
 }
 
 #[test]
@@ -82,7 +96,7 @@ fn places_of_one_byte() {
 /// Only a sheet of more than 65,536 words can tell.
 #[test]
 fn places_of_two_bytes() {
-    let engine = Mistaken(|_, outcome| outcome.place %= 65_536);
+    let engine = mistaken(|_, outcome| outcome.place %= 65_536);
     assert!(Comparison::new(&engine, None).largest(&mut Random::new(1)).is_err());
 }
 
@@ -138,6 +152,93 @@ fn faults_behind_the_twelfth_line_told_a_word_too_far() {
             outcome.place += 1;
         }
     });
+}
+
+/// And, surround and or have no window, so nothing else takes their samples away.
+#[test]
+fn operands_without_a_common_sample_told_a_word_too_far() {
+    for code in [4, 7, 8] {
+        assert_caught(|given, outcome| {
+            if outcome.number == 13 && given.code_at(outcome.place) == Some(code) {
+                outcome.place += 1;
+            }
+        });
+    }
+}
+
+/// A window of one sample takes none away, so the operands have none in common.
+#[test]
+fn operands_without_a_common_sample_told_at_a_window_of_one_sample() {
+    for code in [5, 12] {
+        assert_caught(|given, outcome| {
+            let at = outcome.place;
+            let is_apart = (given.code_at(at), given.upper_at(at)) == (Some(code), Some(0));
+            if outcome.number == 13 && is_apart {
+                outcome.place += 2;
+            }
+        });
+    }
+}
+
+#[test]
+fn a_window_too_long_told_at_its_upper_bound() {
+    for code in [5, 9, 10, 12, 13, 14] {
+        assert_caught(|given, outcome| {
+            if outcome.number == 13 && given.code_at(outcome.place) == Some(code) {
+                (outcome.number, outcome.place) = (12, outcome.place + 2);
+            }
+        });
+    }
+}
+
+/// An upper bound so great that a sum of 28 bits runs over.
+#[test]
+fn the_greatest_window_back_not_seen() {
+    assert_caught(|given, outcome| {
+        let is_back = matches!(given.code_at(outcome.place), Some(12..=14));
+        if outcome.number == 13 && is_back && given.upper_at(outcome.place) == Some(GREATEST) {
+            (outcome.number, outcome.place) = (14, given.words.len() as u64);
+        }
+    });
+}
+
+#[test]
+fn the_first_code_that_there_is_not_taken_for_one_with_bounds() {
+    assert_caught(|given, outcome| {
+        if outcome.number == 11 && given.code_at(outcome.place) == Some(15) {
+            (outcome.number, outcome.place) = (12, outcome.place + 1);
+        }
+    });
+}
+
+/// An engine that does not know a code, and refuses it with 11.
+struct Lacks(u32);
+
+impl Engine for Lacks {
+    fn judge(&self, sheet: &[u8], left: Filled) -> u64 {
+        let mut words = words::from_bytes(sheet).unwrap_or_default();
+        let is_lacked =
+            |word: &u32| words::kind(*word) == kinds::LINE && *word >> 20 & 0xFF == self.0;
+        let at = words.iter().position(is_lacked);
+        match at {
+            Some(at) => {
+                words[at] |= 0xFF << 20;
+                Implementation.judge(&words::to_bytes(&words), left)
+            }
+            None => Implementation.judge(sheet, left),
+        }
+    }
+
+    fn lookup(&self, answer: &[u8], line: u64, sample: u64, place: u64) -> u64 {
+        Implementation.lookup(answer, line, sample, place)
+    }
+}
+
+#[test]
+fn a_code_that_is_not_known() {
+    for code in 12..=14 {
+        assert!(caught(&Lacks(code)).is_some());
+    }
 }
 
 /// An engine that finds distances before it counts the answer's words, and

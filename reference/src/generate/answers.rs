@@ -1,6 +1,7 @@
 //! Answers, whole and damaged, and what is looked up in them.
 
 use super::random::Random;
+use crate::answer::Answer;
 use crate::words::{self, kinds};
 
 /// A line, a sample and a place to look up.
@@ -28,7 +29,9 @@ pub fn invented(random: &mut Random) -> Vec<u32> {
     let mut words = vec![words::word(kinds::ANSWER_HEAD, places << 20 | lines << 12 | samples)];
     for _ in 0..lines {
         let length = random.field(1, samples.min(6));
-        words.push(words::word(kinds::ANSWER_LINE, length));
+        let any = random.field(0, samples - length);
+        let first = random.pick(&[0, any, samples - length]);
+        words.push(words::word(kinds::ANSWER_LINE, first << 12 | length));
         words.extend((0..length * places).map(|_| verdict_word(random)));
     }
     words.push(words::word(kinds::END, words.len() as u32));
@@ -51,7 +54,7 @@ fn strike(random: &mut Random, words: &mut Vec<u32>) {
     let at = position(random, words);
     let word = words[at];
     let (kind, payload) = (words::kind(word), words::payload(word));
-    match random.below(14) {
+    match random.below(18) {
         0..=2 => {}
         3 => words.extend([0; 3]),
         4 => words.extend([0, random.pick(&[1, 0xF000_0000, 0x8000_0000])]),
@@ -63,7 +66,9 @@ fn strike(random: &mut Random, words: &mut Vec<u32>) {
         10 => words.truncate(at),
         11 => drop(words.remove(at)),
         12 => words.insert(at, word),
-        _ => words[at] = head_or_length(random, word),
+        13 => words[at] = head_or_length(random, word),
+        14 => empty_line(random, words),
+        _ => strike_line_word(random, words),
     }
 }
 
@@ -79,9 +84,58 @@ fn position(random: &mut Random, words: &[u32]) -> usize {
 
 /// The word with one of its fields at or beyond a limit.
 fn head_or_length(random: &mut Random, word: u32) -> u32 {
-    let (shift, mask) = random.pick(&[(20, 0xFF), (12, 0xFF), (0, 0xFFF)]);
+    let (shift, mask) = random.pick(&[(20, 0xFF), (12, 0xFF), (12, 0xFFF), (0, 0xFFF)]);
     let field = random.pick(&[0, 1, 16, 64, 65, 1024, 1025, mask]) & mask;
     (word & !(mask << shift)) | (field << shift)
+}
+
+/// Strikes a line's word, if there is one, above its first sample or there: to
+/// one with which the line still ends at T or before, or to one beyond.
+fn strike_line_word(random: &mut Random, words: &mut [u32]) {
+    let lines = words::indices(words, |kind| kind == kinds::ANSWER_LINE);
+    if lines.is_empty() {
+        return;
+    }
+    let at = random.pick(&lines);
+    let (first, length) = (words::field(words[at], 23, 12), words::field(words[at], 11, 0));
+    let most = words::field(words[0], 11, 0).saturating_sub(length);
+    let within = random.field(0, most);
+    let beyond = random.field(most, 0xFFF);
+    let (above, first) = match random.below(8) {
+        0 => (random.field(1, 0xF), first),
+        1 => (1 << random.field(0, 3), first),
+        2 => (0, (most + 1).min(0xFFF)),
+        3 => (0, beyond),
+        4 => (0, most),
+        5 => (0, first.saturating_sub(1)),
+        _ => (0, within),
+    };
+    words[at] = words::word(kinds::ANSWER_LINE, above << 24 | first << 12 | length);
+}
+
+/// Takes all verdicts of a line away, if there is one, and counts length and end
+/// anew: laid out in order, but for a line without a sample.
+fn empty_line(random: &mut Random, words: &mut Vec<u32>) {
+    let frame = words::indices(words, |kind| kind >= kinds::ANSWER_LINE);
+    let Some(&end) = frame.last().filter(|_| frame.len() >= 2) else {
+        return;
+    };
+    let line = random.below(frame.len() - 1);
+    let (at, next) = (frame[line], frame[line + 1]);
+    words[end] = words::word(kinds::END, (end - (next - at - 1)) as u32);
+    words[at] &= !0xFFF;
+    words.drain(at + 1..next);
+}
+
+/// A query at the edge of what a line has: just before its first sample, at
+/// sample 0, at its first, at its last, and just after that.
+pub fn query_at_edge(random: &mut Random, answer: &Answer) -> Query {
+    let number = random.below(answer.lines.len());
+    let line = &answer.lines[number];
+    let first = line.first as u64;
+    let end = first + (line.verdicts.len() / answer.places) as u64;
+    let sample = random.pick(&[first.wrapping_sub(1), 0, first, end - 1, end]);
+    (number as u64, sample, random.below(answer.places) as u64)
 }
 
 /// A query that is mostly inside sizes like these and sometimes beyond.

@@ -19,7 +19,8 @@ pub fn sheet_of_answer(random: &mut Random, answer_words: usize) -> Vec<u32> {
         .at_least(0, 0);
     let earlier = 0..FULL_LINES as u32 - 1;
     let sheet = earlier.fold(sheet, |sheet, line| sheet.line(3, line, 0));
-    sheet.bounded(9, 0, 0, (upper / 2, upper)).end()
+    let code = random.pick(&[9, 10, 13, 14]);
+    sheet.bounded(code, 0, 0, (upper / 2, upper)).end()
 }
 
 /// A sheet of just so many words, 300 to 8,200, that is accepted where 16,384

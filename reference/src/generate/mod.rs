@@ -57,7 +57,8 @@ impl Case {
 }
 
 /// Refusals to aim at; those of lines more often, which have many ways to arise.
-const AIMS: [u64; 20] = [1, 2, 3, 4, 5, 6, 7, 8, 9, 10, 11, 11, 12, 12, 12, 12, 13, 14, 15, 16];
+const AIMS: [u64; 22] =
+    [1, 2, 3, 4, 5, 6, 7, 8, 9, 10, 11, 11, 12, 12, 12, 12, 13, 13, 13, 14, 15, 16];
 
 /// The case of a seed: of a hundred about 50 valid ones (one of them of many
 /// rounds), 36 aimed at a certain refusal and 14 damaged without an aim, none of

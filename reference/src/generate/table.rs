@@ -3,7 +3,7 @@
 use super::random::Random;
 use super::valid::Numbers;
 use crate::builder::SheetBuilder;
-use crate::sheet::GREATEST_WEIGHT as GREATEST;
+use crate::sheet::{Extent, GREATEST_WEIGHT as GREATEST};
 
 /// What the lines of a sheet draw on.
 pub struct Source<'a> {
@@ -20,7 +20,8 @@ pub struct Source<'a> {
 }
 
 /// Codes of lines, those with the most to go wrong more often.
-const CODES: [u32; 20] = [0, 1, 1, 2, 2, 3, 3, 4, 4, 5, 5, 6, 7, 7, 7, 8, 9, 10, 11, 11];
+const CODES: [u32; 24] =
+    [0, 1, 1, 2, 2, 3, 3, 4, 4, 5, 5, 6, 7, 7, 7, 8, 9, 10, 11, 11, 12, 12, 13, 14];
 
 /// Codes that need no earlier line.
 const FIRST_CODES: [u32; 7] = [0, 1, 1, 1, 2, 2, 2];
@@ -32,47 +33,51 @@ pub fn lines(
     source: &Source,
     count: usize,
 ) -> SheetBuilder {
-    let mut lengths: Vec<usize> = Vec::new();
+    let mut extents: Vec<Extent> = Vec::new();
     for number in 0..count {
         let early = number == 0 || (number < 3 && random.chance(60));
         let code = random.pick(if early { &FIRST_CODES[..] } else { &CODES[..] });
-        let (extended, length) = line(random, sheet, source, &lengths, code);
+        let (extended, extent) = line(random, sheet, source, &extents, code);
         sheet = extended;
-        lengths.push(length);
+        extents.push(extent);
     }
     sheet
 }
 
-/// Adds one line of a code; gives its length too.
+/// Adds one line of a code; gives its extent too.
 fn line(
     random: &mut Random,
     sheet: SheetBuilder,
     source: &Source,
-    lengths: &[usize],
+    extents: &[Extent],
     code: u32,
-) -> (SheetBuilder, usize) {
+) -> (SheetBuilder, Extent) {
+    let whole = Extent::whole(source.samples);
     if code == 0 {
-        return (sheet.truth(), source.samples);
+        return (sheet.truth(), whole);
     }
     if code <= 2 {
         let signal = random.below(source.signals) as u32;
         let number = constant(random, source);
-        return (sheet.line(code, signal, 0).constant(number), source.samples);
+        return (sheet.line(code, signal, 0).constant(number), whole);
     }
-    let left = operand(random, lengths);
-    let binary = matches!(code, 4 | 5 | 7 | 8);
-    let right = if binary { operand(random, lengths) } else { 0 };
-    let length = if binary { lengths[left].min(lengths[right]) } else { lengths[left] };
+    let left = operand(random, extents.len());
+    let binary = matches!(code, 4 | 5 | 7 | 8 | 12);
+    let right = if binary { partner(random, extents, left) } else { 0 };
+    let common = if binary { extents[left].common(extents[right]) } else { extents[left] };
     let sheet = sheet.line(code, left as u32, right as u32);
     match code {
-        3 | 4 | 8 => (sheet, length),
+        3 | 4 | 8 => (sheet, common),
         6 | 7 | 11 => {
             let (lower, upper) = distance_bounds(random, source);
-            (sheet.bounds(lower, upper), length)
+            (sheet.bounds(lower, upper), common)
         }
         _ => {
-            let (lower, upper) = time_bounds(random, length);
-            (sheet.bounds(lower, upper), length - upper as usize)
+            let (lower, upper) = time_bounds(random, common.length());
+            let looks_back = code >= 12;
+            let extent =
+                if looks_back { common.begins_later(upper) } else { common.ends_sooner(upper) };
+            (sheet.bounds(lower, upper), extent)
         }
     }
 }
@@ -87,13 +92,24 @@ fn constant(random: &mut Random, source: &Source) -> i32 {
 }
 
 /// An earlier line, often one of the last, so that formulas nest.
-fn operand(random: &mut Random, lengths: &[usize]) -> usize {
-    let count = lengths.len();
+fn operand(random: &mut Random, count: usize) -> usize {
     if random.chance(50) {
         count - 1 - random.below(count.min(3))
     } else {
         random.below(count)
     }
+}
+
+/// An earlier line that has a sample in common with another, as that line itself
+/// has.
+fn partner(random: &mut Random, extents: &[Extent], other: usize) -> usize {
+    let fits = |&line: &usize| !extents[line].common(extents[other]).is_empty();
+    let drawn = operand(random, extents.len());
+    if fits(&drawn) {
+        return drawn;
+    }
+    let fitting: Vec<usize> = (0..extents.len()).filter(fits).collect();
+    random.pick(&fitting)
 }
 
 /// Bounds of time that leave the line a length of at least 1.

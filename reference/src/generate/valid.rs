@@ -73,7 +73,7 @@ pub fn sheet_to_damage(random: &mut Random, most_places: usize) -> Vec<u32> {
 
 /// The words of a sheet with places, signals and samples all at their limits,
 /// a million words long. Its lines are always the same, so that each such sheet
-/// has until, somewhere and surround over all of it.
+/// has until, somewhere, surround and since over all of it.
 pub fn largest_sheet(random: &mut Random) -> Vec<u32> {
     let roads = network::roads_in_circles(random, MOST_PLACES);
     let numbers = Numbers::Small;
@@ -87,6 +87,7 @@ pub fn largest_sheet(random: &mut Random) -> Vec<u32> {
         .bounded(5, 0, 1, (1, random.field(1, 9)))
         .bounded(6, 1, 0, (1, near))
         .bounded(7, 0, 3, (0, near))
+        .bounded(12, 0, 1, (1, random.field(1, 9)))
         .end()
 }
 

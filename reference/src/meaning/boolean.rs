@@ -10,7 +10,7 @@ use crate::sheet::{Bounds, Operator};
 pub fn holds(world: &World, operator: &Operator, point: &Point) -> bool {
     let &Point { sample, place, .. } = point;
     let here = |line: usize| world.yes(line, sample, place);
-    let later = |line: usize| move |time: usize| world.yes(line, time, place);
+    let then = |line: usize| move |time: usize| world.yes(line, time, place);
     let there = |line: usize| move |other: usize| world.yes(line, sample, other);
     match *operator {
         Operator::True => true,
@@ -19,18 +19,23 @@ pub fn holds(world: &World, operator: &Operator, point: &Point) -> bool {
         }
         Operator::Not { left } => !here(left),
         Operator::And { left, right } => here(left) && here(right),
-        Operator::Until { left, right, bounds } => until(sample, bounds, later(left), later(right)),
+        Operator::Until { left, right, bounds } => until(sample, bounds, then(left), then(right)),
         Operator::Somewhere { left, bounds } => somewhere(world, place, bounds, there(left)),
         Operator::Surround { left, right, .. } => {
             surround(point.regions, there(left), there(right))
         }
         Operator::Or { left, right } => !(!here(left) && !here(right)),
-        Operator::Eventually { left, bounds } => until(sample, bounds, |_| true, later(left)),
+        Operator::Eventually { left, bounds } => until(sample, bounds, |_| true, then(left)),
         Operator::Always { left, bounds } => {
-            !until(sample, bounds, |_| true, |time| !later(left)(time))
+            !until(sample, bounds, |_| true, |time| !then(left)(time))
         }
         Operator::Everywhere { left, bounds } => {
             !somewhere(world, place, bounds, |other| !there(left)(other))
+        }
+        Operator::Since { left, right, bounds } => since(sample, bounds, then(left), then(right)),
+        Operator::Once { left, bounds } => since(sample, bounds, |_| true, then(left)),
+        Operator::Historically { left, bounds } => {
+            !since(sample, bounds, |_| true, |time| !then(left)(time))
         }
     }
 }
@@ -45,6 +50,18 @@ fn until(
 ) -> bool {
     let mut window = from + bounds.lower as usize..=from + bounds.upper as usize;
     window.any(|time| right(time) && (from..=time).all(&left))
+}
+
+/// "Right holds at some t' from t - upper to t - lower and left holds from t' to
+/// t, t' included."
+fn since(
+    at: usize,
+    bounds: Bounds,
+    left: impl Fn(usize) -> bool,
+    right: impl Fn(usize) -> bool,
+) -> bool {
+    let mut window = at - bounds.upper as usize..=at - bounds.lower as usize;
+    window.any(|time| right(time) && (time..=at).all(&left))
 }
 
 /// Some place within the bounds has it.

@@ -18,8 +18,7 @@ use regions::Region;
 
 /// The verdicts of a sheet by the definitions.
 pub struct Meaning {
-    places: usize,
-    lines: Vec<Vec<Verdict>>,
+    lines: Vec<Verdicts>,
     rounds: u64,
 }
 
@@ -33,15 +32,30 @@ impl Evaluation for Meaning {
             let verdicts = verdicts(&world, line);
             world.lines.push(verdicts);
         }
-        Meaning { places: sheet.head.places, lines: world.lines, rounds }
+        Meaning { lines: world.lines, rounds }
     }
 
     fn verdict(&self, line: usize, sample: usize, place: usize) -> Verdict {
-        self.lines[line][sample * self.places + place]
+        self.lines[line].at(sample, place)
     }
 
     fn rounds(&self) -> u64 {
         self.rounds
+    }
+}
+
+/// The verdicts of a line from its first sample on, "sample outermost, then
+/// place".
+struct Verdicts {
+    first: usize,
+    places: usize,
+    all: Vec<Verdict>,
+}
+
+impl Verdicts {
+    /// The verdict at a sample of the recording.
+    fn at(&self, sample: usize, place: usize) -> Verdict {
+        self.all[(sample - self.first) * self.places + place]
     }
 }
 
@@ -51,7 +65,7 @@ struct World<'a> {
     sheet: &'a Sheet,
     distances: &'a Distances,
     neighbours: Vec<Vec<usize>>,
-    lines: Vec<Vec<Verdict>>,
+    lines: Vec<Verdicts>,
 }
 
 impl World<'_> {
@@ -61,12 +75,12 @@ impl World<'_> {
 
     /// An earlier line's verdict.
     fn yes(&self, line: usize, sample: usize, place: usize) -> bool {
-        self.lines[line][sample * self.places() + place].yes
+        self.lines[line].at(sample, place).yes
     }
 
     /// An earlier line's margin.
     fn margin(&self, line: usize, sample: usize, place: usize) -> Margin {
-        self.lines[line][sample * self.places() + place].margin
+        self.lines[line].at(sample, place).margin
     }
 
     /// The places within bounds of a centre.
@@ -83,21 +97,21 @@ struct Point<'a> {
     regions: &'a [Region],
 }
 
-/// All verdicts of a line, "sample outermost, then place".
-fn verdicts(world: &World, line: &Line) -> Vec<Verdict> {
+/// All verdicts of a line.
+fn verdicts(world: &World, line: &Line) -> Verdicts {
     let regions: Vec<Vec<Region>> =
         (0..world.places()).map(|centre| allowed_regions(world, &line.operator, centre)).collect();
-    let mut verdicts = Vec::new();
-    for sample in 0..line.length {
+    let mut all = Vec::new();
+    for sample in line.extent.samples() {
         for (place, regions) in regions.iter().enumerate() {
             let point = Point { sample, place, regions };
-            verdicts.push(Verdict {
+            all.push(Verdict {
                 yes: boolean::holds(world, &line.operator, &point),
                 margin: quantitative::margin(world, &line.operator, &point),
             });
         }
     }
-    verdicts
+    Verdicts { first: line.extent.first, places: world.places(), all }
 }
 
 /// The regions of a surround at one centre. They do not depend on the sample,

@@ -10,7 +10,7 @@ use crate::sheet::{Bounds, Operator};
 pub fn margin(world: &World, operator: &Operator, point: &Point) -> Margin {
     let &Point { sample, place, .. } = point;
     let here = |line: usize| world.margin(line, sample, place);
-    let later = |line: usize| move |time: usize| world.margin(line, time, place);
+    let then = |line: usize| move |time: usize| world.margin(line, time, place);
     let there = |line: usize| move |other: usize| world.margin(line, sample, other);
     let always = |_| Margin::PlusInfinity;
     match *operator {
@@ -23,18 +23,23 @@ pub fn margin(world: &World, operator: &Operator, point: &Point) -> Margin {
         }
         Operator::Not { left } => here(left).negate(),
         Operator::And { left, right } => here(left).min(here(right)),
-        Operator::Until { left, right, bounds } => until(sample, bounds, later(left), later(right)),
+        Operator::Until { left, right, bounds } => until(sample, bounds, then(left), then(right)),
         Operator::Somewhere { left, bounds } => somewhere(world, place, bounds, there(left)),
         Operator::Surround { left, right, .. } => {
             surround(point.regions, there(left), there(right))
         }
         Operator::Or { left, right } => here(left).negate().min(here(right).negate()).negate(),
-        Operator::Eventually { left, bounds } => until(sample, bounds, always, later(left)),
+        Operator::Eventually { left, bounds } => until(sample, bounds, always, then(left)),
         Operator::Always { left, bounds } => {
-            until(sample, bounds, always, |time| later(left)(time).negate()).negate()
+            until(sample, bounds, always, |time| then(left)(time).negate()).negate()
         }
         Operator::Everywhere { left, bounds } => {
             somewhere(world, place, bounds, |other| there(left)(other).negate()).negate()
+        }
+        Operator::Since { left, right, bounds } => since(sample, bounds, then(left), then(right)),
+        Operator::Once { left, bounds } => since(sample, bounds, always, then(left)),
+        Operator::Historically { left, bounds } => {
+            since(sample, bounds, always, |time| then(left)(time).negate()).negate()
         }
     }
 }
@@ -59,6 +64,21 @@ fn until(
     let window = from + bounds.lower as usize..=from + bounds.upper as usize;
     Margin::greatest(window.map(|time| {
         let held = Margin::least((from..=time).map(&left));
+        right(time).min(held)
+    }))
+}
+
+/// The greatest over t' in the window of the lesser of right at t' and the
+/// least of left from t' to t.
+fn since(
+    at: usize,
+    bounds: Bounds,
+    left: impl Fn(usize) -> Margin,
+    right: impl Fn(usize) -> Margin,
+) -> Margin {
+    let window = at - bounds.upper as usize..=at - bounds.lower as usize;
+    Margin::greatest(window.map(|time| {
+        let held = Margin::least((time..=at).map(&left));
         right(time).min(held)
     }))
 }

@@ -11,7 +11,7 @@ pub fn of_line(world: &World, line: &Line) -> u64 {
         return 0;
     };
     let mut greatest = 0;
-    for sample in 0..line.length {
+    for sample in line.extent.samples() {
         for centre in 0..world.places() {
             let inner = Bounds { lower: 0, ..bounds };
             let s1 = masked(world, left, sample, centre, inner);

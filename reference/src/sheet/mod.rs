@@ -5,10 +5,14 @@
 //! earlier lines, bounds are ordered, lengths are at least 1.
 
 mod check;
+mod extent;
+mod operator;
 mod reader;
 mod table;
 
 pub use check::check;
+pub use extent::Extent;
+pub use operator::{Bounds, Operator, Reach};
 
 use crate::words::PAYLOAD_MASK;
 
@@ -31,7 +35,7 @@ pub const MOST_LINES: usize = 64;
 pub const GREATEST_WEIGHT: u32 = PAYLOAD_MASK;
 
 /// The greatest code of a line.
-pub const LAST_CODE: u32 = 11;
+pub const LAST_CODE: u32 = 14;
 
 /// The sizes a sheet's head tells.
 #[derive(Clone, Copy, Debug, PartialEq, Eq)]
@@ -55,88 +59,14 @@ pub struct Road {
     pub weight: u32,
 }
 
-/// The bounds of a line, both included: of time for codes 5, 9 and 10, of
-/// distance for codes 6, 7 and 11.
-#[derive(Clone, Copy, Debug, PartialEq, Eq)]
-pub struct Bounds {
-    /// The lower bound.
-    pub lower: u32,
-    /// The upper bound, at least the lower.
-    pub upper: u32,
-}
-
-/// A line's operator with its operands (numbers of earlier lines), signal,
-/// constant and bounds. The cases stand in the order of the codes 0 to 11.
-#[derive(Clone, Copy, Debug, PartialEq, Eq)]
-#[allow(missing_docs)]
-pub enum Operator {
-    /// Code 0.
-    True,
-    /// Code 1: signal at least constant.
-    AtLeast { signal: usize, constant: i32 },
-    /// Code 2: signal at most constant.
-    AtMost { signal: usize, constant: i32 },
-    /// Code 3.
-    Not { left: usize },
-    /// Code 4.
-    And { left: usize, right: usize },
-    /// Code 5.
-    Until { left: usize, right: usize, bounds: Bounds },
-    /// Code 6.
-    Somewhere { left: usize, bounds: Bounds },
-    /// Code 7.
-    Surround { left: usize, right: usize, bounds: Bounds },
-    /// Code 8.
-    Or { left: usize, right: usize },
-    /// Code 9.
-    Eventually { left: usize, bounds: Bounds },
-    /// Code 10.
-    Always { left: usize, bounds: Bounds },
-    /// Code 11.
-    Everywhere { left: usize, bounds: Bounds },
-}
-
-impl Operator {
-    /// The code that the operator is written with, 0 to 11.
-    pub fn code(&self) -> u32 {
-        match self {
-            Operator::True => 0,
-            Operator::AtLeast { .. } => 1,
-            Operator::AtMost { .. } => 2,
-            Operator::Not { .. } => 3,
-            Operator::And { .. } => 4,
-            Operator::Until { .. } => 5,
-            Operator::Somewhere { .. } => 6,
-            Operator::Surround { .. } => 7,
-            Operator::Or { .. } => 8,
-            Operator::Eventually { .. } => 9,
-            Operator::Always { .. } => 10,
-            Operator::Everywhere { .. } => 11,
-        }
-    }
-
-    /// The bounds, for codes that have them.
-    pub fn bounds(&self) -> Option<Bounds> {
-        match *self {
-            Operator::Until { bounds, .. }
-            | Operator::Somewhere { bounds, .. }
-            | Operator::Surround { bounds, .. }
-            | Operator::Eventually { bounds, .. }
-            | Operator::Always { bounds, .. }
-            | Operator::Everywhere { bounds, .. } => Some(bounds),
-            _ => None,
-        }
-    }
-}
-
-/// A line of the table. It "has verdicts for samples 0 to length - 1 and no
+/// A line of the table. It has verdicts for the samples of its extent "and no
 /// others".
 #[derive(Clone, Copy, Debug, PartialEq, Eq)]
 pub struct Line {
     /// What the line says.
     pub operator: Operator,
-    /// For how many samples it says it.
-    pub length: usize,
+    /// For which samples it says it.
+    pub extent: Extent,
 }
 
 /// An accepted sheet.

@@ -1,7 +1,7 @@
-//! The lines of the table: their fields, their parameters, their lengths.
+//! The lines of the table: their fields, their parameters, their extents.
 
 use super::reader::Reader;
-use super::{Bounds, Head, Line, Operator, LAST_CODE, MOST_LINES};
+use super::{Bounds, Extent, Head, Line, Operator, Reach, LAST_CODE, MOST_LINES};
 use crate::refusal::{Fault, Refusal};
 use crate::words::{self, kinds};
 
@@ -18,16 +18,19 @@ pub fn lines(reader: &mut Reader, head: &Head) -> Result<Vec<Line>, Refusal> {
     Ok(lines)
 }
 
-/// One line: its word (11), its parameters (12), and only then its length
-/// (13), which is told at the line word.
+/// One line: its word (11), its parameters (12), and only then whether it has a
+/// sample (13), which is told at the line word.
 fn line(reader: &mut Reader, word: u32, head: &Head, earlier: &[Line]) -> Result<Line, Refusal> {
     let place = reader.place();
     let fields = Fields::of(word);
     reader.require(fields.fit(head, earlier), Fault::LineWord)?;
     reader.pass();
     let operator = operator(reader, fields)?;
-    let length = length(&operator, head, earlier).ok_or(Refusal::new(Fault::LineLength, place))?;
-    Ok(Line { operator, length })
+    let extent = extent(&operator, head, earlier);
+    if extent.is_empty() {
+        return Err(Refusal::new(Fault::LineLength, place));
+    }
+    Ok(Line { operator, extent })
 }
 
 /// "Kind 5: bits 27..20 code, 19..10 left, 9..0 right."
@@ -71,8 +74,8 @@ impl Fields {
     fn roles(self) -> (Role, Role) {
         match self.code {
             1 | 2 => (Role::Signal, Role::Unused),
-            3 | 6 | 9 | 10 | 11 => (Role::Operand, Role::Unused),
-            4 | 5 | 7 | 8 => (Role::Operand, Role::Operand),
+            3 | 6 | 9 | 10 | 11 | 13 | 14 => (Role::Operand, Role::Unused),
+            4 | 5 | 7 | 8 | 12 => (Role::Operand, Role::Operand),
             _ => (Role::Unused, Role::Unused),
         }
     }
@@ -87,7 +90,7 @@ fn operator(reader: &mut Reader, fields: Fields) -> Result<Operator, Refusal> {
         3 => Operator::Not { left },
         4 => Operator::And { left, right },
         8 => Operator::Or { left, right },
-        5..=7 | 9..=11 => bounded(fields, bounds(reader)?),
+        5..=7 | 9..=14 => bounded(fields, bounds(reader)?),
         _ => Operator::True,
     })
 }
@@ -101,7 +104,10 @@ fn bounded(fields: Fields, bounds: Bounds) -> Operator {
         7 => Operator::Surround { left, right, bounds },
         9 => Operator::Eventually { left, bounds },
         10 => Operator::Always { left, bounds },
-        _ => Operator::Everywhere { left, bounds },
+        11 => Operator::Everywhere { left, bounds },
+        12 => Operator::Since { left, right, bounds },
+        13 => Operator::Once { left, bounds },
+        _ => Operator::Historically { left, bounds },
     }
 }
 
@@ -113,8 +119,8 @@ fn constant(reader: &mut Reader) -> Result<i32, Refusal> {
     Ok(words::signed27(word))
 }
 
-/// "Codes 5, 6, 7, 9, 10, 11 are followed by kind 6, the lower bound, and kind
-/// 7, the upper, each 28 bits, lower at most upper."
+/// Codes 5, 6, 7 and 9 to 14 "are followed by kind 6, the lower bound, and kind
+/// 7, the upper, each 28 bits, lower at most upper".
 fn bounds(reader: &mut Reader) -> Result<Bounds, Refusal> {
     let lower = words::payload(reader.expect(kinds::LOWER, Fault::Parameter)?);
     reader.pass();
@@ -124,26 +130,18 @@ fn bounds(reader: &mut Reader) -> Result<Bounds, Refusal> {
     Ok(Bounds { lower, upper })
 }
 
-/// "Length of a line: T for codes 0 to 2; the lesser operand length otherwise,
-/// less the upper bound for codes 5, 9 and 10." Nothing where it is below 1.
-fn length(operator: &Operator, head: &Head, earlier: &[Line]) -> Option<usize> {
-    let of = |line: usize| earlier[line].length;
-    let lesser = |left: usize, right: usize| of(left).min(of(right));
-    let shortened = |length: usize, bounds: Bounds| {
-        let length = length.checked_sub(bounds.upper as usize)?;
-        (length >= 1).then_some(length)
-    };
-    match *operator {
-        Operator::True | Operator::AtLeast { .. } | Operator::AtMost { .. } => Some(head.samples),
-        Operator::Not { left }
-        | Operator::Somewhere { left, .. }
-        | Operator::Everywhere { left, .. } => Some(of(left)),
-        Operator::And { left, right }
-        | Operator::Or { left, right }
-        | Operator::Surround { left, right, .. } => Some(lesser(left, right)),
-        Operator::Until { left, right, bounds } => shortened(lesser(left, right), bounds),
-        Operator::Eventually { left, bounds } | Operator::Always { left, bounds } => {
-            shortened(of(left), bounds)
-        }
+/// Where a line begins and ends. Codes 0 to 2 have the whole recording; a line
+/// on others has what these have in common, and is its upper bound of time
+/// shorter: "until, eventually and always still end their upper bound sooner",
+/// since, once and historically begin "the upper bound more".
+fn extent(operator: &Operator, head: &Head, earlier: &[Line]) -> Extent {
+    let operands = operator.operands().into_iter().flatten();
+    let common = operands.fold(Extent::whole(head.samples), |extent, operand| {
+        extent.common(earlier[operand].extent)
+    });
+    match operator.reach() {
+        Reach::Here => common,
+        Reach::Ahead(upper) => common.ends_sooner(upper),
+        Reach::Back(upper) => common.begins_later(upper),
     }
 }

@@ -2,6 +2,7 @@
 
 #![allow(dead_code)]
 
+use reference::answer::AnswerLine;
 use reference::builder::SheetBuilder;
 use reference::evaluation::Evaluation;
 use reference::fast::Fast;
@@ -71,8 +72,16 @@ pub fn assert_refused(left: &Left) {
     }
 }
 
-/// The verdicts of the last line of an accepted sheet, row by row.
+/// The verdicts of the last line of an accepted sheet, row by row; the line has
+/// them from sample 0 on.
 pub fn last_line(words: &[u32]) -> Vec<Verdict> {
+    let line = last_of(words);
+    assert_eq!(line.first, 0);
+    line.verdicts
+}
+
+/// The last line of an accepted sheet.
+pub fn last_of(words: &[u32]) -> AnswerLine {
     let left = judged_words(words);
     assert_eq!(left.number, 0);
     left.whole_answer().expect("a whole answer").lines.pop().expect("a line")
@@ -100,6 +109,13 @@ pub const EXAMPLE_A: [u32; 19] = [
     0x10201002, 0x20000001, 0x30000003, 0x40000005, 0x47FFFFFE, 0x40000001, 0x40000004, 0x50100000,
     0x80000000, 0x50900000, 0x60000000, 0x70000001, 0x50600000, 0x60000001, 0x70000003, 0x50700800,
     0x60000000, 0x70000003, 0xF0000012,
+];
+
+/// The 17 words of the looking-back example.
+pub const LOOKING_BACK: [u32; 17] = [
+    0x10101004, 0x40000003, 0x47FFFFFF, 0x40000004, 0x40000005, 0x50100000, 0x80000000, 0x50D00000,
+    0x60000001, 0x70000002, 0x50E00000, 0x60000001, 0x70000002, 0x50C00000, 0x60000000, 0x70000001,
+    0xF0000010,
 ];
 
 /// Three places in a row with weights 1, two signals, one sample each.

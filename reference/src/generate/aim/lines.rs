@@ -1,16 +1,11 @@
-//! Aims at the table and the end: refusals 10 to 14.
+//! Aims at the table and the end: refusals 10, 11, 12 and 14.
 
-use super::{find, other_kind};
+use super::{find, line_words, other_kind};
 use crate::generate::damage::renew_end;
 use crate::generate::random::Random;
 use crate::sheet::GREATEST_WEIGHT as GREATEST;
-use crate::sheet::{check, Operator, DISTANCE_ENTRIES, LAST_CODE, MOST_LINES};
+use crate::sheet::{LAST_CODE, MOST_LINES};
 use crate::words::{self, kinds};
-
-/// The indices of the line words.
-fn line_words(words: &[u32]) -> Vec<usize> {
-    words::indices(words, |kind| kind == kinds::LINE)
-}
 
 /// 10: no first line, or a 65th.
 pub fn line_count(random: &mut Random, mut words: Vec<u32>) -> Option<Vec<u32>> {
@@ -25,7 +20,7 @@ pub fn line_count(random: &mut Random, mut words: Vec<u32>) -> Option<Vec<u32>> 
             words.pop();
             let missing = MOST_LINES - lines.len();
             words.extend(vec![words::word(kinds::LINE, 0); missing]);
-            let payload = random.pick(&[0, 12 << 20, GREATEST]);
+            let payload = random.pick(&[0, (LAST_CODE + 1) << 20, GREATEST]);
             words.push(words::word(kinds::LINE, payload));
             words.push(0);
         }
@@ -36,7 +31,7 @@ pub fn line_count(random: &mut Random, mut words: Vec<u32>) -> Option<Vec<u32>> 
     Some(words)
 }
 
-/// 11: a code above 11, a signal not below v, an operand that is no earlier
+/// 11: a code above 14, a signal not below v, an operand that is no earlier
 /// line, or an unused field that is not zero.
 pub fn line_word(random: &mut Random, mut words: Vec<u32>) -> Option<Vec<u32>> {
     let lines = line_words(&words);
@@ -50,11 +45,13 @@ pub fn line_word(random: &mut Random, mut words: Vec<u32>) -> Option<Vec<u32>> {
     let (left_from, right_from) = match code {
         0 => (1, 1),
         1 | 2 => (signals, 1),
-        4 | 5 | 7 | 8 => (earlier, earlier),
+        4 | 5 | 7 | 8 | 12 => (earlier, earlier),
         _ => (earlier, 1),
     };
+    let unknown = random.field(LAST_CODE + 1, 255);
+    let unknown = random.pick(&[LAST_CODE + 1, unknown]);
     words[at] = match random.below(5) {
-        0 => (words[at] & !(0xFF << 20)) | (random.field(LAST_CODE + 1, 255) << 20),
+        0 => (words[at] & !(0xFF << 20)) | (unknown << 20),
         1 => set(words[at], 10, left_from),
         2 => set(words[at], 0, right_from),
         3 => set(words[at], 10, random.field(left_from, 1023)),
@@ -94,30 +91,6 @@ fn cross(random: &mut Random, words: &mut [u32], upper: usize) {
         let lower = random.pick(&[above, any]);
         words[upper - 1] = words::word(kinds::LOWER, lower);
     }
-}
-
-/// 13: an upper bound of time that leaves no length, often by one.
-pub fn line_length(random: &mut Random, mut words: Vec<u32>) -> Option<Vec<u32>> {
-    let sheet = check(&words, DISTANCE_ENTRIES).ok()?;
-    let lines = line_words(&words);
-    let timed: Vec<(usize, u32)> = sheet
-        .lines
-        .iter()
-        .zip(lines)
-        .filter_map(|(line, at)| match line.operator {
-            Operator::Until { bounds, .. }
-            | Operator::Eventually { bounds, .. }
-            | Operator::Always { bounds, .. } => Some((at, line.length as u32 + bounds.upper)),
-            _ => None,
-        })
-        .collect();
-    let last = *timed.last()?;
-    let any = random.pick(&timed);
-    let (at, operand_length) = random.pick(&[any, any, last]);
-    let any = random.field(operand_length, GREATEST);
-    let upper = random.pick(&[operand_length, operand_length, any, GREATEST]);
-    words[at + 2] = words::word(kinds::UPPER, upper);
-    Some(words)
 }
 
 /// 14: the end absent, of another kind, of a wrong count, or not the last.

@@ -1,12 +1,13 @@
 //! Damage aimed at one refusal.
 
+mod extents;
 pub mod lent;
 mod lines;
 mod places;
 
 use super::random::Random;
 use super::{damage, valid, Case};
-use crate::words;
+use crate::words::{self, kinds};
 
 /// Damage that is aimed: nothing where the sheet has not what it strikes at.
 type Blow = fn(&mut Random, Vec<u32>) -> Option<Vec<u32>>;
@@ -68,10 +69,15 @@ fn blow(number: u64) -> Option<Blow> {
         10 => lines::line_count,
         11 => lines::line_word,
         12 => lines::parameter,
-        13 => lines::line_length,
+        13 => extents::no_sample,
         14 => lines::end,
         _ => return None,
     })
+}
+
+/// The indices of the line words.
+fn line_words(words: &[u32]) -> Vec<usize> {
+    words::indices(words, |kind| kind == kinds::LINE)
 }
 
 /// The index of some word of a kind.
