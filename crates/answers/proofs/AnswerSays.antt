@@ -9,6 +9,7 @@ use lib.Dec.{T, ltb, ltb→lt}
 use lib.ListN.{length}
 use Rattle.network.specs.Network.{Network}
 use Rattle.formulas.specs.Formulas.{Extent, has, Line, lineIn, Recording, InBits, ConstantsIn}
+use Rattle.formulas.proofs.Extents.{has-e}
 use Rattle.logic.specs.Table.{verdicts, margins, valueAt}
 use Rattle.logic.proofs.Agreement.{agreement}
 use Rattle.logic.proofs.Small.{margins-small}
@@ -17,7 +18,7 @@ use Rattle.values.specs.Said.{Said, says, nothing, saidBy}
 use Rattle.answers.specs.Meant.{meantAt}
 use Rattle.answers.specs.Answer.{wordFor}
 use Rattle.lookup.specs.Lookup.{headPlaces, headLines, lineStart, lineExtent, saidAt}
-use Rattle.lookup.proofs.Exactly.{has-e, asked}
+use Rattle.lookup.proofs.Exactly.{asked}
 use Rattle.values.proofs.ReadBack.{read-back}
 use Rattle.answers.proofs.AnswerWords.{InFields, answer, places-read, lines-read, start-read, extent-read, verdict-word}
 
@@ -47,8 +48,8 @@ module _ (N : Network) (horizon : ℕ) (x : Recording) (lines : List Line) (room
   said-present i t l h k b =
       let e : Extent = lineIn lines i .extent in
       let in-line = has-e e t k in
-      let row : t - e .first < e .length = omega (arith, in-line) in
-      let back : e .first + (t - e .first) ≡ t = omega (arith, in-line) in
+      let row : t - e .first < e .length = omega (arith, in-line .from, in-line .to) in
+      let back : e .first + (t - e .first) ≡ t = omega (arith, in-line .from) in
       ap saidBy
       (ap (λ (f : Extent). wordAt a (lineStart a i + 1 + ((t - f .first) * headPlaces a + l))) (extent-read N horizon x lines room fits i h)
       ∙ ap₂ (λ at n. wordAt a (at + 1 + ((t - e .first) * n + l))) (start-read N horizon x lines room fits i (le-of-lt h)) (places-read N horizon x lines room fits)

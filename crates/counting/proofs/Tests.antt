@@ -6,6 +6,14 @@ use Prim.Native.Nat.{ℕ, zero, suc, _<_}
 use native.Mathlib.Nat.{eq-or-lt-of-le, le-of-suc-le-suc, not-suc-le-zero, lt-suc-self, le-suc, le-trans}
 use lib.Dec.{T}
 
+pub holds : (b : Bool) → T b → b ≡ true
+holds true h = refl
+holds false h = absurd h
+
+pub fails : (b : Bool) → T (not b) → b ≡ false
+fails true h = absurd h
+fails false h = refl
+
 pub and-i : (a b : Bool) → T a → T b → T (a && b)
 and-i true b h k = k
 and-i false b h k = h

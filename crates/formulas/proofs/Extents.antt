@@ -2,11 +2,20 @@
 -- most T).
 use Prim.Native.Nat.{ℕ, _≤_, _<_}
 use native.Mathlib.Omega.{arith}
-use Rattle.formulas.specs.Formulas.{Direction, forward, backward, Operator, True, AtLeast, AtMost, Not, And, Until, Somewhere, Surrounded, Or, Eventually, Always, Everywhere, Extent, endOf, common, looking, extentOf}
+use lib.Dec.{T, leb, leb→le, ltb→lt, le→leb, lt→ltb}
+use Rattle.counting.proofs.Tests.{and-i, and-l, and-r}
+use Rattle.formulas.specs.Formulas.{Direction, forward, backward, Operator, True, AtLeast, AtMost, Not, And, Until, Somewhere, Surrounded, Or, Eventually, Always, Everywhere, Extent, endOf, has, common, looking, extentOf}
 
 pub record Has (e : Extent) (t : ℕ) : Type 0 where
   pub from : e .first ≤ t
   pub to : t < endOf e
+
+-- by the test
+pub has-e : (e : Extent) (t : ℕ) → T (has e t) → Has e t
+has-e e t h = record { from = leb→le (e .first) t (and-l (leb (e .first) t) _ h); to = ltb→lt t (endOf e) (and-r (leb (e .first) t) _ h) }
+
+pub has-i : (e : Extent) (t : ℕ) → Has e t → T (has e t)
+has-i e t h = and-i (leb (e .first) t) _ (le→leb (e .first) t (h .from)) (lt→ltb t (endOf e) (h .to))
 
 -- a sample of both extents is one of each
 pub has-left : (a b : Extent) (t : ℕ) → Has (common a b) t → Has a t

@@ -6,34 +6,20 @@ use mathlib.Core.Bool.{Bool, true, false, not, cond, and-false}
 use mathlib.Core.List.{List}
 use Prim.Native.Nat.{ℕ, _+_, _-_, _*_, _<_, _≤_}
 use native.Mathlib.Omega.{arith}
-use lib.Dec.{T, leb, eqb, leb→le, ltb→lt, le→leb, lt→ltb}
+use lib.Dec.{T, leb, eqb}
 use borrow.Author.Tests.{lt-ltb, le-ltb}
 use Rattle.words.specs.Word.{bits}
 use Rattle.words.proofs.Rows.{in-table}
 use Rattle.formulas.specs.Formulas.{Extent, endOf, has}
-use Rattle.counting.proofs.Tests.{and-i, and-l, and-r, decT}
+use Rattle.formulas.proofs.Extents.{has-e}
+use Rattle.counting.proofs.Tests.{holds, fails, and-l, and-r, decT}
 use Rattle.logic.proofs.Quantifiers.{all-e}
 use Rattle.checks.specs.Checked.{wordAt, isKind}
 use Rattle.values.specs.Said.{Said, says, nothing, saidBy}
 use Rattle.values.proofs.Naturals.{le-or-lt}
 use Rattle.lookup.specs.Lookup.{isSaid, verdictNumber, all, headPlaces, headLines, headSamples, lineStart, lineExtent, wholeHead, wholeLineAt, wholeLine, wholeAnswer, saidAt, lookedUp}
 
--- ---- the samples of an extent
-pub has-e : (e : Extent) (t : ℕ) → T (has e t) → (e .first ≤ t) × (t < endOf e)
-has-e e t h = (leb→le (e .first) t (and-l (leb (e .first) t) _ h), ltb→lt t (endOf e) (and-r (leb (e .first) t) _ h))
-
-pub has-i : (e : Extent) (t : ℕ) → e .first ≤ t → t < endOf e → T (has e t)
-has-i e t from to = and-i (leb (e .first) t) _ (le→leb (e .first) t from) (lt→ltb t (endOf e) to)
-
--- ---- what a test decides
-holds : (b : Bool) → T b → b ≡ true
-holds true h = refl
-holds false h = absurd h
-
-fails : (b : Bool) → T (not b) → b ≡ false
-fails true h = absurd h
-fails false h = refl
-
+-- ---- a test decides between a number and 0
 chosen : (b : Bool) (number : ℕ) → T b → cond b number 0 ≡ number
 chosen true number h = refl
 chosen false number h = absurd h
@@ -72,7 +58,8 @@ module _ (a : List ℕ) (i t l : ℕ) where
       let e : Extent = lineExtent a i in
       let good = and-r (eqb (bits 24 4 (wordAt a at)) 0) _ (and-r (isKind 14 a at) _ whole) in
       let verdicts = and-r (leb (endOf e) (headSamples a)) _ (and-r (leb 1 (e .length)) _ good) in
-      let row : t - e .first < e .length = omega (arith, has-e e t sample) in
+      let among = has-e e t sample in
+      let row : t - e .first < e .length = omega (arith, among .from, among .to) in
       all-e (λ _. true) (λ j. isSaid (saidBy (wordAt a (at + 1 + j)))) (e .length * headPlaces a) verdicts ((t - e .first) * headPlaces a + l) (in-table row place) tt
 
   pub says-there : i < headLines a → T (has (lineExtent a i) t) → l < headPlaces a → saidAt a i t l ≡ saidBy asked

@@ -16,13 +16,10 @@ use Rattle.lines.specs.Lines.{codeField, leftField, rightField, constantAt, bou
 use Rattle.sheet.specs.Layout.{Sizes, Layout, headChecked, sampleCount}
 use Rattle.roads.specs.Roads.{roadAt, roadChecked, roadsFrom}
 use Rattle.sheet.specs.Apart.{SamplesApart}
+use Rattle.counting.proofs.Tests.{fails}
 use Rattle.checks.proofs.Checks.{same-accepted}
 use Rattle.sheet.specs.Checking.{layoutOf}
 use Rattle.sheet.proofs.Whole.{AcceptedSheet}
-
-untrue : (t : Bool) → T (not t) → t ≡ false
-untrue true h = absurd h
-untrue false h = refl
 
 -- ---- the same checks from the same parts
 bind-same : {A B : Type 0} (c d : Checked A) (f g : A → Checked B) → c ≡ d → ((a : A) → f a ≡ g a) → (c >>= f) ≡ (d >>= g)
@@ -52,7 +49,7 @@ lineThen s v T room lines at =
 module _ (d : ℕ) (X Y : List ℕ) (apart : SamplesApart d X Y) where
   -- ---- words of a kind other than a sample's
   not-sample : (k i w n : ℕ) → T (not (eqb 4 k)) → kindOf w ≡ 4 → (ltb i n && eqb (kindOf w) k) ≡ false
-  not-sample k i w n other e = rw (e, untrue (eqb 4 k) other) (and-false (ltb i n))
+  not-sample k i w n other e = rw (e, fails (eqb 4 k) other) (and-false (ltb i n))
 
   -- the test of a kind, with a further test of the word, comes out alike; where it passes, the words are the same
   kind-same : (k i : ℕ) → T (not (eqb 4 k)) → isKind k X i ≡ isKind k Y i

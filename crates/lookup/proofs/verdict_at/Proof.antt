@@ -7,10 +7,11 @@ use native.Mathlib.Omega.{arith}
 use lib.Dec.{T, not-T}
 use Rattle.words.specs.Bytes.{wordsOf}
 use Rattle.formulas.specs.Formulas.{Extent, has}
+use Rattle.formulas.proofs.Extents.{has-e, has-i}
 use Rattle.checks.specs.Checked.{wordAt}
 use Rattle.values.specs.Said.{saidBy}
 use Rattle.lookup.specs.Lookup.{verdictNumber, headPlaces, extentAt, lineStart, lineExtent, saidAt}
-use Rattle.lookup.proofs.Exactly.{has-e, has-i, says-there, says-none}
+use Rattle.lookup.proofs.Exactly.{says-there, says-none}
 use Rattle.lookup.proofs.Walk.{line-size, start-small}
 use borrow.Author.Needs.{needs}
 use Rattle.lookup.proofs.verdict_at.Statement.{statement}
@@ -38,7 +39,7 @@ module _ (c : tie.After-first-at) where
   none-there none = sym (says-none answer (start .args .line) (start .args .sample) (start .args .place) (inr (inl (not-T (has extent (start .args .sample)) none))))
 
 returns-2 : tie.Need-returns-2
-returns-2 c = none-there (c .before) (λ h. omega (arith, first-read (c .before), has-e (extent (c .before)) (start (c .before) .args .sample) h))
+returns-2 c = none-there (c .before) (λ h. omega (arith, first-read (c .before), has-e (extent (c .before)) (start (c .before) .args .sample) h .from))
 
 module _ (c : tie.After-length-at) where
   abbrev sized : tie.After-first-at
@@ -51,7 +52,7 @@ module _ (c : tie.After-length-at) where
 returns-3 : tie.Need-returns-3
 returns-3 c =
     let s = sized (c .before) in
-    none-there s (λ h. omega (arith, first-read s, length-read (c .before), has-e (extent s) (start s .args .sample) h))
+    none-there s (λ h. omega (arith, first-read s, length-read (c .before), has-e (extent s) (start s .args .sample) h .to))
 
 returns-4 : tie.Need-returns-4
 returns-4 c =
@@ -90,7 +91,7 @@ returns-5 c =
     let placed = c .before .before in
     let s = sized (line placed) in
     let g = start s .args in
-    let sample : T (has (extent s) (g .sample)) = has-i (extent s) (g .sample) (omega (arith, first-read s)) (omega (arith, first-read s, length-read (line placed))) in
+    let sample : T (has (extent s) (g .sample)) = has-i (extent s) (g .sample) (record { from = omega (arith, first-read s); to = omega (arith, first-read s, length-read (line placed)) }) in
     c .verdict .ensures
     ∙ ap (λ (w : ℕ). verdictNumber (saidBy w)) (c .before .word-or-zero .ensures)
     ∙ ap₂ (λ (at n : ℕ). verdictNumber (saidBy (wordAt (answer s) (at + 1 + (row placed * n + g .place))))) (s .before .line-start .ensures) (placed .before .places .ensures)
