@@ -111,7 +111,7 @@ module _ (N : Network) (T : ℕ) (x : Recording) (lines : List Line) (room : ℕ
       rw index (behind-head (concat (lineWords N T x lines) (length lines)) _ _ _ (sizes N T x lines i + j) (omega arith))
       ∙ line-among N T x lines (length lines) i j h k
 
-  pub first-word : (i : ℕ) → i < length lines → wordAt answer (lineIndex (N.places) lines i) ≡ firstWord (lineIn lines i)
+  pub first-word : (i : ℕ) → i < length lines → wordAt answer (lineIndex (N.places) lines i) ≡ firstWord (lineIn lines i .extent)
   unfolding lineWords
   first-word i h =
       let z : lineIndex (N.places) lines i ≡ lineIndex (N.places) lines i + 0 = omega arith in

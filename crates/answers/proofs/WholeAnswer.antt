@@ -85,7 +85,7 @@ module _ (N : Network) (horizon : ℕ) (x : Recording) (lines : List Line) (room
       let e : Extent = lineIn lines i .extent in
       let payload : e .first * 2 ^ 12 + e .length < 2 ^ 24 = omega (arith, fits .ends i) in
       let fits-word : e .first * 2 ^ 12 + e .length < 2 ^ 28 = omega arith in
-      let first : wordAt a (lineStart a i) ≡ firstWord (lineIn lines i) = ap (wordAt a) at ∙ first-word N horizon x lines room fits i h in
+      let first : wordAt a (lineStart a i) ≡ firstWord (lineIn lines i .extent) = ap (wordAt a) at ∙ first-word N horizon x lines room fits i h in
       let spare : bits 24 4 (wordAt a (lineStart a i)) ≡ 0 = ap (bits 24 4) first ∙ omega arith in
       let read : lineExtent a i ≡ e = extent-read N horizon x lines room fits i h in
       let samples-there : lineExtent a i .length ≡ e .length = ap (λ (f : Extent). f .length) read in

@@ -20,8 +20,8 @@ module _ (n : ℕ) (lines : List Line) where
   wordsNeeded = 1 + lineIndex (length lines)
 
 -- kind 14: bits 23..12 the first sample, 11..0 the length
-abbrev pub firstWord : Line → ℕ
-firstWord line = wordOf 14 (line .extent .first * 2 ^ 12 + line .extent .length)
+abbrev pub firstWord : Extent → ℕ
+firstWord e = wordOf 14 (e .first * 2 ^ 12 + e .length)
 
 module _ (N : Network) (T : ℕ) (x : Recording) (lines : List Line) where
   -- verdict and margin of line i at sample t and place l
@@ -32,7 +32,7 @@ module _ (N : Network) (T : ℕ) (x : Recording) (lines : List Line) where
   unfoldable pub lineWords : ℕ → List ℕ
   lineWords i =
       let e : Extent = lineIn lines i .extent in
-      firstWord (lineIn lines i) ∷ rows (λ u. wordFor i (e .first + u)) (e .length) N.places
+      firstWord e ∷ rows (λ u. wordFor i (e .first + u)) (e .length) N.places
 
   -- kind 13: bits 27..20 n, 19..12 line count, 11..0 T
   unfoldable pub headWord : ℕ

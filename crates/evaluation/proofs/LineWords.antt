@@ -21,23 +21,23 @@ use Rattle.answers.specs.Answer.{firstWord}
 use Rattle.evaluation.specs.Line.{wordsUpTo, valueHere, roundsHere, LineWritten}
 use Rattle.evaluation.proofs.LineLocated.{valueOf, roundsOf, LineLocated}
 
-module _ (answer : List ℕ) (to : ℕ) (line : Line) {first : List ℕ} (room : to < length answer) (put-first : first ≡ set answer to (firstWord (lineSaid line))) where
+module _ (answer : List ℕ) (to : ℕ) (line : Line) {first : List ℕ} (room : to < length answer) (put-first : first ≡ set answer to (firstWord (lineSaid line .extent))) where
   -- ---- the first word
 
-  first-put : first ≡ put answer to (firstWord (lineSaid line) ∷ [])
-  first-put = put-first ∙ put-one answer to (firstWord (lineSaid line)) room
+  first-put : first ≡ put answer to (firstWord (lineSaid line .extent) ∷ [])
+  first-put = put-first ∙ put-one answer to (firstWord (lineSaid line .extent)) room
 
   pub length-kept : length first ≡ length answer
-  length-kept = ap length put-first ∙ length-set answer to (firstWord (lineSaid line))
+  length-kept = ap length put-first ∙ length-set answer to (firstWord (lineSaid line .extent))
 
   pub before-verdicts : take (to + 1) first ≡ wordsUpTo answer to (lineSaid line)
   unfolding put
   before-verdicts =
       ap (take (to + 1)) first-put
-      ∙ take-at (wordsUpTo answer to (lineSaid line)) (drop (to + 1) answer) (to + 1) (length-front answer to (firstWord (lineSaid line) ∷ []) (omega arith))
+      ∙ take-at (wordsUpTo answer to (lineSaid line)) (drop (to + 1) answer) (to + 1) (length-front answer to (firstWord (lineSaid line .extent) ∷ []) (omega arith))
 
-  behind-first : (v : List ℕ) → put first (to + 1) v ≡ put answer to (firstWord (lineSaid line) ∷ v)
-  behind-first v = ap (λ w. put w (to + 1) v) first-put ∙ put-append answer to (firstWord (lineSaid line) ∷ []) v (omega arith)
+  behind-first : (v : List ℕ) → put first (to + 1) v ≡ put answer to (firstWord (lineSaid line .extent) ∷ v)
+  behind-first v = ap (λ w. put w (to + 1) v) first-put ∙ put-append answer to (firstWord (lineSaid line .extent) ∷ []) v (omega arith)
 
   module _ {s : List ℕ} {L : Layout} {starts firsts : List ℕ} where
     -- ---- values and rounds that are the line's at each point
@@ -49,7 +49,7 @@ module _ (answer : List ℕ) (to : ℕ) (line : Line) {first : List ℕ} (room :
         → LineWritten s L answer starts firsts to (lineSaid line) after tally
     line-written value roundsOf same same-rounds done = record {
       written = done .written ∙ behind-first (rows (λ t l. chainWord (value t l)) (line .extent .length) (L .places))
-          ∙ ap (λ v. put answer to (firstWord (lineSaid line) ∷ v)) (rows-ext _ _ (line .extent .length) (L .places) (λ t l _ b. ap chainWord (same t l b)));
+          ∙ ap (λ v. put answer to (firstWord (lineSaid line .extent) ∷ v)) (rows-ext _ _ (line .extent .length) (L .places) (λ t l _ b. ap chainWord (same t l b)));
       counted = done .counted ∙ sum-same _ _ (line .extent .length) (λ t _. sum-same _ _ (L .places) (λ l b. ap (λ c. count (chainVerdict c)) (same t l b)));
       greatest = done .greatest ∙ most-same _ _ (line .extent .length) (λ t _. most-same _ _ (L .places) (λ l b. same-rounds t l b));
     }

@@ -136,7 +136,7 @@ module _ (s : List ℕ) (layout : Code.Layout) (distances : List ℕ) (lines : L
     unfolding before
     signal-after i u l h among b =
         rw (done .begins i h, done .ends, done .written)
-        (signal-before (sheetNetwork s layout) (layout .samples) (sheetRecording s layout) (sheet-bits s layout) lines constants answer (omega (arith, fits, length-done)) k (firstWord (lineIn lines k)) i u l h among b)
+        (signal-before (sheetNetwork s layout) (layout .samples) (sheetRecording s layout) (sheet-bits s layout) lines constants answer (omega (arith, fits, length-done)) k (firstWord (lineIn lines k .extent)) i u l h among b)
 
     signal-here : (i t l : ℕ) → i < k → Has (extentsOf lines i) t → l < n → earlier layout before starts firsts i t l ≡ valueAt chains (sheetNetwork s layout) (sheetRecording s layout) lines i t l
     signal-here i t l h among b =
@@ -160,7 +160,7 @@ module _ (s : List ℕ) (layout : Code.Layout) (distances : List ℕ) (lines : L
         arith,
         done .begins i h,
         done .ends,
-        length-append (take to words) (firstWord (lineIn lines k) ∷ []),
+        length-append (take to words) (firstWord (lineIn lines k .extent) ∷ []),
         length-take-le to words (omega (arith, room-left)),
         sizes-below (sheetNetwork s layout) (layout .samples) (sheetRecording s layout) lines i k h,
       );
@@ -205,7 +205,7 @@ module _ (s : List ℕ) (layout : Code.Layout) (distances : List ℕ) (lines : L
           begins = begun;
           low = low-more;
           ends = omega (arith, done .ends, line-ends n T lines k inside (table .sizes) refl);
-          written = here .written ∙ ap (λ (w : List ℕ). put words to (firstWord (lineIn lines k) ∷ w)) meant ∙ joined;
+          written = here .written ∙ ap (λ (w : List ℕ). put words to (firstWord (lineIn lines k .extent) ∷ w)) meant ∙ joined;
           greatest = ap₂ max (done .greatest) (here .greatest ∙ most) ∙ sym (most-more (roundsOfLine s layout lines) k);
           counted = ap₂ _+_ (done .counted) (here .counted ∙ many) ∙ sym (sum-more (yesOfLine s layout lines) k);
         }

@@ -30,12 +30,16 @@ pub record LineReady (s : List ℕ) (L : Layout) (distances words starts firsts 
 
 -- what its verdicts are made from: the words before index `to`, and its first word there
 abbrev pub wordsUpTo : List ℕ → ℕ → Line → List ℕ
-wordsUpTo answer to line = take to answer ++ (firstWord line ∷ [])
+wordsUpTo answer to line = take to answer ++ (firstWord (line .extent) ∷ [])
 
 -- by the bytes that are lent
 abbrev pub LineReadyIn : List ℕ → Layout → List ℕ → List ℕ → List ℕ → List ℕ → ℕ → Line → Type 0
 LineReadyIn sheet L distances answer starts firsts to line =
     LineReady (wordsOf sheet) L (numbersOf (wordsOf distances)) (wordsUpTo (wordsOf answer) to line) starts firsts line
+
+-- its words have room in the answer from index `to` on
+abbrev pub LineFitsIn : Layout → List ℕ → ℕ → Line → Type 0
+LineFitsIn L answer to line = to + (1 + line .extent .length * L .places) ≤ length (wordsOf answer)
 
 module _ (s : List ℕ) (L : Layout) (answer starts firsts : List ℕ) (to : ℕ) (line : Line) where
   -- row t has the line's sample first + t
@@ -46,6 +50,10 @@ module _ (s : List ℕ) (L : Layout) (answer starts firsts : List ℕ) (to : ℕ
   roundsHere t l = lineRounds s L (wordsUpTo answer to line) starts firsts (line .operator) (line .extent .first + t) l
 
   pub record LineWritten (after : List ℕ) (tally : Tally) : Type 0 where
-    pub written : after ≡ put answer to (firstWord line ∷ rows (λ t l. chainWord (valueHere t l)) (line .extent .length) (L .places))
+    pub written : after ≡ put answer to (firstWord (line .extent) ∷ rows (λ t l. chainWord (valueHere t l)) (line .extent .length) (L .places))
     pub counted : tally .yes ≡ sumBelow (λ t. sumBelow (λ l. count (chainVerdict (valueHere t l))) (L .places)) (line .extent .length)
     pub greatest : tally .rounds ≡ mostBelow (λ t. mostBelow (λ l. roundsHere t l) (L .places)) (line .extent .length)
+
+-- by the bytes that are lent, and those that are left
+abbrev pub LineWrittenIn : List ℕ → Layout → List ℕ → List ℕ → List ℕ → ℕ → Line → List ℕ → Tally → Type 0
+LineWrittenIn sheet L answer starts firsts to line after = LineWritten (wordsOf sheet) L (wordsOf answer) starts firsts to line (wordsOf after)

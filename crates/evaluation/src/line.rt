@@ -8,14 +8,13 @@ use verdicts::located::Located;
 use verdicts::located::locate;
 use verdicts::row::write_rows;
 ghost use mathlib.Core.Path.{_≡_};
-ghost use Prim.Native.Nat.{_+_, _*_, _≤_, _^_};
-ghost use lib.ListN.{length};
-ghost use Rattle.words.specs.Word.{wordOf};
-ghost use Rattle.words.specs.Bytes.{wordsOf, afterWords};
+ghost use Prim.Native.Nat.{_≤_};
+ghost use Rattle.words.specs.Bytes.{afterWords};
 ghost use Rattle.formulas.specs.Formulas.{endOf};
 ghost use Rattle.checks.specs.Limits.{mostSamples};
 ghost use Rattle.lines.specs.Decoding.{extentSaid, lineSaid};
-ghost use Rattle.evaluation.specs.Line.{LineReadyIn, LineWritten};
+ghost use Rattle.answers.specs.Answer.{firstWord};
+ghost use Rattle.evaluation.specs.Line.{LineReadyIn, LineFitsIn, LineWrittenIn};
 
 // Kind 14, in bits 31..28.
 const LINE: u32 = 3758096384;
@@ -23,7 +22,7 @@ const LINE: u32 = 3758096384;
 // The first sample in bits 23..12, the length in 11..0.
 fn first_word(extent: Extent) -> u32
     requires { ⌜ endOf (extentSaid extent) ≤ mostSamples ⌝ }
-    ensures { λ r. ⌜ r ≡ wordOf 14 (extent .first * 2 ^ 12 + extent .length) ⌝ }
+    ensures { λ r. ⌜ r ≡ firstWord (extentSaid extent) ⌝ }
 {
     let first = extent.first;
     let length = extent.length;
@@ -41,8 +40,8 @@ pub(crate) fn write_line(
     answer: &mut [u8],
     to: usize,
 ) -> Tally
-    requires { ⌜ LineReadyIn (now sheet) layout (now distances) (now answer) (now starts) (now firsts) to (lineSaid line) × (to + (1 + line .extent .length * layout .places) ≤ length (wordsOf (now answer))) ⌝ }
-    ensures written { λ r. ⌜ LineWritten (wordsOf (now (sheet .entry))) layout (wordsOf (now (answer .entry))) (now (starts .entry)) (now (firsts .entry)) to (lineSaid line) (wordsOf (now (answer .exit))) r ⌝ }
+    requires { ⌜ LineReadyIn (now sheet) layout (now distances) (now answer) (now starts) (now firsts) to (lineSaid line) × LineFitsIn layout (now answer) to (lineSaid line) ⌝ }
+    ensures written { λ r. ⌜ LineWrittenIn (now (sheet .entry)) layout (now (answer .entry)) (now (starts .entry)) (now (firsts .entry)) to (lineSaid line) (now (answer .exit)) r ⌝ }
     ensures tail { λ _. ⌜ afterWords (now (answer .exit)) ≡ afterWords (now (answer .entry)) ⌝ }
 {
     let extent = line.extent;

@@ -33,7 +33,7 @@ module _ (c : tie.After-locate) where
   room : start .args .to < length answer
   room = omega (arith, start .pre .1)
 
-  put-first : first ≡ set answer (start .args .to) (firstWord (lineSaid (start .args .line)))
+  put-first : first ≡ set answer (start .args .to) (firstWord (lineSaid (start .args .line) .extent))
   put-first =
       c .before .before .before .before .put-word .ensures .0 ∙ ap (set answer (start .args .to)) (c .before .before .before .before .before .first-word .ensures)
 
