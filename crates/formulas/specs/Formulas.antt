@@ -26,7 +26,7 @@ pub data Operator : Type 0 where
   Eventually Always : Direction → ℕ → ℕ → ℕ → Operator
   Everywhere : ℕ → ℕ → ℕ → Operator
 
--- codes 12 to 14 (M-100)
+-- codes 12 to 14: until, eventually and always that look back (M-100)
 abbrev pub Since : ℕ → ℕ → ℕ → ℕ → Operator
 Since = Until backward
 

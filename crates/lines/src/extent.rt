@@ -31,6 +31,7 @@ fn operand(firsts: &[u32], lengths: &[u32], i: usize) -> Extent
     Extent { first, length }
 }
 
+// The later and the earlier of two samples.
 fn later(a: u32, b: u32) -> u32
     ensures { λ r. ⌜ r ≡ max a b ⌝ }
 {
