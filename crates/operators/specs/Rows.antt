@@ -11,6 +11,7 @@ use Rattle.formulas.specs.Formulas.{forward, backward, Recording}
 use Rattle.logic.specs.Table.{Signal, untilAt, everTrue}
 use Rattle.values.specs.Chain.{chains, chainLattice, chainOpposite}
 use Rattle.values.specs.Signals.{signalIn, turned}
+use Rattle.operators.specs.Reach.{Window}
 
 -- the first n numbers of a row
 pub record Filled (n : ℕ) (f : ℕ → ℕ) (row : List ℕ) : Type 0 where
@@ -71,3 +72,7 @@ module _ (words : List ℕ) (places : ℕ) where
 
   abbrev pub eventuallyIn : Bool → (start lower upper : ℕ) → Signal chains
   eventuallyIn dual start lower upper = eventuallyAt dual (signalIn words start places) lower upper
+
+  -- eventually's window is there, and a row with room that holds the values at the sample before, if there is one
+  abbrev pub EventuallyReady : Bool → (start lower upper : ℕ) → ℕ → List ℕ → Type 0
+  EventuallyReady dual start lower upper t row = Window words start places lower upper t × (places ≤ length row) × Held places (eventuallyIn dual start lower upper) t row

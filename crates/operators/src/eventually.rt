@@ -3,11 +3,10 @@ use crate::signals::turn;
 use crate::signals::turned_at;
 use crate::window::Bounds;
 ghost use mathlib.Core.Path.{_≡_};
-ghost use Prim.Native.Nat.{_+_, _≤_};
-ghost use lib.ListN.{length};
+ghost use Prim.Native.Nat.{_+_};
 ghost use Rattle.words.specs.Bytes.{wordsOf};
-ghost use Rattle.operators.specs.Reach.{Window, Reached};
-ghost use Rattle.operators.specs.Rows.{RowLeft, Former, Held, aheadIn, eventuallyIn};
+ghost use Rattle.operators.specs.Reach.{Reached};
+ghost use Rattle.operators.specs.Rows.{RowLeft, Former, aheadIn, eventuallyIn, EventuallyReady};
 
 // The greatest of a window, read from its first sample to its last.
 fn greatest_ahead(
@@ -88,7 +87,7 @@ pub fn eventually_row(
     t: usize,
     row: &mut [u32],
 )
-    requires { ⌜ Window (wordsOf (now words)) start places lower upper t × (places ≤ length (now row)) × Held places (eventuallyIn (wordsOf (now words)) places dual start lower upper) t (now row) ⌝ }
+    requires { ⌜ EventuallyReady (wordsOf (now words)) places dual start lower upper t (now row) ⌝ }
     ensures { λ _. ⌜ RowLeft places (eventuallyIn (wordsOf (now (words .entry))) places dual start lower upper t) (now (row .entry)) (now (row .exit)) ⌝ }
 {
     let bounds = Bounds {

@@ -52,6 +52,11 @@ pub record Start (sheet : List ℕ) (roads : ℕ) (inside : List Bool) (x right 
   pub low : LowOutside inside x
   pub right-low : LowOutside inside right
 
+-- and there is room for the former row and for what each place hands on
+abbrev pub StartWithRoom : List ℕ → ℕ → List Bool → (x right old both : List ℕ) → Type 0
+StartWithRoom sheet roads inside x right old both =
+    Start sheet roads inside x right × (length inside * lanes ≤ length old) × (length inside * lanes ≤ length both)
+
 -- old is x, and both the greater of x and right
 pub record Joined (x right old both : List ℕ) (n : ℕ) : Type 0 where
   pub former : (place lane : ℕ) → place < n → lane < lanes → laneOf old lane place ≡ laneOf x lane place

@@ -5,7 +5,7 @@ ghost use lib.ListN.{length};
 ghost use Rattle.words.specs.Bytes.{wordsOf};
 ghost use Rattle.lanes.specs.Lanes.{lanes};
 ghost use Rattle.lanes.specs.Rows.{TableThere};
-ghost use Rattle.surrounds.specs.Steps.{Start, Settled};
+ghost use Rattle.surrounds.specs.Steps.{StartWithRoom, Settled};
 ghost use Rattle.surrounds.specs.Blocks.{Rooms, CentreMasked};
 ghost use Rattle.surrounds.specs.Lent.{RowsReadyIn, CentresDoneIn, BlockReadyIn, BlockDoneIn};
 use crate::iteration::settle;
@@ -67,7 +67,7 @@ fn surround_centre(
     sheet: &[u8],
     network: Network,
 ) -> u64
-    requires { ⌜ Start (wordsOf (now sheet)) (network .roads) (now inside) (now x) (now ring) × (length (now inside) * lanes ≤ length (now old)) × (length (now inside) * lanes ≤ length (now both)) ⌝ }
+    requires { ⌜ StartWithRoom (wordsOf (now sheet)) (network .roads) (now inside) (now x) (now ring) (now old) (now both) ⌝ }
     ensures { λ r. ⌜ Settled (wordsOf (now (sheet .entry))) (network .roads) (length (now (inside .entry))) (now (ring .entry)) (now (x .entry)) r (now (x .exit)) ⌝ }
 {
     clear_outside(inside, old);
