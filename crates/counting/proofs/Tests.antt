@@ -48,9 +48,25 @@ bool-ext true false f g = absurd (f tt)
 bool-ext false true f g = absurd (g tt)
 bool-ext false false f g = refl
 
+-- a proof by the outcome of a test
+pub by-test : (t : Bool) (P : Bool → Type 0) → (T t → P true) → (T (not t) → P false) → P t
+by-test true P f g = f tt
+by-test false P f g = g tt
+
 -- a number below n + 1 is n or below n
 pub below : {l n : ℕ} → l < suc n → (l ≡ n) ⊎ (l < n)
 below h = eq-or-lt-of-le (le-of-suc-le-suc h)
+
+-- each number below n is of the first sort, or one is of the second
+pub all-or-some : (P Q : ℕ → Type 0) (n : ℕ) → ((k : ℕ) → k < n → P k ⊎ Q k) → ((k : ℕ) → k < n → P k) ⊎ ((k : ℕ) × (k < n) × Q k)
+all-or-some P Q zero f = inl (λ k h. absurd (not-suc-le-zero h))
+all-or-some P Q (suc n) f = ⊎-elim
+    (λ a. ⊎-elim
+    (λ p. inl (λ k h. ⊎-elim (λ e. rw e p) (λ c. a k c) (below h)))
+    (λ q. inr (n, lt-suc-self n, q))
+    (f n (lt-suc-self n)))
+    (λ s. inr (s .0, le-trans (s .1) (le-suc n), s .2))
+    (all-or-some P Q n (λ k h. f k (le-trans h (le-suc n))))
 
 -- `cond c x true` is "if c then x"; `cond c x false` is "c and x"
 pub if-e : (c x : Bool) → T (cond c x true) → T c → T x

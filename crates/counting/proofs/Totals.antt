@@ -1,15 +1,15 @@
 -- The sum and the greatest of f below n: one number more, the same numbers, bounds, parts, and how many verdicts can be a yes.
 use mathlib.Core.Path.{_≡_, refl, ap₂}
 use mathlib.Core.Logic.{⊎-elim}
-use mathlib.Core.Bool.{Bool, true, false}
+use mathlib.Core.Bool.{Bool, true, false, cond}
 use Prim.Native.Nat.{ℕ, zero, suc, _+_, _*_, _<_, _≤_, zero-le, max}
 use native.Mathlib.Nat.{not-suc-le-zero, suc-mul, add-zero, add-suc, le-trans, le-antisymm}
 use native.Mathlib.Numerals.{add-one}
 use native.Mathlib.Decide.{decLt}
 use native.Mathlib.Omega.{arith}
-use lib.Dec.{lit≤}
-use Rattle.counting.specs.Totals.{count, sumBelow, mostBelow}
-use Rattle.counting.proofs.Tests.{below}
+use lib.Dec.{T, lit≤}
+use Rattle.counting.specs.Totals.{count, sumBelow, mostBelow, mostOver}
+use Rattle.counting.proofs.Tests.{holds, by-test, below}
 
 -- ---- sums
 pub sum-more : (f : ℕ → ℕ) (n : ℕ) → sumBelow f (n + 1) ≡ sumBelow f n + f n
@@ -87,6 +87,13 @@ pub le-most : (f : ℕ → ℕ) (n i : ℕ) → i < n → f i ≤ mostBelow f n
 unfolding mostBelow
 le-most f zero i l = absurd (not-suc-le-zero l)
 le-most f (suc n) i l = ⊎-elim (λ e. rw e (omega arith)) (λ k. omega (arith, le-most f n i k)) (below l)
+
+-- where a test passes
+pub over-le : (test : ℕ → Bool) (f : ℕ → ℕ) (n b : ℕ) → ((i : ℕ) → i < n → T (test i) → f i ≤ b) → mostOver test f n ≤ b
+over-le test f n b h = most-le _ n b (λ i l. by-test (test i) (λ t. cond t (f i) 0 ≤ b) (h i l) (λ _. zero-le))
+
+pub le-over : (test : ℕ → Bool) (f : ℕ → ℕ) (n i : ℕ) → i < n → T (test i) → f i ≤ mostOver test f n
+le-over test f n i l t = let h : cond (test i) (f i) 0 ≤ mostOver test f n = le-most (λ k. cond (test k) (f k) 0) n i l in rw (holds (test i) t) at h
 
 -- numbers from k on that are no greater than one before them
 pub most-front : (f : ℕ → ℕ) (k n j : ℕ) → k ≤ n → j < k → ((i : ℕ) → k ≤ i → i < n → f i ≤ f j) → mostBelow f n ≡ mostBelow f k

@@ -43,7 +43,7 @@ module _ (T : ℕ) (operand : ℕ → Extent) (within : (i : ℕ) → endOf (ope
   extent-end (And i j) s = both i j s
   extent-end (Until side i j lower upper) s = looking-end T side upper (common (operand i) (operand j)) (both i j) s
   extent-end (Somewhere i lower upper) s = within i
-  extent-end (Surrounded i j lower upper) s = both i j s
+  extent-end (Surrounded islands i j lower upper) s = both i j s
   extent-end (Or i j) s = both i j s
   extent-end (Eventually side i lower upper) s = looking-end T side upper (operand i) (λ _. within i) s
   extent-end (Always side i lower upper) s = looking-end T side upper (operand i) (λ _. within i) s

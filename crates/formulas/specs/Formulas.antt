@@ -1,5 +1,5 @@
 -- What the lines of a table say and what is recorded, without what it means: operators with their operands, constants and bounds, and the samples
--- for which a line has verdicts ("Codes" of document 01, request M-100).
+-- for which a line has verdicts ("Codes" of document 01, requests M-100 and M-101).
 use mathlib.Core.List.{List}
 use mathlib.Core.Bool.{Bool, _&&_}
 use Prim.Native.Nat.{ℕ, _+_, _-_, _<_, _^_, min, max}
@@ -13,7 +13,7 @@ pub data Direction : Type 0 where
   forward backward : Direction
 
 -- What a line says, in the order of the codes 0 to 11. Atoms have a signal and a constant; operands are numbers of earlier lines; bounds
--- come last, lower before upper.
+-- come last, lower before upper. Surrounded says first whether islands count, the regions with an empty boundary: not for code 7, but for 15 (M-101).
 pub data Operator : Type 0 where
   True : Operator
   AtLeast AtMost : ℕ → ℤ → Operator
@@ -21,7 +21,7 @@ pub data Operator : Type 0 where
   And : ℕ → ℕ → Operator
   Until : Direction → ℕ → ℕ → ℕ → ℕ → Operator
   Somewhere : ℕ → ℕ → ℕ → Operator
-  Surrounded : ℕ → ℕ → ℕ → ℕ → Operator
+  Surrounded : Bool → ℕ → ℕ → ℕ → ℕ → Operator
   Or : ℕ → ℕ → Operator
   Eventually Always : Direction → ℕ → ℕ → ℕ → Operator
   Everywhere : ℕ → ℕ → ℕ → Operator
@@ -71,7 +71,7 @@ extentOf T operand (Not i) = operand i
 extentOf T operand (And i j) = common (operand i) (operand j)
 extentOf T operand (Until side i j lower upper) = looking side upper (common (operand i) (operand j))
 extentOf T operand (Somewhere i lower upper) = operand i
-extentOf T operand (Surrounded i j lower upper) = common (operand i) (operand j)
+extentOf T operand (Surrounded islands i j lower upper) = common (operand i) (operand j)
 extentOf T operand (Or i j) = common (operand i) (operand j)
 extentOf T operand (Eventually side i lower upper) = looking side upper (operand i)
 extentOf T operand (Always side i lower upper) = looking side upper (operand i)
@@ -106,7 +106,7 @@ ConstantIn Fit (Not i) = Unit {0}
 ConstantIn Fit (And i j) = Unit {0}
 ConstantIn Fit (Until side i j lower upper) = Unit {0}
 ConstantIn Fit (Somewhere i lower upper) = Unit {0}
-ConstantIn Fit (Surrounded i j lower upper) = Unit {0}
+ConstantIn Fit (Surrounded islands i j lower upper) = Unit {0}
 ConstantIn Fit (Or i j) = Unit {0}
 ConstantIn Fit (Eventually side i lower upper) = Unit {0}
 ConstantIn Fit (Always side i lower upper) = Unit {0}

@@ -1,21 +1,23 @@
 -- Examples on the definitions of the logic alone, so that they are pinned where they stand: K of document 01 for the bounds of a surround, H for its
--- rounds, an until, a since, an always and a historically for the samples that they look at. All examples on whole sheets are in the crate answers.
+-- rounds, B and C in both readings and two places for its islands, an until, a since, an always and a historically for the samples that they look
+-- at. All examples on whole sheets are in the crate answers.
 use mathlib.Core.Path.{_≡_, refl}
-use mathlib.Core.Bool.{cond, _||_}
+use mathlib.Core.Bool.{true, false, cond, _||_}
 use mathlib.Core.List.{List, [], _∷_}
 use Prim.Native.Nat.{ℕ, zero, suc, _+_}
 use lib.Dec.{eqb}
 use lib.ListN.{getD}
 use lib.IntN.{ℤ, pos, negsuc}
 use Rattle.logic.specs.Lattice.{leastOver, greatestOver}
-use Rattle.logic.specs.Margin.{finite}
+use Rattle.logic.specs.Margin.{minusInfinity, finite, plusInfinity}
 use Rattle.formulas.specs.Formulas.{forward, backward, Surrounded, Always, Historically}
 use Rattle.network.specs.Distance.{dist, none, direct, distance}
-use Rattle.network.specs.Network.{Network, joined, distanceIn, within}
-use Rattle.logic.specs.Iteration.{iterate, masked, first, atRest, rounds}
-use Rattle.logic.specs.Surround.{greatestRegion, boundary, allowed, regionValue, surround}
-use Rattle.logic.specs.Table.{Signal, margins, windowAt, untilAt, surroundAt, value}
-use Rattle.logic.specs.Counts.{roundsAt}
+use Rattle.network.specs.Network.{Network, joined, distanceIn, within, reached, other}
+use Rattle.logic.specs.Iteration.{iterate, masked, except, first, atRest, rounds}
+use Rattle.logic.specs.Surround.{greatestRegion, boundary, bounded, allowed, regionValue, surround}
+use Rattle.logic.specs.Table.{Signal, margins, everTrue, windowAt, untilAt, surroundAt, value}
+use Rattle.logic.specs.Counts.{runRounds, surroundRounds, roundsAt}
+use Rattle.counting.specs.Totals.{mostBelow}
 
 -- places 0-1-2 with weights 1
 abbrev path : Network
@@ -24,8 +26,8 @@ path = record { places = 3; weight = λ a b. cond (eqb (a + 1) b || eqb (b + 1) 
 abbrev signal : List ℤ → Signal margins
 signal xs t l = finite (getD xs l (pos 0))
 
-K : surroundAt margins path (signal (pos 4 ∷ pos 1 ∷ pos 1 ∷ [])) (signal (pos 9 ∷ pos 9 ∷ pos 9 ∷ [])) 2 2 0 0 ≡ finite (pos 1)
-unfolding surroundAt surround greatestRegion allowed regionValue boundary leastOver greatestOver within distanceIn distance direct joined
+K : surroundAt margins path false (signal (pos 4 ∷ pos 1 ∷ pos 1 ∷ [])) (signal (pos 9 ∷ pos 9 ∷ pos 9 ∷ [])) 2 2 0 0 ≡ finite (pos 1)
+unfolding surroundAt surround greatestRegion allowed bounded regionValue boundary leastOver greatestOver within distanceIn distance direct joined
 K = refl
 
 -- a table of two lines
@@ -33,9 +35,63 @@ abbrev lines : Signal margins → Signal margins → ℕ → Signal margins
 lines left right zero = left
 lines left right (suc i) = right
 
-H : roundsAt path (lines (signal (pos 4 ∷ pos 4 ∷ pos 4 ∷ [])) (signal (pos 9 ∷ negsuc 2 ∷ pos 9 ∷ []))) (Surrounded 0 1 1 1) 0 0 ≡ 3
-unfolding roundsAt rounds first atRest iterate masked leastOver within distanceIn distance direct joined
+H : roundsAt path (lines (signal (pos 4 ∷ pos 4 ∷ pos 4 ∷ [])) (signal (pos 9 ∷ negsuc 2 ∷ pos 9 ∷ []))) (Surrounded false 0 1 1 1) 0 0 ≡ 3
+unfolding roundsAt surroundRounds runRounds mostBelow other reached except rounds first atRest iterate masked leastOver within distanceIn distance direct joined
 H = refl
+
+-- ---- islands (M-101)
+
+abbrev lone : Network
+lone = record { places = 1; weight = λ a b. none }
+
+-- B and C: a lone place is an island, and no run is about it
+B : surroundAt margins lone false (signal (pos 7 ∷ [])) (everTrue margins) 0 0 0 0 ≡ minusInfinity
+unfolding surroundAt surround greatestRegion allowed bounded regionValue boundary leastOver greatestOver within distanceIn distance direct joined
+B = refl
+
+B-islands : surroundAt margins lone true (signal (pos 7 ∷ [])) (everTrue margins) 0 0 0 0 ≡ finite (pos 7)
+unfolding surroundAt surround greatestRegion allowed bounded regionValue boundary leastOver greatestOver within distanceIn distance direct joined
+B-islands = refl
+
+B-rounds : surroundRounds lone 0 0 false (signal (pos 7 ∷ []) 0) (everTrue margins 0) 0 ≡ 0
+unfolding surroundRounds mostBelow other reached distanceIn distance direct
+B-rounds = refl
+
+C : surroundAt margins lone false (everTrue margins) (everTrue margins) 0 0 0 0 ≡ minusInfinity
+unfolding surroundAt surround greatestRegion allowed bounded regionValue boundary leastOver greatestOver within distanceIn distance direct joined
+C = refl
+
+C-islands : surroundAt margins lone true (everTrue margins) (everTrue margins) 0 0 0 0 ≡ plusInfinity
+unfolding surroundAt surround greatestRegion allowed bounded regionValue boundary leastOver greatestOver within distanceIn distance direct joined
+C-islands = refl
+
+-- Two places that a road joins: without islands only the centre alone is a region, with right 4 on the other place; with islands both places are one, with
+-- left 5. The one run comes to 4 in a step, so it has 2 rounds.
+abbrev pair : Network
+pair = record { places = 2; weight = λ a b. cond (eqb a b) none (dist 1) }
+
+abbrev left : Signal margins
+left = signal (pos 5 ∷ pos 6 ∷ [])
+
+abbrev right : Signal margins
+right = signal (pos 3 ∷ pos 4 ∷ [])
+
+two-places : surroundAt margins pair false left right 0 9 0 0 ≡ finite (pos 4)
+unfolding surroundAt surround greatestRegion allowed bounded regionValue boundary leastOver greatestOver within distanceIn distance direct joined
+two-places = refl
+
+two-places-islands : surroundAt margins pair true left right 0 9 0 0 ≡ finite (pos 5)
+unfolding surroundAt surround greatestRegion allowed bounded regionValue boundary leastOver greatestOver within distanceIn distance direct joined
+two-places-islands = refl
+
+two-places-rounds : surroundRounds pair 0 9 false (left 0) (right 0) 0 ≡ 2
+unfolding surroundRounds runRounds mostBelow other reached except rounds first atRest iterate masked leastOver within distanceIn distance direct joined
+two-places-rounds = refl
+
+-- With left 5 on both places the plain run rests at once, after 1 round; the one run that counts comes to 4 as before, after 2.
+level-rounds : surroundRounds pair 0 9 false (signal (pos 5 ∷ pos 5 ∷ []) 0) (right 0) 0 ≡ 2
+unfolding surroundRounds runRounds mostBelow other reached except rounds first atRest iterate masked leastOver within distanceIn distance direct joined
+level-rounds = refl
 
 -- samples one after the other, alike at every place
 abbrev overTime : List ℤ → Signal margins

@@ -25,6 +25,14 @@ same-kept L = record {
   keeps-join = λ a b c d h k. ap₂ (L .join) h k;
 }
 
+-- the greatest over tests and values that are the same below n
+pub greatest-same : (L : Lattice) {t t′ : ℕ → Bool} {f f′ : ℕ → L.Value} (n : ℕ) → ((k : ℕ) → k < n → t k ≡ t′ k) → ((k : ℕ) → k < n → f k ≡ f′ k)
+    → greatestOver L t f n ≡ greatestOver L t′ f′ n
+unfolding greatestOver
+greatest-same L zero h e = refl
+greatest-same L (suc n) h e = ap₂ (L .join) (greatest-same L n (λ k b. h k (le-trans b (le-suc n))) (λ k b. e k (le-trans b (le-suc n))))
+    (ap₂ (λ t v. cond t v (L .bottom)) (h n (lt-suc-self n)) (e n (lt-suc-self n)))
+
 module _ (L M : Lattice) (R : L.Value → M.Value → Type 0) (K : Keeps L M R) where
   pub cond-kept : (t : Bool) (a b : L.Value) (c d : M.Value) → (T t → R a c) → R b d → R (cond t a b) (cond t c d)
   cond-kept true a b c d h k = h tt
@@ -55,9 +63,9 @@ module _ (L M : Lattice) (R : L.Value → M.Value → Type 0) (K : Keeps L M R) 
     unfolding regionValue
     regionValue-kept A = K.keeps-meet _ _ _ _ (least-kept A p p′ n (λ l b _. hp l b)) (least-kept _ q q′ n (λ l b _. hq l b))
 
-    pub surround-kept : (inside edge : ℕ → Bool) (l : ℕ) → R (surround L joined n inside edge p q l) (surround M joined n inside edge p′ q′ l)
+    pub surround-kept : (islands : Bool) (inside edge : ℕ → Bool) (l : ℕ) → R (surround L joined n islands inside edge p q l) (surround M joined n islands inside edge p′ q′ l)
     unfolding surround
-    surround-kept inside edge l = region-kept n _ _ (λ A. cond-kept (allowed joined n inside edge l (holds A)) _ _ _ _ (λ _. regionValue-kept (holds A)) K.keeps-bottom)
+    surround-kept islands inside edge l = region-kept n _ _ (λ A. cond-kept (allowed joined n islands inside edge l (holds A)) _ _ _ _ (λ _. regionValue-kept (holds A)) K.keeps-bottom)
 
     pub iterate-kept : (i l : ℕ) → l < n → R (iterate L joined n p q i l) (iterate M joined n p′ q′ i l)
     unfolding iterate

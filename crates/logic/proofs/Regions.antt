@@ -20,12 +20,17 @@ holds-region zero A l b = absurd (not-suc-le-zero b)
 holds-region (suc n) A zero b = refl
 holds-region (suc n) A (suc l) b = holds-region n (λ k. A (suc k)) l (le-of-suc-le-suc b)
 
-pub region-e : (n : ℕ) (f : List Bool → Bool) → T (greatestRegion verdictLattice n f) → (A : List Bool) × T (f A)
+-- one place before the others
+abbrev before : Bool → (ℕ → Bool) → ℕ → Bool
+before b A zero = b
+before b A (suc l) = A l
+
+pub region-e : (n : ℕ) (f : List Bool → Bool) → T (greatestRegion verdictLattice n f) → (A : ℕ → Bool) × T (f (region n A))
 unfolding greatestRegion
-region-e zero f h = ([], h)
+region-e zero f h = (λ _. false, h)
 region-e (suc n) f h = ⊎-elim
-    (λ u. let r = region-e n (λ A. f (false ∷ A)) u in (false ∷ r .0, r .1))
-    (λ u. let r = region-e n (λ A. f (true ∷ A)) u in (true ∷ r .0, r .1))
+    (λ u. let r = region-e n (λ A. f (false ∷ A)) u in (before false (r .0), r .1))
+    (λ u. let r = region-e n (λ A. f (true ∷ A)) u in (before true (r .0), r .1))
     (or-e (greatestRegion verdictLattice n (λ A. f (false ∷ A))) _ h)
 
 pub region-i : (n : ℕ) (f : List Bool → Bool) (A : ℕ → Bool) → T (f (region n A)) → T (greatestRegion verdictLattice n f)

@@ -14,8 +14,7 @@ use Rattle.logic.proofs.Keeps.{same-kept, iterate-kept}
 use Rattle.logic.proofs.Resting.{Rests, rests-on}
 use Rattle.logic.proofs.Order.{atMost-anti}
 use Rattle.logic.proofs.Margins.{margin-apart, margin-refl}
-use Rattle.logic.proofs.Thresholds.{settled}
-use Rattle.logic.proofs.Limit.{rested}
+use Rattle.logic.proofs.Thresholds.{settled, rested}
 
 -- ---- the first number that passes
 pub first-le : (t : ℕ → Bool) (d : ℕ) → first t d ≤ d
@@ -111,6 +110,6 @@ module _ (joined : ℕ → ℕ → Bool) (n : ℕ) (inside edge : ℕ → Bool) 
   abbrev q : ℕ → Margin
   q = masked marginLattice edge right
 
-  pub last-round : (l : ℕ) → l < n → iterate marginLattice joined n p q (rounds joined n p q) l ≡ surround marginLattice joined n inside edge left right l
+  pub last-round : (l : ℕ) → l < n → iterate marginLattice joined n p q (rounds joined n p q) l ≡ surround marginLattice joined n true inside edge left right l
   unfolding rounds last
   last-round l b = let rest = rest-e joined n p q (last joined n p q) (at-last joined n p q) in rest l b ∙ rested marginLattice margin-apart joined n inside edge left right (last joined n p q) rest l b

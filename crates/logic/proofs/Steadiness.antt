@@ -1,4 +1,4 @@
--- Steadiness at the level of values (Remark 3.6): over every table of lines, codes 0 to 14, recordings at most d apart give margins at most d
+-- Steadiness at the level of values (Remark 3.6): over every table of lines, codes 0 to 15, recordings at most d apart give margins at most d
 -- apart or the same infinity, and where the margin is beyond d both verdicts are yes if it is positive and both are no if it is negative.
 use mathlib.Core.Path.{_≡_}
 use mathlib.Core.List.{List}

@@ -1,5 +1,6 @@
 -- One induction over the lines of a table, for every relation that the operations keep. Steadiness and the agreement of margin and verdict
 -- are its instances.
+use mathlib.Core.Bool.{Bool}
 use mathlib.Core.List.{List, [], _∷_}
 use Prim.Native.Nat.{ℕ, _-_, _<_}
 use lib.IntN.{ℤ, _-ℤ_}
@@ -30,10 +31,11 @@ module _ (R M : Reading) (N : Network) (Rel : R.lattice.Value → M.lattice.Valu
   unfolding somewhereAt
   somewhere-kept p p′ hp lower upper t l b = greatest-kept R.lattice M.lattice Rel K (within N l lower upper) _ _ N.places (λ k c _. hp t k c)
 
-  surroundAt-kept : (p q : Signal R) (p′ q′ : Signal M) → Alike p p′ → Alike q q′ → (lower upper : ℕ) → Alike (surroundAt R N p q lower upper) (surroundAt M N p′ q′ lower upper)
+  surroundAt-kept : (islands : Bool) (p q : Signal R) (p′ q′ : Signal M) → Alike p p′ → Alike q q′ → (lower upper : ℕ)
+      → Alike (surroundAt R N islands p q lower upper) (surroundAt M N islands p′ q′ lower upper)
   unfolding surroundAt
-  surroundAt-kept p q p′ q′ hp hq lower upper t l b =
-      surround-kept R.lattice M.lattice Rel K (joined N) N.places (p t) (q t) (p′ t) (q′ t) (hp t) (hq t) _ _ l
+  surroundAt-kept islands p q p′ q′ hp hq lower upper t l b =
+      surround-kept R.lattice M.lattice Rel K (joined N) N.places (p t) (q t) (p′ t) (q′ t) (hp t) (hq t) islands _ _ l
 
   module _ (opposite-kept : (a : R.lattice.Value) (b : M.lattice.Value) → Rel a b → Rel (R.opposite a) (M.opposite b))
       (Fit : ℤ → Type 0) (x y : Recording)
@@ -48,7 +50,7 @@ module _ (R M : Reading) (N : Network) (Rel : R.lattice.Value → M.lattice.Valu
     value-kept line line′ h (And i j) fit t l b = K.keeps-meet _ _ _ _ (h i t l b) (h j t l b)
     value-kept line line′ h (Until side i j lower upper) fit t l b = until-kept side _ _ _ _ (h i) (h j) lower upper t l b
     value-kept line line′ h (Somewhere i lower upper) fit t l b = somewhere-kept _ _ (h i) lower upper t l b
-    value-kept line line′ h (Surrounded i j lower upper) fit t l b = surroundAt-kept _ _ _ _ (h i) (h j) lower upper t l b
+    value-kept line line′ h (Surrounded islands i j lower upper) fit t l b = surroundAt-kept islands _ _ _ _ (h i) (h j) lower upper t l b
     value-kept line line′ h (Or i j) fit t l b = opposite-kept _ _ (K.keeps-meet _ _ _ _ (opposite-kept _ _ (h i t l b)) (opposite-kept _ _ (h j t l b)))
     value-kept line line′ h (Eventually side i lower upper) fit t l b = until-kept side _ _ _ _ (λ u k e. K.keeps-top) (h i) lower upper t l b
     value-kept line line′ h (Always side i lower upper) fit t l b =

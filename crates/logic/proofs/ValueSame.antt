@@ -1,5 +1,6 @@
 -- The value of a line depends on its operands within their extents alone: an operator over time looks no further than its upper bound.
 use mathlib.Core.Path.{_≡_, refl, ap, ap₂}
+use mathlib.Core.Bool.{Bool}
 use Prim.Native.Nat.{ℕ, suc, _-_, _<_, _≤_}
 use native.Mathlib.Omega.{arith}
 use lib.Dec.{leb, leb→le}
@@ -42,11 +43,11 @@ module _ (R : Reading) (N : Network) where
   somewhere-same p p′ e hp lower upper t l b c =
       greatest-kept R.lattice R.lattice Same (same-kept R.lattice) (within N l lower upper) _ _ N.places (λ k d _. hp t k b d)
 
-  surround-same : (p q p′ q′ : Signal R) (e : Extent) → AlikeIn e p p′ → AlikeIn e q q′ → (lower upper : ℕ)
-      → AlikeIn e (surroundAt R N p q lower upper) (surroundAt R N p′ q′ lower upper)
+  surround-same : (islands : Bool) (p q p′ q′ : Signal R) (e : Extent) → AlikeIn e p p′ → AlikeIn e q q′ → (lower upper : ℕ)
+      → AlikeIn e (surroundAt R N islands p q lower upper) (surroundAt R N islands p′ q′ lower upper)
   unfolding surroundAt
-  surround-same p q p′ q′ e hp hq lower upper t l b c = surround-kept R.lattice R.lattice Same (same-kept R.lattice) (joined N) N.places
-      (p t) (q t) (p′ t) (q′ t) (λ k d. hp t k b d) (λ k d. hq t k b d) _ _ l
+  surround-same islands p q p′ q′ e hp hq lower upper t l b c = surround-kept R.lattice R.lattice Same (same-kept R.lattice) (joined N) N.places
+      (p t) (q t) (p′ t) (q′ t) (λ k d. hp t k b d) (λ k d. hq t k b d) islands _ _ l
 
   module _ (x : Recording) (line line′ : ℕ → Signal R) (extent : ℕ → Extent) (alike : (i : ℕ) → AlikeIn (extent i) (line i) (line′ i)) (T : ℕ) where
     -- both operands within the samples of both
@@ -68,7 +69,7 @@ module _ (R : Reading) (N : Network) where
     value-same (And i j) t l b c = ap₂ (R.lattice .meet) (lefts i j t l b c) (rights i j t l b c)
     value-same (Until side i j lower upper) t l b c = until-same side _ _ _ _ _ (lefts i j) (rights i j) lower upper t l b c
     value-same (Somewhere i lower upper) t l b c = somewhere-same _ _ _ (alike i) lower upper t l b c
-    value-same (Surrounded i j lower upper) t l b c = surround-same _ _ _ _ _ (lefts i j) (rights i j) lower upper t l b c
+    value-same (Surrounded islands i j lower upper) t l b c = surround-same islands _ _ _ _ _ (lefts i j) (rights i j) lower upper t l b c
     value-same (Or i j) t l b c = ap R.opposite (ap₂ (R.lattice .meet) (ap R.opposite (lefts i j t l b c)) (ap R.opposite (rights i j t l b c)))
     value-same (Eventually side i lower upper) t l b c = until-same side _ _ _ _ _ (λ _ _ _ _. refl) (alike i) lower upper t l b c
     value-same (Always side i lower upper) t l b c = ap R.opposite (until-same side _ _ _ _ _ (λ _ _ _ _. refl) (opposites i) lower upper t l b c)

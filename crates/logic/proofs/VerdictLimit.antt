@@ -1,17 +1,16 @@
--- Theorem 4.5 for verdicts: where the iteration rests, it is the surround. A region with left on it and right on its boundary is never
--- lost, and the places that are left when nothing changes any more are such a region.
+-- Theorem 4.5 with Corollary 4.6, for verdicts: where the iteration on the masked verdicts rests, it is the surround. A region with left on it and
+-- right on its boundary is never lost, and the places that are left when nothing changes any more are such a region.
 use mathlib.Core.Path.{_≡_}
-use mathlib.Core.Logic.{⊎-elim}
-use mathlib.Core.Bool.{Bool, not, _||_}
+use mathlib.Core.Logic.{inl, ⊎-elim}
+use mathlib.Core.Bool.{Bool, true, _||_}
 use Prim.Native.Nat.{ℕ, zero, suc, _<_}
 use lib.Dec.{T, T-not}
-use Rattle.logic.specs.Lattice.{verdictLattice, leastOver}
-use Rattle.logic.specs.Surround.{holds, boundary, regionValue}
-use Rattle.logic.specs.Iteration.{iterate}
+use Rattle.logic.specs.Lattice.{verdictLattice}
+use Rattle.logic.specs.Surround.{surround}
+use Rattle.logic.specs.Iteration.{iterate, masked}
 use Rattle.counting.proofs.Tests.{and-i, and-l, and-r, or-l, or-r, or-e, decT, bool-ext, when-e, when-i}
-use Rattle.logic.proofs.Quantifiers.{all-e, all-i, some-e, some-i}
-use Rattle.logic.proofs.Regions.{region, holds-region, region-e, region-i}
-use Rattle.logic.proofs.Unbounded.{unboundedSurround}
+use Rattle.logic.proofs.Quantifiers.{all-e, all-i}
+use Rattle.logic.proofs.Enclosing.{Encloses, surround-e, surround-i}
 
 module _ (joined : ℕ → ℕ → Bool) (n : ℕ) (p q : ℕ → Bool) where
   -- the place l is still held at step i
@@ -32,33 +31,41 @@ module _ (joined : ℕ → ℕ → Bool) (n : ℕ) (p q : ℕ → Bool) where
   start zero l h = h
   start (suc i) l h = start i l (step-e i l h .0)
 
-  -- a region that has p, with q on its boundary, stays
-  stays : (A : ℕ → Bool) → T (regionValue verdictLattice joined n p q A) → (i l : ℕ) → l < n → T (A l) → T (held i l)
-  unfolding iterate regionValue boundary
-  stays A h zero l b a = all-e A p n (and-l (leastOver verdictLattice A p n) _ h) l b a
-  stays A h (suc i) l b a = step-i i l (stays A h i l b a) (λ k c j. ⊎-elim
-      (λ u. or-l (held i k) (q k) (stays A h i k c u))
-      (λ u. or-r (held i k) (q k) (all-e (boundary joined n A) q n (and-r (leastOver verdictLattice A p n) _ h) k c
-      (and-i (not (A k)) _ u (some-i A (λ m. joined m k) n l b a j))))
-      (decT (A k)))
+-- on the masked verdicts
+module _ (joined : ℕ → ℕ → Bool) (n : ℕ) (inside edge p q : ℕ → Bool) where
+  abbrev pub left : ℕ → Bool
+  left = masked verdictLattice inside p
 
-  -- what rests is such a region
-  rests : (i : ℕ) → ((l : ℕ) → l < n → T (held i l) → T (held (suc i) l)) → (A : ℕ → Bool) → ((l : ℕ) → l < n → A l ≡ held i l) → T (regionValue verdictLattice joined n p q A)
-  unfolding regionValue boundary
-  rests i r A e = and-i (leastOver verdictLattice A p n) _
-      (all-i A p n (λ l b a. start i l (rw (e l b) at a)))
-      (all-i (boundary joined n A) q n (λ k c u.
-      let (j, b, a, t) = some-e A (λ m. joined m k) n (and-r (not (A k)) _ u) in
-      ⊎-elim
-      (λ v. absurd (T-not (A k) (and-l (not (A k)) _ u) (rw (e k c) v)))
-      (λ v. v)
-      (or-e (held i k) (q k) (step-e i j (r j b (rw (e j b) at a)) .1 k c t))))
+  abbrev pub right : ℕ → Bool
+  right = masked verdictLattice edge q
 
-  -- Theorem 4.5, for verdicts
-  pub limit : (i : ℕ) → ((l : ℕ) → l < n → T (held i l) → T (held (suc i) l)) → (l : ℕ) → l < n → held i l ≡ unboundedSurround verdictLattice joined n p q l
-  unfolding unboundedSurround
-  limit i r l b = bool-ext (held i l) (unboundedSurround verdictLattice joined n p q l)
-      (λ h. region-i n _ (held i) (when-i (holds (region n (held i)) l) _ (rw (holds-region n (held i) l b) h) (rests i r (holds (region n (held i))) (holds-region n (held i)))))
-      (λ h. let (A, u) = region-e n _ h in
-      let (a, v) = when-e (holds A l) _ u in
-      stays (holds A) v i l b a)
+  module _ (centre : ℕ) where
+    -- a region with left on it and right on its boundary stays
+    stays : (A : ℕ → Bool) → Encloses joined n true inside edge p q centre A → (i l : ℕ) → l < n → T (A l) → T (held joined n left right i l)
+    unfolding iterate masked
+    stays A e zero l b a = when-i (inside l) (p l) (e .inner l b a .0) (e .inner l b a .1)
+    stays A e (suc i) l b a = step-i joined n left right i l (stays A e i l b a) (λ k c j. ⊎-elim
+        (λ u. or-l (held joined n left right i k) (right k) (stays A e i k c u))
+        (λ u. let (s, t) = e .outer l k (record { start = b; stop = c; held = a; left = u; road = j }) in
+        or-r (held joined n left right i k) (right k) (when-i (edge k) (q k) s t))
+        (decT (A k)))
+
+    -- what rests is such a region, of every centre that it holds
+    pub rests : (i : ℕ) → ((l : ℕ) → l < n → T (held joined n left right i l) → T (held joined n left right (suc i) l)) → T (held joined n left right i centre)
+        → Encloses joined n true inside edge p q centre (held joined n left right i)
+    unfolding masked
+    rests i r h = record {
+      has-centre = h;
+      inner = λ l b a. when-e (inside l) (p l) (start joined n left right i l a);
+      outer = λ j k o. ⊎-elim
+          (λ v. absurd (T-not (held joined n left right i k) (o .left) v))
+          (when-e (edge k) (q k))
+          (or-e (held joined n left right i k) (right k) (step-e joined n left right i j (r j (o .start) (o .held)) .1 k (o .stop) (o .road)));
+      some = inl tt;
+    }
+
+  pub limit : (i : ℕ) → ((l : ℕ) → l < n → T (held joined n left right i l) → T (held joined n left right (suc i) l))
+      → (l : ℕ) → l < n → held joined n left right i l ≡ surround verdictLattice joined n true inside edge p q l
+  limit i r l b = bool-ext (held joined n left right i l) (surround verdictLattice joined n true inside edge p q l)
+      (λ h. surround-i joined n true inside edge p q l b (held joined n left right i) (rests l i r h))
+      (λ h. let (A, e) = surround-e joined n true inside edge p q l h in stays l A e i l b (e .has-centre))

@@ -1,6 +1,7 @@
 -- Definition 4.4's iteration on the masked signals of Corollary 4.6, and its rounds as document 01 counts them.
-use mathlib.Core.Bool.{Bool, true, false, cond, _&&_}
+use mathlib.Core.Bool.{Bool, true, false, not, cond, _&&_}
 use Prim.Native.Nat.{ℕ, zero, suc, pred}
+use lib.Dec.{eqb}
 use Rattle.logic.specs.Lattice.{Lattice, verdictLattice, leastOver}
 use Rattle.logic.specs.Margin.{Margin, atMost, marginLattice}
 
@@ -14,6 +15,10 @@ iterate L joined n left right (suc i) l =
 -- Corollary 4.6: a value outside its range counts as bottom
 unfoldable pub masked : (L : Lattice) → (ℕ → Bool) → (ℕ → L.Value) → ℕ → L.Value
 masked L test f l = cond (test l) (f l) L.bottom
+
+-- M-101: the value of place k set to bottom
+unfoldable pub except : (L : Lattice) → ℕ → (ℕ → L.Value) → ℕ → L.Value
+except L k = masked L (λ l. not (eqb l k))
 
 -- the least number below d that passes the test, d if none does
 unfoldable pub first : (ℕ → Bool) → ℕ → ℕ

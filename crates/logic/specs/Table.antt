@@ -1,6 +1,6 @@
--- The meaning of a table of lines, codes 0 to 14 (Definitions 3.1 and 3.4, request M-100), once for verdicts and margins: a reading says what values
+-- The meaning of a table of lines, codes 0 to 15 (Definitions 3.1 and 3.4, requests M-100 and M-101), once for verdicts and margins: a reading says what values
 -- are, how they are negated and what an atom is worth by its margin.
-use mathlib.Core.Bool.{not}
+use mathlib.Core.Bool.{Bool, not}
 use mathlib.Core.List.{List, [], _∷_, _++_}
 use Prim.Native.Nat.{ℕ, suc, _+_, _-_}
 use lib.Dec.{leb}
@@ -53,9 +53,9 @@ module _ (R : Reading) (N : Network) where
   somewhereAt left lower upper t l = greatestOver R.lattice (within N l lower upper) (left t) N.places
 
   -- a region about the centre, within the upper bound, has left, and its outer boundary, within both bounds, has right
-  unfoldable pub surroundAt : Signal R → Signal R → ℕ → ℕ → Signal R
-  surroundAt left right lower upper t l =
-      surround R.lattice (joined N) N.places (within N l 0 upper) (within N l lower upper) (left t) (right t) l
+  unfoldable pub surroundAt : Bool → Signal R → Signal R → ℕ → ℕ → Signal R
+  surroundAt islands left right lower upper t l =
+      surround R.lattice (joined N) N.places islands (within N l 0 upper) (within N l lower upper) (left t) (right t) l
 
   -- the values of a line, given those of the lines before it
   unfoldable pub value : Recording → (ℕ → Signal R) → Operator → Signal R
@@ -66,7 +66,7 @@ module _ (R : Reading) (N : Network) where
   value x line (And i j) = λ t l. R.lattice.meet (line i t l) (line j t l)
   value x line (Until side i j lower upper) = untilAt R side (line i) (line j) lower upper
   value x line (Somewhere i lower upper) = somewhereAt (line i) lower upper
-  value x line (Surrounded i j lower upper) = surroundAt (line i) (line j) lower upper
+  value x line (Surrounded islands i j lower upper) = surroundAt islands (line i) (line j) lower upper
   value x line (Or i j) = λ t l. R.opposite (R.lattice.meet (R.opposite (line i t l)) (R.opposite (line j t l)))
   value x line (Eventually side i lower upper) = untilAt R side (everTrue R) (line i) lower upper
   value x line (Always side i lower upper) = opposite R (untilAt R side (everTrue R) (opposite R (line i)) lower upper)

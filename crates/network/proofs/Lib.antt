@@ -1,2 +1,4 @@
 pub mod Distances
 pub mod Reach
+pub mod Reached
+pub mod Examples

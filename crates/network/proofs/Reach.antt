@@ -4,25 +4,14 @@ use mathlib.Core.Path.{_≡_, refl}
 use mathlib.Core.Logic.{_⊎_, inl, inr, ⊎-elim}
 use mathlib.Core.Bool.{Bool, true, not, cond, _&&_}
 use Prim.Native.Nat.{ℕ, zero, suc, _+_, _*_, _<_, _≤_, zero-le}
-use native.Mathlib.Nat.{not-suc-le-zero, lt-suc-self, le-suc, le-trans, le-refl}
+use native.Mathlib.Nat.{le-trans, le-refl}
 use native.Mathlib.Omega.{arith}
 use lib.Dec.{T, T-not, eqb, eqb→eq, eqb-refl, leb→le}
 use Rattle.network.specs.Distance.{Distance, dist, none, atMost, Path, here, step, distance}
 use Rattle.network.specs.Network.{isRoad}
-use Rattle.counting.proofs.Tests.{below, and-i, and-l, and-r, if-e, if-i, every, every-e, every-i, decT}
+use Rattle.counting.proofs.Tests.{all-or-some, and-i, and-l, and-r, if-e, if-i, every, every-e, every-i, decT}
 use Rattle.counting.proofs.Settling.{Rest, settles}
 use Rattle.network.proofs.Distances.{is-path, least}
-
--- each number below n is of the first sort, or one is of the second
-all-or-some : (P Q : ℕ → Type 0) (n : ℕ) → ((k : ℕ) → k < n → P k ⊎ Q k) → ((k : ℕ) → k < n → P k) ⊎ ((k : ℕ) × (k < n) × Q k)
-all-or-some P Q zero f = inl (λ k h. absurd (not-suc-le-zero h))
-all-or-some P Q (suc n) f = ⊎-elim
-    (λ a. ⊎-elim
-    (λ p. inl (λ k h. ⊎-elim (λ e. rw e p) (λ c. a k c) (below h)))
-    (λ q. inr (n, lt-suc-self n, q))
-    (f n (lt-suc-self n)))
-    (λ s. inr (s .0, le-trans (s .1) (le-suc n), s .2))
-    (all-or-some P Q n (λ k h. f k (le-trans h (le-suc n))))
 
 module _ (weight : ℕ → ℕ → Distance) (n W : ℕ) (light : (a c x : ℕ) → weight a c ≡ dist x → x ≤ W) (b : ℕ) where
   abbrev road : ℕ → ℕ → Bool

@@ -1,7 +1,8 @@
 -- Definition 2.1: a network is its places (the source's locations), numbered from 0, and the weight of the road (edge) between two of them. A
 -- sheet's roads run both ways and have weights above 0: that is said where they are read (roads/specs/Roads.antt).
-use mathlib.Core.Bool.{Bool, true, false}
+use mathlib.Core.Bool.{Bool, true, false, not, _&&_}
 use Prim.Native.Nat.{ℕ}
+use lib.Dec.{eqb}
 use Rattle.network.specs.Distance.{Distance, dist, none, inRange, distance}
 
 pub record Network : Type 0 where
@@ -22,3 +23,11 @@ distanceIn N a b = distance N.weight N.places a b
 -- the range after Remark 2.3: place k lies within lower..upper of the centre
 unfoldable pub within : Network → ℕ → ℕ → ℕ → ℕ → Bool
 within N centre lower upper k = inRange lower upper (distanceIn N centre k)
+
+-- place k has a distance from the centre
+unfoldable pub reached : Network → ℕ → ℕ → Bool
+reached N centre k = isRoad (distanceIn N centre k)
+
+-- .. and is another place (M-101)
+unfoldable pub other : Network → ℕ → ℕ → Bool
+other N centre k = reached N centre k && not (eqb k centre)
