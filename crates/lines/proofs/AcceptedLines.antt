@@ -56,14 +56,15 @@ module _ (v k : ℕ) where
       (more {a = binary And} (λ _ _ h g. (h, g))
       (more {a = binaryBounded (Until forward)} (λ _ _ _ _ h g b. (h, g, b))
       (more {a = unaryBounded Somewhere} (λ _ _ _ h b. (h, b))
-      (more {a = binaryBounded Surrounded} (λ _ _ _ _ h g b. (h, g, b))
+      (more {a = binaryBounded (Surrounded false)} (λ _ _ _ _ h g b. (h, g, b))
       (more {a = binary Or} (λ _ _ h g. (h, g))
       (more {a = unaryBounded (Eventually forward)} (λ _ _ _ h b. (h, b))
       (more {a = unaryBounded (Always forward)} (λ _ _ _ h b. (h, b))
       (more {a = unaryBounded Everywhere} (λ _ _ _ h b. (h, b))
       (more {a = binaryBounded (Until backward)} (λ _ _ _ _ h g b. (h, g, b))
       (more {a = unaryBounded (Eventually backward)} (λ _ _ _ h b. (h, b))
-      (more {a = unaryBounded (Always backward)} (λ _ _ _ h b. (h, b)) none))))))))))))))
+      (more {a = unaryBounded (Always backward)} (λ _ _ _ h b. (h, b))
+      (more {a = binaryBounded (Surrounded true)} (λ _ _ _ _ h g b. (h, g, b)) none)))))))))))))))
 
 constant-fits : (s : List ℕ) (at : ℕ) (c : ℤ) → constantAt s at ≡ accepted c → InBits 27 c
 unfolding constantAt
@@ -130,7 +131,7 @@ extent-same T v k f g h (Not i) b = h i b
 extent-same T v k f g h (And i j) b = ap₂ common (h i (b .0)) (h j (b .1))
 extent-same T v k f g h (Until side i j lower upper) b = ap₂ (λ m n. looking side upper (common m n)) (h i (b .0)) (h j (b .1))
 extent-same T v k f g h (Somewhere i lower upper) b = h i (b .0)
-extent-same T v k f g h (Surrounded i j lower upper) b = ap₂ common (h i (b .0)) (h j (b .1))
+extent-same T v k f g h (Surrounded islands i j lower upper) b = ap₂ common (h i (b .0)) (h j (b .1))
 extent-same T v k f g h (Or i j) b = ap₂ common (h i (b .0)) (h j (b .1))
 extent-same T v k f g h (Eventually side i lower upper) b = ap (looking side upper) (h i (b .0))
 extent-same T v k f g h (Always side i lower upper) b = ap (looking side upper) (h i (b .0))
@@ -221,7 +222,7 @@ sound-constant v k (Not i) h = tt
 sound-constant v k (And i j) h = tt
 sound-constant v k (Until side i j lower upper) h = tt
 sound-constant v k (Somewhere i lower upper) h = tt
-sound-constant v k (Surrounded i j lower upper) h = tt
+sound-constant v k (Surrounded islands i j lower upper) h = tt
 sound-constant v k (Or i j) h = tt
 sound-constant v k (Eventually side i lower upper) h = tt
 sound-constant v k (Always side i lower upper) h = tt

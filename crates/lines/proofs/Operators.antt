@@ -20,6 +20,10 @@ lowest {n} low least = by (ℕ-discrete n low)
     by (yes same) = inl same
     by (no other) = inr (omega arith)
 
+-- the codes of two lines and bounds
+abbrev pub OfTwoBounded : ℕ → Type 0
+OfTwoBounded code = (code ≡ 5) ⊎ ((code ≡ 7) ⊎ ((code ≡ 12) ⊎ (code ≡ 15)))
+
 module _ (s : List ℕ) (v lines at : ℕ) {f : Fields} (read : f ≡ fieldsOf (wordAt s at)) where
   code-read : (code : ℕ) → f .code ≡ code → fieldsOf (wordAt s at) .code ≡ code
   code-read code key = rw read at key
@@ -41,9 +45,12 @@ module _ (s : List ℕ) (v lines at : ℕ) {f : Fields} (read : f ≡ fieldsOf (
   atom-read least most =
       ⊎-elim (λ key. rw (read, code-read 1 key)) (λ above. rw (read, code-read 2 (omega arith))) (lowest 1 least)
 
-  pub binary-bounded-read : (f .code ≡ 5) ⊎ ((f .code ≡ 7) ⊎ (f .code ≡ 12)) → boundedRead s f lines lines at ≡ operatorAt s v lines at
+  pub binary-bounded-read : OfTwoBounded (f .code) → boundedRead s f lines lines at ≡ operatorAt s v lines at
   unfolding boundedRead operatorAt fieldsOf codes
-  binary-bounded-read keys = ⊎-elim (λ key. rw (read, code-read 5 key)) (λ others. ⊎-elim (λ key. rw (read, code-read 7 key)) (λ key. rw (read, code-read 12 key)) others) keys
+  binary-bounded-read (inl key) = rw (read, code-read 5 key)
+  binary-bounded-read (inr (inl key)) = rw (read, code-read 7 key)
+  binary-bounded-read (inr (inr (inl key))) = rw (read, code-read 12 key)
+  binary-bounded-read (inr (inr (inr key))) = rw (read, code-read 15 key)
 
   pub somewhere-read : f .code ≡ 6 → boundedRead s f lines 1 at ≡ operatorAt s v lines at
   unfolding boundedRead operatorAt fieldsOf codes
@@ -62,9 +69,9 @@ module _ (s : List ℕ) (v lines at : ℕ) {f : Fields} (read : f ≡ fieldsOf (
   backward-read least most =
       ⊎-elim (λ key. rw (read, code-read 13 key)) (λ above. rw (read, code-read 14 (omega arith))) (lowest 13 least)
 
-  pub unknown-read : 15 ≤ f .code → refused 11 at ≡ operatorAt s v lines at
+  pub unknown-read : 16 ≤ f .code → refused 11 at ≡ operatorAt s v lines at
   unfolding operatorAt fieldsOf codes
   unknown-read least =
-      let above : 15 ≤ fieldsOf (wordAt s at) .code = rw read at least in
+      let above : 16 ≤ fieldsOf (wordAt s at) .code = rw read at least in
       let none : getD codes (fieldsOf (wordAt s at) .code) unknown ≡ unknown = List·getD-eq-default codes unknown above in
       simp none

@@ -1,5 +1,6 @@
--- The codes 0 to 14: which fields and parameters a line with the code has, and what it then says.
+-- The codes 0 to 15: which fields and parameters a line with the code has, and what it then says.
 use Prim.Native.Nat.{ℕ}
+use mathlib.Core.Bool.{true, false}
 use mathlib.Core.List.{List, [], _∷_}
 use lib.ListN.{getD}
 use lib.IntN.{ℤ}
@@ -18,7 +19,7 @@ pub data Code : Type 0 where
   binaryBounded : (ℕ → ℕ → ℕ → ℕ → Operator) → Code
   unknown : Code
 
--- the table "Codes" of document 01, code 0 first; 12 to 14 by request M-100
+-- the table "Codes" of document 01, code 0 first; 12 to 14 by request M-100, 7 and 15 by M-101
 unfoldable pub codes : List Code
 codes =
     constant True ∷
@@ -28,7 +29,7 @@ codes =
     binary And ∷
     binaryBounded (Until forward) ∷
     unaryBounded Somewhere ∷
-    binaryBounded Surrounded ∷
+    binaryBounded (Surrounded false) ∷
     binary Or ∷
     unaryBounded (Eventually forward) ∷
     unaryBounded (Always forward) ∷
@@ -36,6 +37,7 @@ codes =
     binaryBounded Since ∷
     unaryBounded Once ∷
     unaryBounded Historically ∷
+    binaryBounded (Surrounded true) ∷
     []
 
 abbrev pub codeOf : ℕ → Code
@@ -43,4 +45,4 @@ codeOf number = getD codes number unknown
 
 -- a code above it says nothing (11)
 abbrev pub lastCode : ℕ
-lastCode = 14
+lastCode = 15

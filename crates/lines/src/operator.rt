@@ -24,7 +24,8 @@ pub enum Direction {
     Backward,
 }
 
-// In the order of the codes 0 to 11; 12 to 14 are until, eventually and always backward. `signal` is the number of a signal; `left` and `right` are numbers of earlier lines.
+// In the order of the codes 0 to 11; 12 to 14 are until, eventually and always backward, 15 is surrounded where islands count. `signal` is the number
+// of a signal; `left` and `right` are numbers of earlier lines.
 pub enum Operator {
     True,
     AtLeast {
@@ -53,6 +54,7 @@ pub enum Operator {
         bounds: Bounds,
     },
     Surrounded {
+        islands: bool,
         left: usize,
         right: usize,
         bounds: Bounds,
@@ -133,7 +135,7 @@ fn ordered_bounds(lower: u32, upper: u32, place: usize) -> ReadBounds
     ReadBounds::Bounds(Bounds { lower, upper })
 }
 
-// The lower and the upper bound of codes 5 to 7 and 9 to 14.
+// The lower and the upper bound of codes 5 to 7 and 9 to 15.
 fn read_bounds(s: &[u8], at: usize) -> ReadBounds
     requires { ⌜ at ≤ length (wordsOf (now s)) ⌝ }
     ensures { λ r. ⌜ boundsSaid r ≡ boundsAt (wordsOf (now (s .entry))) at ⌝ }
@@ -178,6 +180,7 @@ fn operator_of(fields: Fields, constant: i32, bounds: Bounds) -> Operator
         },
         6 => Operator::Somewhere { left, bounds },
         7 => Operator::Surrounded {
+            islands: false,
             left,
             right,
             bounds,
@@ -205,9 +208,15 @@ fn operator_of(fields: Fields, constant: i32, bounds: Bounds) -> Operator
             left,
             bounds,
         },
-        _ => Operator::Always {
+        14 => Operator::Always {
             direction: Direction::Backward,
             left,
+            bounds,
+        },
+        _ => Operator::Surrounded {
+            islands: true,
+            left,
+            right,
             bounds,
         },
     }
@@ -278,7 +287,7 @@ pub(crate) fn decode_operator(s: &[u8], at: usize, signals: usize, lines: usize)
         1..=2 => decode_atom(s, fields, signals, at),
         3 => decode_plain(fields, lines, 1, at),
         4 | 8 => decode_plain(fields, lines, lines, at),
-        5 | 7 | 12 => decode_bounded(s, fields, lines, lines, at),
+        5 | 7 | 12 | 15 => decode_bounded(s, fields, lines, lines, at),
         6 => decode_bounded(s, fields, lines, 1, at),
         9..=11 => decode_bounded(s, fields, lines, 1, at),
         13..=14 => decode_bounded(s, fields, lines, 1, at),

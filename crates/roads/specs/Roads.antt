@@ -1,8 +1,10 @@
 -- The roads of a sheet ("The sheet"; refusals 4 to 7), the network that they make, and its distances as the lent table holds them ("Distance").
 use Prim.Native.Nat.{ℕ, zero, suc, _+_, _-_, _*_, _<_, _^_}
+use mathlib.Core.Path.{_≡_}
 use mathlib.Core.Bool.{Bool, true, false, _&&_, _||_}
 use mathlib.Core.List.{List}
 use lib.Dec.{T, eqb, ltb}
+use lib.ListN.{getD}
 use Rattle.words.specs.Word.{bits, payloadOf}
 use Rattle.words.specs.Rows.{rows}
 use Rattle.network.specs.Distance.{Distance, dist, none}
@@ -78,3 +80,7 @@ distanceTable N = rows (λ a b. distanceNumber (distanceIn N a b)) (N.places) (N
 -- those of the network that the first roads of a sheet make
 abbrev pub distancesAlong : List ℕ → ℕ → ℕ → List ℕ
 distancesAlong s places roads = distanceTable (networkOf s places roads)
+
+-- a table has the distances of a network, row by row
+pub record Measured (N : Network) (table : List ℕ) : Type 0 where
+  pub number : (a b : ℕ) → a < N.places → b < N.places → getD table (a * N.places + b) 0 ≡ distanceNumber (distanceIn N a b)

@@ -14,7 +14,8 @@ ghost use Rattle.network.specs.Distance.{none};
 ghost use Rattle.roads.specs.Roads.{GoodRoad, weightAmong, distancesAlong};
 ghost use Rattle.roads.specs.DistanceStages.{stage, relaxing, relaxed, Leads};
 
-const NONE: u64 = 18446744073709551615;
+// Where no path is.
+pub const NONE: u64 = 18446744073709551615;
 
 // Every distance none.
 fn fill_none(table: &mut [u8])

@@ -73,8 +73,8 @@ refusal-10 : (outcome (one []) ≡ refused 10 2) × (outcome (one (0xF0000002 �
 unfolding outcome
 refusal-10 = (refl, refl, refl, refl)
 
--- code 12; a signal that is not there; a line that is not earlier; an unused field that is not zero; told before the parameters are looked for
-refusal-11 : (outcome (one (0x50C00000 ∷ [])) ≡ refused 11 2) × (outcome (one (0x50100400 ∷ [])) ≡ refused 11 2) × (outcome (one (0x50300000 ∷ [])) ≡ refused 11 2)
+-- code 16; a signal that is not there; a line that is not earlier; an unused field that is not zero; told before the parameters are looked for
+refusal-11 : (outcome (one (0x50000000 ∷ 0x51000000 ∷ [])) ≡ refused 11 3) × (outcome (one (0x50100400 ∷ [])) ≡ refused 11 2) × (outcome (one (0x50300000 ∷ [])) ≡ refused 11 2)
     × (outcome (one (0x50000000 ∷ 0x50400001 ∷ [])) ≡ refused 11 3) × (outcome (one (0x50000001 ∷ [])) ≡ refused 11 2) × (outcome (one (0x50000000 ∷ 0x50600001 ∷ [])) ≡ refused 11 3)
 unfolding outcome
 refusal-11 = (refl, refl, refl, refl, refl, refl)

@@ -11,13 +11,12 @@
 use checks::fault::Fault;
 use libc::STDIN_FILENO;
 use libc::STDOUT_FILENO;
+use roads::distances::NONE;
 use sheet::check::Check;
 use sheet::check::Layout;
 ghost use Prim.Native.Nat.{_+_, _*_, _≤_};
 ghost use lib.ListN.{length};
 ghost use Rattle.words.specs.Bytes.{wordsOf, numbersOf};
-
-const NONE: u64 = 18446744073709551615;
 
 fn print_distance(distance: u64) {
     if distance == NONE {

@@ -7,8 +7,9 @@ use native.Mathlib.Omega.{arith}
 use Rattle.words.specs.Bytes.{wordsOf}
 use Rattle.words.proofs.Words.{words-count}
 use Rattle.checks.specs.Checked.{wordAt}
+use Rattle.lines.specs.Codes.{lastCode}
 use Rattle.lines.specs.Decoding.{fieldsOf}
-use Rattle.lines.proofs.Operators.{true-read, not-read, binary-read, atom-read, binary-bounded-read, somewhere-read, forward-read, backward-read, unknown-read}
+use Rattle.lines.proofs.Operators.{OfTwoBounded, true-read, not-read, binary-read, atom-read, binary-bounded-read, somewhere-read, forward-read, backward-read, unknown-read}
 use borrow.Author.Needs.{needs}
 use Rattle.lines.proofs.operator.decode_operator.Statement.{statement}
 use Rattle.lines.proofs.operator.decode_operator.Tie as tie
@@ -22,21 +23,31 @@ decode-plain-requires-2 c κs = omega (arith, words-count (c .before .before .be
 decode-plain-requires-3 : tie.Need-decode-plain-requires-3
 decode-plain-requires-3 c κs = let fits = words-count (c .before .before .before .before .args .s .now) in ⊎-elim (λ key. omega arith) (λ key. omega arith) (c .match .keys3)
 
+known : {code : ℕ} → OfTwoBounded code → code ≤ lastCode
+known (inl key) = omega arith
+known (inr (inl key)) = omega arith
+known (inr (inr (inl key))) = omega arith
+known (inr (inr (inr key))) = omega arith
+
 decode-bounded-requires : tie.Need-decode-bounded-requires
 decode-bounded-requires c κs =
     let fits = words-count (c .before .before .before .before .args .s .now) in
-    ⊎-elim (λ key. omega arith) (λ others. ⊎-elim (λ key. omega arith) (λ key. omega arith) others) (c .match .keys4)
-
-above-8 : {n : ℕ} → 3 ≤ n → (n ≡ 3 → ⊥) → ((n ≡ 4) ⊎ (n ≡ 8) → ⊥) → ((n ≡ 5) ⊎ ((n ≡ 7) ⊎ (n ≡ 12)) → ⊥) → (n ≡ 6 → ⊥) → 9 ≤ n
-above-8 {n} least not-3 not-4-8 not-5-7-12 not-6 =
-    let not-4 : n ≡ 4 → ⊥ = λ e. not-4-8 (inl e) in
-    let not-8 : n ≡ 8 → ⊥ = λ e. not-4-8 (inr e) in
-    let not-5 : n ≡ 5 → ⊥ = λ e. not-5-7-12 (inl e) in
-    let not-7 : n ≡ 7 → ⊥ = λ e. not-5-7-12 (inr (inl e)) in
+    let code = known (c .match .keys4) in
     omega arith
 
-above-12 : {n : ℕ} → 12 ≤ n → ((n ≡ 5) ⊎ ((n ≡ 7) ⊎ (n ≡ 12)) → ⊥) → 13 ≤ n
-above-12 {n} least not-5-7-12 = let not-12 : n ≡ 12 → ⊥ = λ e. not-5-7-12 (inr (inr e)) in omega arith
+above-8 : {n : ℕ} → 3 ≤ n → (n ≡ 3 → ⊥) → ((n ≡ 4) ⊎ (n ≡ 8) → ⊥) → (OfTwoBounded n → ⊥) → (n ≡ 6 → ⊥) → 9 ≤ n
+above-8 {n} least not-3 not-4-8 not-two not-6 =
+    let not-4 : n ≡ 4 → ⊥ = λ e. not-4-8 (inl e) in
+    let not-8 : n ≡ 8 → ⊥ = λ e. not-4-8 (inr e) in
+    let not-5 : n ≡ 5 → ⊥ = λ e. not-two (inl e) in
+    let not-7 : n ≡ 7 → ⊥ = λ e. not-two (inr (inl e)) in
+    omega arith
+
+above-12 : {n : ℕ} → 12 ≤ n → (OfTwoBounded n → ⊥) → 13 ≤ n
+above-12 {n} least not-two = let not-12 : n ≡ 12 → ⊥ = λ e. not-two (inr (inr (inl e))) in omega arith
+
+above-15 : {n : ℕ} → 15 ≤ n → (OfTwoBounded n → ⊥) → 16 ≤ n
+above-15 {n} least not-two = let not-15 : n ≡ 15 → ⊥ = λ e. not-two (inr (inr (inr e))) in omega arith
 
 abbrev sheet : tie.After-fields-of → List ℕ
 sheet c = wordsOf (c .before .before .before .args .s .now)
@@ -100,7 +111,8 @@ returns-9 : tie.Need-returns-9
 returns-9 c =
     let f = c .before .before .before .before in
     let g = c .before .before .before .before .before .before .before .args in
-    unknown-read (sheet f) (g .signals) (g .lines) (g .at) (read f) (c .if3 .left)
+    let above = above-15 (c .if3 .left) (c .before .before .before .match .rest .0 .1) in
+    unknown-read (sheet f) (g .signals) (g .lines) (g .at) (read f) above
 
 pub decode-operator-spec : {M : Type 1} → statement M
 decode-operator-spec =

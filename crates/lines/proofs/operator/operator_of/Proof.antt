@@ -1,4 +1,4 @@
--- Each arm of the match is the table's entry at that code; the last arm is left with code 14.
+-- Each arm of the match is the table's entry at that code; the last arm is left with code 15.
 use Prim.Native.Nat.{ℕ, zero, suc, _≤_, zero-le}
 use mathlib.Core.Path.{_≡_, sym, ap}
 use native.Mathlib.Omega.{arith}
@@ -86,9 +86,13 @@ returns-14 c = by-code (c .before) (c .match .keys14)
 
 returns-15 : tie.Need-returns-15
 unfolding codes
-returns-15 c =
-    let at-least : 14 ≤ c .before .args .fields .code = none-below (c .before .args .fields .code) 14 (c .match .rest) in
-    let last : c .before .args .fields .code ≡ 14 = above at-least (c .before .pre) in
+returns-15 c = by-code (c .before) (c .match .keys15)
+
+returns-16 : tie.Need-returns-16
+unfolding codes
+returns-16 c =
+    let at-least : 15 ≤ c .before .args .fields .code = none-below (c .before .args .fields .code) 15 (c .match .rest) in
+    let last : c .before .args .fields .code ≡ 15 = above at-least (c .before .pre) in
     by-code (c .before) last
 
 pub operator-of-spec : {M : Type 1} → statement M
@@ -109,4 +113,5 @@ operator-of-spec =
     returns-12
     returns-13
     returns-14
-    returns-15)
+    returns-15
+    returns-16)
