@@ -1,26 +1,34 @@
 -- From the lanes of a block to its samples: the lanes below `count` hold the signals, and the others, all lowest, rest from the
 -- start.
 use mathlib.Core.Path.{_≡_, refl, sym, ap, subst, _∙_}
-use mathlib.Core.Bool.{Bool, true, false, cond}
+use mathlib.Core.Bool.{Bool, true, false, not, cond}
 use mathlib.Core.List.{List}
 use Prim.Native.Nat.{ℕ, _+_, _<_, _≤_}
+use native.Mathlib.Nat.{le-trans}
 use native.Mathlib.Omega.{arith}
-use lib.Dec.{T, ltb, ltb→lt}
+use lib.Dec.{T, eqb, ltb, ltb→lt}
+use Rattle.network.specs.Network.{Network, joined, within, other}
 use Rattle.logic.specs.Margin.{Margin, minusInfinity, marginLattice}
-use Rattle.logic.specs.Iteration.{iterate, masked, rounds}
-use Rattle.logic.proofs.Keeps.{same-kept, masked-kept, surround-kept}
-use Rattle.logic.proofs.Rounds.{rounds-least, rounds-same}
+use Rattle.logic.specs.Iteration.{iterate, masked, except, rounds}
+use Rattle.logic.specs.Table.{surroundAt}
+use Rattle.logic.specs.Counts.{runRounds, surroundRounds}
+use Rattle.logic.proofs.Keeps.{same-kept, surround-kept}
+use Rattle.logic.proofs.Rounds.{rounds-least}
+use Rattle.logic.proofs.Counts.{surround-rounds-same}
 use Rattle.values.specs.Chain.{marginAt, chainLattice, chainMargin, Valid}
-use Rattle.values.specs.Signals.{signalIn, inTable}
+use Rattle.values.specs.Signals.{signalIn}
 use Rattle.values.proofs.Valid.{valid-kept}
 use Rattle.lanes.specs.declared.rows.Block.{Block}
 use Rattle.lanes.specs.Lanes.{lanes, laneOf}
 use Rattle.lanes.specs.Rows.{RowOf, laneSignal}
 use Rattle.lanes.proofs.RowLaws.{lane-signal, lane-zero}
-use Rattle.surrounds.specs.Surround.{joinedBy, surroundValue, surroundRounds, blockRounds}
+use Rattle.surrounds.specs.declared.surround.Surround.{Surround}
+use Rattle.surrounds.specs.Surround.{surroundIn, surroundRoundsIn, blockRounds}
 use Rattle.surrounds.specs.Steps.{ValidRow}
-use Rattle.surrounds.specs.Blocks.{laneSurround, laneRounds, CentresDone, BlockReady, BlockDone}
-use Rattle.counting.proofs.Totals.{most-same, most-front}
+use Rattle.surrounds.specs.Runs.{laneSurround, laneRounds, CentresDone}
+use Rattle.surrounds.specs.Blocks.{BlockReady, BlockDone}
+use Rattle.roads.specs.Roads.{networkOf}
+use Rattle.counting.proofs.Totals.{over-le, le-over, most-same, most-front}
 use Rattle.surrounds.proofs.Lowest.{surround-low}
 
 -- ---- one row
@@ -35,63 +43,74 @@ module _ (words : List ℕ) (start n : ℕ) (block : Block) (row : List ℕ) (w 
       either true c h = h tt
       either false c h = valid-kept .keeps-bottom
 
-  -- masked by any test, the margins of a lane past the last sample are all minus infinity
-  low : (test : ℕ → Bool) (lane l : ℕ) → lane < lanes → block .count ≤ lane → l < n → masked marginLattice test (λ k. chainMargin (laneOf row lane k)) l ≡ minusInfinity
-  unfolding masked marginAt
-  low test lane l h c b = rw (lane-zero words start n block row w lane l h c b) (either (test l))
-    where
-      either : (t : Bool) → cond t minusInfinity minusInfinity ≡ minusInfinity
-      either true = refl
-      either false = refl
+  -- the margins of a lane past the last sample are all minus infinity
+  low : (lane l : ℕ) → lane < lanes → block .count ≤ lane → l < n → chainMargin (laneOf row lane l) ≡ minusInfinity
+  unfolding marginAt
+  low lane l h c b = rw (lane-zero words start n block row w lane l h c b) refl
 
--- a signal that is minus infinity everywhere rests from the start
-low-rounds : (joined : ℕ → ℕ → Bool) (n : ℕ) (p q : ℕ → Margin) → ((l : ℕ) → l < n → p l ≡ minusInfinity) → rounds joined n p q ≤ 1
-unfolding iterate
-low-rounds joined n p q h = rounds-least joined n p q 0 (λ l b. rw (h l b) refl)
+-- ---- rounds of a signal that is minus infinity everywhere
+
+masked-bottom : (test : ℕ → Bool) (p : ℕ → Margin) (l : ℕ) → p l ≡ minusInfinity → masked marginLattice test p l ≡ minusInfinity
+unfolding masked
+masked-bottom test p l e = rw e (either (test l))
+  where
+    either : (t : Bool) → cond t minusInfinity minusInfinity ≡ minusInfinity
+    either true = refl
+    either false = refl
+
+module _ (N : Network) (lower upper centre : ℕ) where
+  -- it rests from the start
+  low-run : (p q : ℕ → Margin) → ((l : ℕ) → l < N.places → p l ≡ minusInfinity) → runRounds N lower upper p q centre ≤ 1
+  unfolding runRounds iterate
+  low-run p q h = rounds-least (joined N) N.places _ _ 0 (λ l b. rw (masked-bottom (within N centre 0 upper) p l (h l b)) refl)
+
+  some-round : (p q : ℕ → Margin) → 1 ≤ runRounds N lower upper p q centre
+  unfolding runRounds rounds
+  some-round p q = omega arith
+
+  -- it has no more rounds than any other
+  pub low-rounds : (islands : Bool) (p q p′ q′ : ℕ → Margin) → ((l : ℕ) → l < N.places → p l ≡ minusInfinity)
+      → surroundRounds N lower upper islands p q centre ≤ surroundRounds N lower upper islands p′ q′ centre
+  unfolding surroundRounds except
+  low-rounds true p q p′ q′ h = le-trans (low-run p q h) (some-round p′ q′)
+  low-rounds false p q p′ q′ h = over-le (other N centre) _ N.places _ (λ k b t. le-trans
+      (le-trans (low-run (except marginLattice k p) q (λ l c. masked-bottom (λ m. not (eqb m k)) p l (h l c))) (some-round (except marginLattice k p′) q′))
+      (le-over (other N centre) (λ k. runRounds N lower upper (except marginLattice k p′) q′ centre) N.places k b t))
 
 -- ---- the block
-module _ (words : List ℕ) (left right n : ℕ) (sheet : List ℕ) (roads : ℕ) (distances : List ℕ) (block : Block) (lower upper : ℕ) (l r : List ℕ)
-    (ready : BlockReady words left right n sheet roads distances (block .first) (block .count))
-    (wl : RowOf (laneSignal words left n block) l n) (wr : RowOf (laneSignal words right n block) r n) where
-  abbrev ball : ℕ → ℕ → Bool
-  ball centre = inTable distances n centre 0 upper
-
-  abbrev about : ℕ → ℕ → Bool
-  about centre = inTable distances n centre lower upper
+module _ (words : List ℕ) (s : Surround) (n : ℕ) (sheet : List ℕ) (roads : ℕ) (distances : List ℕ) (block : Block) (l r : List ℕ)
+    (ready : BlockReady words s n sheet roads (block .first) (block .count) distances)
+    (wl : RowOf (laneSignal words (s .left) n block) l n) (wr : RowOf (laneSignal words (s .right) n block) r n) where
+  abbrev N : Network
+  N = networkOf sheet n roads
 
   abbrev roundsAt : ℕ → ℕ → ℕ
-  roundsAt = laneRounds l r n sheet roads distances lower upper
+  roundsAt = laneRounds l r N (s .bounds) (s .islands)
 
-  -- the margins of a lane are those of its sample, masked alike
-  same-margins : (start : ℕ) (row : List ℕ) → RowOf (laneSignal words start n block) row n → (test : ℕ → Bool) (lane : ℕ) → lane < block .count → (k : ℕ) → k < n
-      → masked marginLattice test (λ j. chainMargin (laneOf row lane j)) k ≡ masked marginLattice test (λ j. chainMargin (signalIn words start n (block .first + lane) j)) k
-  same-margins start row w test lane c = masked-kept marginLattice marginLattice (λ u v. u ≡ v) (same-kept marginLattice) test _ _ n
-      (λ k b. ap chainMargin (lane-signal words start n block row w lane k (ready .few) c b))
-
-  same-rounds : (centre lane : ℕ) → lane < block .count → roundsAt centre lane ≡ surroundRounds words left right n sheet roads distances lower upper (block .first + lane) centre
-  unfolding laneRounds surroundRounds
-  same-rounds centre lane c = rounds-same (joinedBy sheet roads) n _ _ _ _ (same-margins left l wl (ball centre) lane c) (same-margins right r wr (about centre) lane c)
+  -- the margins of a lane are those of its sample
+  same-rounds : (centre lane : ℕ) → lane < block .count → roundsAt centre lane ≡ surroundRoundsIn words s N (block .first + lane) centre
+  unfolding laneRounds surroundRoundsIn
+  same-rounds centre lane c = surround-rounds-same N (s .bounds .lower) (s .bounds .upper) centre (s .islands) _ _ _ _
+      (λ k b. ap chainMargin (lane-signal words (s .left) n block l wl lane k (ready .few) c b))
+      (λ k b. ap chainMargin (lane-signal words (s .right) n block r wr lane k (ready .few) c b))
 
   -- the lanes past the last sample add nothing to the greatest rounds
   no-rounds : (centre lane : ℕ) → block .count ≤ lane → lane < lanes → roundsAt centre lane ≤ roundsAt centre 0
-  unfolding laneRounds rounds
-  no-rounds centre lane c h =
-      let one = low-rounds (joinedBy sheet roads) n _ (masked marginLattice (about centre) (λ k. chainMargin (laneOf r lane k)))
-      (λ k b. low words left n block l wl (ball centre) lane k h c b) in
-      omega arith
+  unfolding laneRounds
+  no-rounds centre lane c h = low-rounds N (s .bounds .lower) (s .bounds .upper) centre (s .islands) _ _ _ _ (λ k b. low words (s .left) n block l wl lane k h c b)
 
-  pub block-done : (before after : List ℕ) (m : ℕ) → CentresDone l r n sheet roads distances lower upper n before after m
-      → BlockDone words left right n sheet roads distances (block .first) (block .count) lower upper before after m
-  unfolding laneSurround surroundValue blockRounds
+  pub block-done : (before after : List ℕ) (m : ℕ) → CentresDone l r N (s .bounds) (s .islands) before after m
+      → BlockDone words s n sheet roads (block .first) (block .count) before after m
+  unfolding laneSurround surroundIn surroundAt blockRounds
   block-done before after m done = record {
     values = λ centre lane b c.
         done .values .written .at centre lane b (omega (arith, ready .few))
-        ∙ surround-kept chainLattice chainLattice (λ u v. u ≡ v) (same-kept chainLattice) (joinedBy sheet roads) n _ _ _ _
-        (λ k d. lane-signal words left n block l wl lane k (ready .few) c d) (λ k d. lane-signal words right n block r wr lane k (ready .few) c d)
-        (ball centre) (about centre) centre;
+        ∙ surround-kept chainLattice chainLattice (λ u v. u ≡ v) (same-kept chainLattice) (joined N) n _ _ _ _
+        (λ k d. lane-signal words (s .left) n block l wl lane k (ready .few) c d) (λ k d. lane-signal words (s .right) n block r wr lane k (ready .few) c d)
+        (s .islands) _ _ centre;
     idle = λ centre lane b c h.
         done .values .written .at centre lane b h
-        ∙ surround-low (joinedBy sheet roads) n (ball centre) (about centre) (laneOf l lane) (laneOf r lane) centre b (lane-zero words left n block l wl lane centre h c b);
+        ∙ surround-low (joined N) n (s .islands) _ _ (laneOf l lane) (laneOf r lane) centre b (lane-zero words (s .left) n block l wl lane centre h c b);
     kept = done .values .kept;
     long = done .values .long;
     rounds = done .rounds ∙ most-same _ _ n (λ centre b.

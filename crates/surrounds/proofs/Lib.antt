@@ -2,6 +2,9 @@ pub mod Least
 pub mod Lowest
 pub mod Outside
 pub mod Settling
+pub mod Tables
+pub mod RunLaws
+pub mod RunRows
 pub mod Centres
 pub mod BlockLaws
 pub mod SheetRoads

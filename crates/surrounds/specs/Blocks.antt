@@ -1,18 +1,22 @@
 -- What is done for a block of samples: the strips of the operands are read once, and masked, settled and written centre by centre. These are for
 -- contracts inside the engine: no promise to a host speaks of them.
 use mathlib.Core.Path.{_≡_}
-use mathlib.Core.Bool.{Bool}
+use mathlib.Core.Bool.{Bool, not}
 use mathlib.Core.List.{List}
-use Prim.Native.Nat.{ℕ, _+_, _*_, _<_, _≤_}
-use lib.ListN.{length}
-use Rattle.counting.specs.Totals.{mostBelow}
+use Prim.Native.Nat.{ℕ, _+_, _*_, _<_, _≤_, _^_}
+use lib.Dec.{eqb}
+use lib.ListN.{length, getD}
+use Rattle.words.specs.Bytes.{wordsOf, numbersOf}
+use Rattle.network.specs.Distance.{none}
 use Rattle.checks.specs.Limits.{mostPlaces}
 use Rattle.lines.specs.declared.operator.Bounds.{Bounds}
+use Rattle.roads.specs.Roads.{networkOf, distanceNumber, Measured}
 use Rattle.values.specs.Chain.{Valid}
 use Rattle.values.specs.Signals.{signalIn}
 use Rattle.lanes.specs.Lanes.{lanes, laneOf}
-use Rattle.lanes.specs.Rows.{RowOf, RowWritten, within, Marked, maskedBy}
-use Rattle.surrounds.specs.Surround.{surroundBy, roundsBy, surroundValue, blockRounds}
+use Rattle.lanes.specs.Rows.{RowOf, within, Marked, maskedBy}
+use Rattle.surrounds.specs.declared.surround.Surround.{Surround}
+use Rattle.surrounds.specs.Surround.{surroundIn, blockRounds}
 use Rattle.surrounds.specs.Steps.{RoadsIn, ValidRow}
 
 -- rows of the operands and of a centre have room for n places
@@ -26,34 +30,18 @@ pub record Rooms (n : ℕ) (left right x ring : List ℕ) : Type 0 where
 abbrev pub ballOf : Bounds → Bounds
 ballOf b = record { lower = 0; upper = b .upper }
 
+-- a place has a distance from a centre, by the bytes of such a table
+abbrev pub reachedBy : List ℕ → ℕ → ℕ → ℕ → Bool
+reachedBy distances n centre place = not (eqb (getD (numbersOf (wordsOf distances)) (centre * n + place) 0) (distanceNumber none))
+
 -- the flags are those of the ball about a centre, x is the left row masked by the ball, and ring the right row masked by the bounds
 pub record CentreMasked (n : ℕ) (left right distances : List ℕ) (b : Bounds) (centre : ℕ) (inside : List Bool) (x ring : List ℕ) : Type 0 where
   pub ball : Marked (within distances n centre (ballOf b)) inside n
   pub left-masked : RowOf (maskedBy (within distances n centre (ballOf b)) left) x n
   pub right-masked : RowOf (maskedBy (within distances n centre b) right) ring n
 
--- rows of the operands; a sheet with its roads; distances; bounds
-module _ (left right : List ℕ) (n : ℕ) (sheet : List ℕ) (roads : ℕ) (distances : List ℕ) (lower upper : ℕ) where
-  -- the surround of one lane at a centre
-  unfoldable pub laneSurround : ℕ → ℕ → ℕ
-  laneSurround lane centre = surroundBy n sheet roads distances lower upper (laneOf left lane) (laneOf right lane) centre
-
-  -- the rounds of one lane at a centre
-  unfoldable pub laneRounds : ℕ → ℕ → ℕ
-  laneRounds centre lane = roundsBy n sheet roads distances lower upper (laneOf left lane) (laneOf right lane) centre
-
-  -- the surround of every lane at a centre, with the greatest rounds of a lane
-  pub record CentreDone (centre : ℕ) (after : List ℕ) (r : ℕ) : Type 0 where
-    pub values : (lane : ℕ) → lane < lanes → laneOf after lane centre ≡ laneSurround lane centre
-    pub rounds : r ≡ mostBelow (laneRounds centre) lanes
-
-  -- the same of the first k centres, in a row
-  pub record CentresDone (k : ℕ) (before after : List ℕ) (r : ℕ) : Type 0 where
-    pub values : RowWritten k laneSurround before after
-    pub rounds : r ≡ mostBelow (λ centre. mostBelow (laneRounds centre) lanes) k
-
--- what the rows of the operands, the sheet and the distances must be for this
-pub record RowsReady (left right : List ℕ) (n : ℕ) (sheet : List ℕ) (roads : ℕ) (distances : List ℕ) : Type 0 where
+-- what the rows of the operands, the sheet and the distances must be
+pub record RowsReady (left right : List ℕ) (n : ℕ) (sheet : List ℕ) (roads : ℕ) (distances : List ℕ) (b : Bounds) : Type 0 where
   pub few-places : n ≤ mostPlaces
   pub left-valid : ValidRow left n
   pub right-valid : ValidRow right n
@@ -61,27 +49,30 @@ pub record RowsReady (left right : List ℕ) (n : ℕ) (sheet : List ℕ) (roads
   pub right-room : n * lanes ≤ length right
   pub roads-in : RoadsIn sheet roads n
   pub distances-there : n * n ≤ length distances
+  pub measured : Measured (networkOf sheet n roads) distances
+  pub small : b .upper < 2 ^ 28
 
--- words with the signals of the operands, n to a sample, which begin at `left` and `right`; samples `first` to first + count - 1
-module _ (words : List ℕ) (left right n : ℕ) (sheet : List ℕ) (roads : ℕ) (distances : List ℕ) (first count : ℕ) where
-  -- what is lent holds all that is read, and the signals are numbers that can arise
-  pub record BlockReady : Type 0 where
+-- words with the signals of the operands, n to a sample; samples `first` to first + count - 1
+module _ (words : List ℕ) (s : Surround) (n : ℕ) (sheet : List ℕ) (roads : ℕ) (first count : ℕ) where
+  -- what is lent holds all that is read, the signals are numbers that can arise, and the distances those of the roads
+  pub record BlockReady (distances : List ℕ) : Type 0 where
     pub few-places : n ≤ mostPlaces
     pub some : 1 ≤ count
     pub few : count ≤ lanes
-    pub left-there : left + (first + count) * n ≤ length words
-    pub right-there : right + (first + count) * n ≤ length words
+    pub left-there : s .left + (first + count) * n ≤ length words
+    pub right-there : s .right + (first + count) * n ≤ length words
     pub roads-in : RoadsIn sheet roads n
     pub distances-there : n * n ≤ length distances
-    pub left-valid : (t l : ℕ) → first ≤ t → t < first + count → l < n → Valid (signalIn words left n t l)
-    pub right-valid : (t l : ℕ) → first ≤ t → t < first + count → l < n → Valid (signalIn words right n t l)
+    pub measured : Measured (networkOf sheet n roads) distances
+    pub small : s .bounds .upper < 2 ^ 28
+    pub left-valid : (t l : ℕ) → first ≤ t → t < first + count → l < n → Valid (signalIn words (s .left) n t l)
+    pub right-valid : (t l : ℕ) → first ≤ t → t < first + count → l < n → Valid (signalIn words (s .right) n t l)
 
   -- entry centre · lanes + lane is the surround of sample first + lane at the centre, and r the greatest rounds; a lane without a sample is lowest, and
   -- what stands past the n places is kept
-  pub record BlockDone (lower upper : ℕ) (before after : List ℕ) (r : ℕ) : Type 0 where
-    pub values : (centre lane : ℕ) → centre < n → lane < count
-        → laneOf after lane centre ≡ surroundValue words left right n sheet roads distances lower upper (first + lane) centre
+  pub record BlockDone (before after : List ℕ) (r : ℕ) : Type 0 where
+    pub values : (centre lane : ℕ) → centre < n → lane < count → laneOf after lane centre ≡ surroundIn words s (networkOf sheet n roads) (first + lane) centre
     pub idle : (centre lane : ℕ) → centre < n → count ≤ lane → lane < lanes → laneOf after lane centre ≡ 0
     pub kept : (place lane : ℕ) → n ≤ place → lane < lanes → laneOf after lane place ≡ laneOf before lane place
     pub long : length after ≡ length before
-    pub rounds : r ≡ blockRounds words left right n sheet roads distances lower upper first count
+    pub rounds : r ≡ blockRounds words s (networkOf sheet n roads) first count

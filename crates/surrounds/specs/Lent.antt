@@ -1,27 +1,46 @@
 -- What the functions of the surround are asked and what they leave, of the bytes that a call is lent and the numbers that it is given.
+use mathlib.Core.Bool.{Bool}
 use mathlib.Core.List.{List}
 use Prim.Native.Nat.{ℕ}
 use Rattle.words.specs.Bytes.{wordsOf, numbersOf}
+use Rattle.network.specs.Network as Roads
 use Rattle.lines.specs.declared.operator.Bounds.{Bounds}
+use Rattle.roads.specs.Roads.{networkOf}
 use Rattle.roads.specs.declared.road.Network.{Network}
 use Rattle.lanes.specs.declared.rows.Block.{Block}
+use Rattle.lanes.specs.Rows.{within}
 use Rattle.surrounds.specs.declared.surround.Surround.{Surround}
-use Rattle.surrounds.specs.Blocks.{RowsReady, CentresDone, BlockReady, BlockDone}
+use Rattle.surrounds.specs.declared.runs.Run.{Run}
+use Rattle.surrounds.specs.Runs.{beyond, isMade, CentresDone, RunDone}
+use Rattle.surrounds.specs.Blocks.{ballOf, reachedBy, RowsReady, BlockReady, BlockDone}
+
+-- the network of a sheet's roads
+abbrev pub networkIn : List ℕ → Network → Roads.Network
+networkIn sheet network = networkOf (wordsOf sheet) (network .places) (network .roads)
+
+-- by the bytes of a table: some place with a distance from the centre lies beyond the ball, and a run is made about the centre
+abbrev pub beyondIn : List ℕ → ℕ → ℕ → Bounds → Bool
+beyondIn distances n centre ball = beyond (within distances n centre ball) (reachedBy distances n centre) n
+
+abbrev pub isMadeIn : List ℕ → ℕ → ℕ → Run → Bool
+isMadeIn distances n centre run = isMade (within distances n centre (ballOf (run .bounds))) (reachedBy distances n centre) n centre (run .islands) (run .number)
 
 -- rows of the operands
-module _ (left right sheet : List ℕ) (network : Network) (distances : List ℕ) where
-  abbrev pub RowsReadyIn : Type 0
-  RowsReadyIn = RowsReady left right (network .places) (wordsOf sheet) (network .roads) (numbersOf (wordsOf distances))
+module _ (left right sheet : List ℕ) (network : Network) where
+  abbrev pub RowsReadyIn : List ℕ → Bounds → Type 0
+  RowsReadyIn distances = RowsReady left right (network .places) (wordsOf sheet) (network .roads) (numbersOf (wordsOf distances))
 
-  -- the first k centres
-  abbrev pub CentresDoneIn : Bounds → ℕ → List ℕ → List ℕ → ℕ → Type 0
-  CentresDoneIn b = CentresDone left right (network .places) (wordsOf sheet) (network .roads) (numbersOf (wordsOf distances)) (b .lower) (b .upper)
+  abbrev pub CentresDoneIn : Surround → List ℕ → List ℕ → ℕ → Type 0
+  CentresDoneIn s = CentresDone left right (networkIn sheet network) (s .bounds) (s .islands)
+
+  -- a run about the first k centres
+  abbrev pub RunDoneIn : Run → ℕ → List ℕ → List ℕ → ℕ → Type 0
+  RunDoneIn run = RunDone left right (networkIn sheet network) (run .bounds) (run .islands) (run .number)
 
 -- words with the signals of the operands
-module _ (words : List ℕ) (s : Surround) (sheet : List ℕ) (network : Network) (distances : List ℕ) (block : Block) where
-  abbrev pub BlockReadyIn : Type 0
-  BlockReadyIn = BlockReady (wordsOf words) (s .left) (s .right) (network .places) (wordsOf sheet) (network .roads) (numbersOf (wordsOf distances)) (block .first) (block .count)
+module _ (words : List ℕ) (s : Surround) (sheet : List ℕ) (network : Network) (block : Block) where
+  abbrev pub BlockReadyIn : List ℕ → Type 0
+  BlockReadyIn distances = BlockReady (wordsOf words) s (network .places) (wordsOf sheet) (network .roads) (block .first) (block .count) (numbersOf (wordsOf distances))
 
   abbrev pub BlockDoneIn : List ℕ → List ℕ → ℕ → Type 0
-  BlockDoneIn = BlockDone (wordsOf words) (s .left) (s .right) (network .places) (wordsOf sheet) (network .roads) (numbersOf (wordsOf distances)) (block .first) (block .count)
-      (s .bounds .lower) (s .bounds .upper)
+  BlockDoneIn = BlockDone (wordsOf words) s (network .places) (wordsOf sheet) (network .roads) (block .first) (block .count)

@@ -1,14 +1,18 @@
-// The surround by Definition 4.4's iteration, for several samples side by side, from the words of an answer.
+// The surround by runs of Definition 4.4's iteration, for several samples side by side, from the words of an answer.
 ghost use mathlib.Core.Path.{_≡_};
 ghost use Prim.Native.Nat.{_*_, _≤_, _<_, max};
 ghost use lib.ListN.{length};
 ghost use Rattle.words.specs.Bytes.{wordsOf};
 ghost use Rattle.lanes.specs.Lanes.{lanes};
-ghost use Rattle.lanes.specs.Rows.{TableThere};
+ghost use Rattle.lanes.specs.Rows.{TableThere, RowWritten};
 ghost use Rattle.surrounds.specs.Steps.{StartWithRoom, Settled};
 ghost use Rattle.surrounds.specs.Blocks.{Rooms, CentreMasked};
-ghost use Rattle.surrounds.specs.Lent.{RowsReadyIn, CentresDoneIn, BlockReadyIn, BlockDoneIn};
+ghost use Rattle.surrounds.specs.Lent.{RowsReadyIn, RunDoneIn, CentresDoneIn, BlockReadyIn, BlockDoneIn};
 use crate::iteration::settle;
+use crate::runs::Run;
+use crate::runs::is_made;
+use crate::runs::leave_out;
+use crate::runs::run_count;
 use checks::limits::MOST_PLACES;
 use lanes::ROW;
 use lanes::rows::Block;
@@ -16,15 +20,17 @@ use lanes::rows::clear_outside;
 use lanes::rows::load;
 use lanes::rows::mark_ball;
 use lanes::rows::mask;
-use lanes::strips::copy_strip;
+use lanes::strips::fill_strip;
+use lanes::strips::pull_strip;
 use lines::operator::Bounds;
 use roads::road::Network;
 
-// What is asked about every centre. The operands are the indices at which their signals begin.
+// What is asked about every centre, and whether islands count. The operands are the indices at which their signals begin.
 pub struct Surround {
     pub left: usize,
     pub right: usize,
     pub bounds: Bounds,
+    pub islands: bool,
 }
 
 fn greater_of(a: u64, b: u64) -> u64
@@ -57,8 +63,8 @@ fn mask_centre(
     mask(right, ring, distances, centre, places, bounds);
 }
 
-// The surround about a centre whose rows are masked: x has it at the centre, and no more than that.
-fn surround_centre(
+// A run about a centre whose rows are masked: x has at the centre what it gives, and no more than that.
+fn run_centre(
     x: &mut [u32],
     ring: &[u32],
     old: &mut [u32],
@@ -75,18 +81,28 @@ fn surround_centre(
     settle(x, ring, old, both, inside, sheet, network)
 }
 
-// The surrounds about all centres, and the greatest rounds of one.
-fn surround_centres(
+// The first `places` places become lowest.
+fn clear(row: &mut [u32], places: usize)
+    requires { ⌜ places * lanes ≤ length (now row) ⌝ }
+    ensures { λ _. ⌜ RowWritten places (λ _ _. 0) (now (row .entry)) (now (row .exit)) ⌝ }
+{
+    for place in 0..places {
+        fill_strip(row, place, values::bottom());
+    }
+}
+
+// Makes a run about every centre that has it, raises `out` to what it gives there, and tells the greatest rounds.
+fn run_centres(
     left: &[u32],
     right: &[u32],
     sheet: &[u8],
     network: Network,
     distances: &[u8],
-    bounds: Bounds,
+    run: Run,
     out: &mut [u32],
 ) -> u64
-    requires { ⌜ RowsReadyIn (now left) (now right) (now sheet) network (now distances) × (network .places * lanes ≤ length (now out)) ⌝ }
-    ensures { λ r. ⌜ CentresDoneIn (now (left .entry)) (now (right .entry)) (now (sheet .entry)) network (now (distances .entry)) bounds (network .places) (now (out .entry)) (now (out .exit)) r ⌝ }
+    requires { ⌜ RowsReadyIn (now left) (now right) (now sheet) network (now distances) (run .bounds) × (network .places * lanes ≤ length (now out)) × (run .number ≤ network .places) ⌝ }
+    ensures { λ r. ⌜ RunDoneIn (now (left .entry)) (now (right .entry)) (now (sheet .entry)) network run (network .places) (now (out .entry)) (now (out .exit)) r ⌝ }
 {
     let mut x: [u32; ROW] = [0; ROW];
     let mut ring: [u32; ROW] = [0; ROW];
@@ -94,8 +110,12 @@ fn surround_centres(
     let mut both: [u32; ROW] = [0; ROW];
     let mut inside: [bool; MOST_PLACES] = [false; MOST_PLACES];
     let places = network.places;
+    let bounds = run.bounds;
     let mut most: u64 = 0;
     for centre in 0..places {
+        if !is_made(distances, places, centre, run) {
+            continue;
+        }
         let flags = &mut inside[..places];
         mask_centre(
             left,
@@ -107,9 +127,40 @@ fn surround_centres(
             &mut x,
             &mut ring,
         );
+        leave_out(&mut x, run);
         let ball = &inside[..places];
-        let rounds = surround_centre(&mut x, &ring, &mut old, &mut both, ball, sheet, network);
-        copy_strip(&x, out, centre);
+        let rounds = run_centre(&mut x, &ring, &mut old, &mut both, ball, sheet, network);
+        pull_strip(out, &x, centre, centre, false);
+        most = greater_of(most, rounds);
+    }
+    most
+}
+
+// The surrounds about all centres, the greatest that a run gives, and the greatest rounds of a run.
+fn surround_centres(
+    left: &[u32],
+    right: &[u32],
+    sheet: &[u8],
+    network: Network,
+    distances: &[u8],
+    surround: Surround,
+    out: &mut [u32],
+) -> u64
+    requires { ⌜ RowsReadyIn (now left) (now right) (now sheet) network (now distances) (surround .bounds) × (network .places * lanes ≤ length (now out)) ⌝ }
+    ensures { λ r. ⌜ CentresDoneIn (now (left .entry)) (now (right .entry)) (now (sheet .entry)) network surround (now (out .entry)) (now (out .exit)) r ⌝ }
+{
+    clear(out, network.places);
+    let bounds = surround.bounds;
+    let islands = surround.islands;
+    let runs = run_count(islands, network.places);
+    let mut most: u64 = 0;
+    for number in 0..runs {
+        let run = Run {
+            bounds,
+            islands,
+            number,
+        };
+        let rounds = run_centres(left, right, sheet, network, distances, run, out);
         most = greater_of(most, rounds);
     }
     most
@@ -127,13 +178,12 @@ pub fn surround_block(
     block: Block,
     out: &mut [u32],
 ) -> u64
-    requires { ⌜ BlockReadyIn (now words) surround (now sheet) network (now distances) block × (network .places * lanes ≤ length (now out)) ⌝ }
-    ensures { λ r. ⌜ BlockDoneIn (now (words .entry)) surround (now (sheet .entry)) network (now (distances .entry)) block (now (out .entry)) (now (out .exit)) r ⌝ }
+    requires { ⌜ BlockReadyIn (now words) surround (now sheet) network block (now distances) × (network .places * lanes ≤ length (now out)) ⌝ }
+    ensures { λ r. ⌜ BlockDoneIn (now (words .entry)) surround (now (sheet .entry)) network block (now (out .entry)) (now (out .exit)) r ⌝ }
 {
     let mut left: [u32; ROW] = [0; ROW];
     let mut right: [u32; ROW] = [0; ROW];
     load(words, surround.left, network.places, block, &mut left);
     load(words, surround.right, network.places, block, &mut right);
-    let bounds = surround.bounds;
-    surround_centres(&left, &right, sheet, network, distances, bounds, out)
+    surround_centres(&left, &right, sheet, network, distances, surround, out)
 }

@@ -1,7 +1,7 @@
 -- The surround and its rounds on chain numbers: the iteration projects to margins and to verdicts at every step, so at rest it is the surround,
 -- and the steps that change a half (the code of a margin) are those that the rounds count.
 use mathlib.Core.Path.{_≡_, refl, sym, ap, _∙_}
-use mathlib.Core.Bool.{Bool}
+use mathlib.Core.Bool.{Bool, true}
 use Prim.Native.Nat.{ℕ, suc, _/_, _<_, _≤_}
 use native.Mathlib.Omega.{arith}
 use Rattle.logic.specs.Lattice.{Lattice, verdictLattice}
@@ -9,10 +9,10 @@ use Rattle.logic.specs.Margin.{Margin, marginLattice}
 use Rattle.logic.specs.Surround.{surround}
 use Rattle.logic.specs.Iteration.{iterate, masked, rounds}
 use Rattle.logic.proofs.Keeps.{Keeps, masked-kept, iterate-kept, surround-kept}
-use Rattle.logic.proofs.Thresholds.{Apart}
+use Rattle.logic.proofs.Thresholds.{Apart, rested}
 use Rattle.logic.proofs.Margins.{margin-apart}
 use Rattle.logic.proofs.Resting.{Rests}
-use Rattle.logic.proofs.Limit.{verdict-apart, rested}
+use Rattle.logic.proofs.Limit.{verdict-apart}
 use Rattle.logic.proofs.Rounds.{rests-after, rounds-least}
 use Rattle.values.specs.Chain.{marginCode, marginAt, chainMargin, chainVerdict, Valid, chainLattice}
 use Rattle.values.proofs.Codes.{code-at}
@@ -44,11 +44,11 @@ module _ (joined : ℕ → ℕ → Bool) (n : ℕ) (inside edge : ℕ → Bool) 
     rest-read : (i : ℕ) → ((l : ℕ) → l < n → h (step (suc i) l) ≡ h (step i l)) → Rests M joined n (masked M inside p) (masked M edge q) i
     rest-read i r l b = sym (step-read (suc i) l b) ∙ r l b ∙ step-read i l b
 
-    limit-read : Apart M → (i : ℕ) → Rests chainLattice joined n start ring i → (l : ℕ) → l < n → h (step i l) ≡ h (surround chainLattice joined n inside edge left right l)
+    limit-read : Apart M → (i : ℕ) → Rests chainLattice joined n start ring i → (l : ℕ) → l < n → h (step i l) ≡ h (surround chainLattice joined n true inside edge left right l)
     limit-read apart i r l b =
         step-read i l b
         ∙ rested M apart joined n inside edge p q i (rest-read i (λ k c. ap h (r k c))) l b
-        ∙ sym (surround-kept chainLattice M (λ c m. h c ≡ m) K joined n left right p q hp hq inside edge l)
+        ∙ sym (surround-kept chainLattice M (λ c m. h c ≡ m) K joined n left right p q hp hq true inside edge l)
 
   -- the margins of the steps are the steps of the margins
   pub margin-step : (p q : ℕ → Margin) → ((l : ℕ) → l < n → chainMargin (left l) ≡ p l) → ((l : ℕ) → l < n → chainMargin (right l) ≡ q l)
@@ -62,9 +62,9 @@ module _ (joined : ℕ → ℕ → Bool) (n : ℕ) (inside edge : ℕ → Bool) 
         (masked-kept chainLattice chainLattice (λ c _. Valid c) valid-kept edge right right n valid-right)
 
     -- ---- once at rest, the iteration has come to the surround
-    pub surround-rested : (i : ℕ) → Rests chainLattice joined n start ring i → (l : ℕ) → l < n → step i l ≡ surround chainLattice joined n inside edge left right l
+    pub surround-rested : (i : ℕ) → Rests chainLattice joined n start ring i → (l : ℕ) → l < n → step i l ≡ surround chainLattice joined n true inside edge left right l
     surround-rested i r l b = determined _ _ (valid-step i l b)
-        (surround-kept chainLattice chainLattice (λ c _. Valid c) valid-kept joined n left right left right valid-left valid-right inside edge l)
+        (surround-kept chainLattice chainLattice (λ c _. Valid c) valid-kept joined n left right left right valid-left valid-right true inside edge l)
         (limit-read marginLattice chainMargin margin-kept _ _ (λ _ _. refl) (λ _ _. refl) margin-apart i r l b)
         (limit-read verdictLattice chainVerdict verdict-kept _ _ (λ _ _. refl) (λ _ _. refl) verdict-apart i r l b)
 

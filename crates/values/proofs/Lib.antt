@@ -7,3 +7,4 @@ pub mod Projections
 pub mod ChainTable
 pub mod ChainWords
 pub mod ChainSurround
+pub mod ChainIslands
