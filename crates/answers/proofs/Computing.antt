@@ -4,12 +4,12 @@ use mathlib.Core.List.{List}
 use Rattle.words.specs.Rows.{row, concat}
 use Rattle.logic.specs.Lattice.{leastOver, greatestOver}
 use Rattle.network.specs.Distance.{direct, distance}
-use Rattle.network.specs.Network.{joined, distanceIn, within}
-use Rattle.logic.specs.Surround.{greatestRegion, boundary, allowed, regionValue, surround}
-use Rattle.logic.specs.Iteration.{iterate, masked, first, atRest, rounds}
+use Rattle.network.specs.Network.{joined, distanceIn, within, reached, other}
+use Rattle.logic.specs.Surround.{greatestRegion, boundary, bounded, allowed, regionValue, surround}
+use Rattle.logic.specs.Iteration.{iterate, masked, except, first, atRest, rounds}
 use Rattle.logic.specs.Table.{windowAt, untilAt, somewhereAt, surroundAt, value, valuesAfter, valueAt}
 use Rattle.counting.specs.Totals.{mostBelow, sumBelow}
-use Rattle.logic.specs.Counts.{roundsAt, greatestRounds, yesCount}
+use Rattle.logic.specs.Counts.{runRounds, surroundRounds, roundsAt, greatestRounds, yesCount}
 use Rattle.checks.specs.Checked.{isKind}
 use Rattle.lines.specs.Codes.{codes}
 use Rattle.lines.specs.Lines.{constantAt, boundsAt, operatorAt, lineAt, linesFrom}
@@ -24,9 +24,9 @@ use Rattle.lookup.specs.Lookup.{lineStart, saidAt}
 
 -- with 4,096 distances and 64 answer words lent
 unfoldable pub answerOf : List ℕ → Judged
-unfolding leastOver greatestOver direct distance joined distanceIn within greatestRegion boundary allowed regionValue surround
-    iterate masked first atRest rounds windowAt untilAt somewhereAt surroundAt value valuesAfter valueAt mostBelow sumBelow roundsAt
-    greatestRounds yesCount isKind codes constantAt boundsAt operatorAt lineAt linesFrom sizesOf headChecked roadChecked
+unfolding leastOver greatestOver direct distance joined distanceIn within reached other greatestRegion boundary bounded allowed regionValue
+    surround iterate masked except first atRest rounds windowAt untilAt somewhereAt surroundAt value valuesAfter valueAt mostBelow sumBelow
+    runRounds surroundRounds roundsAt greatestRounds yesCount isKind codes constantAt boundsAt operatorAt lineAt linesFrom sizesOf headChecked roadChecked
     roadsFrom samplesFrom endChecked checked joins weightAmong network recording distanceTable row concat lineIndex wordsNeeded wordFor
     lineWords headWord answerWords answered judged said lineStart saidAt
 answerOf s = judged s 4096 64

@@ -1,5 +1,5 @@
 -- The settled examples of document 01, from the words of a sheet to the words of its answer, computed on the definitions: the joint theorem
--- of the starred ones, A to K, and after it the others.
+-- of the starred ones, A to K, B and C as request M-101 has them, and after it the others.
 use mathlib.Core.Path.{_≡_, refl}
 use mathlib.Core.Bool.{Bool, true, false}
 use mathlib.Core.List.{List, [], _∷_, _++_}
@@ -24,10 +24,16 @@ sheetA =
     0x10201002 ∷ 0x20000001 ∷ 0x30000003 ∷ 0x40000005 ∷ 0x47FFFFFE ∷ 0x40000001 ∷ 0x40000004 ∷ 0x50100000 ∷ 0x80000000 ∷ 0x50900000
     ∷ 0x60000000 ∷ 0x70000001 ∷ 0x50600000 ∷ 0x60000001 ∷ 0x70000003 ∷ 0x50700800 ∷ 0x60000000 ∷ 0x70000003 ∷ 0xF0000012 ∷ []
 
--- one place with the sample 7: line 0 is "at least 0", line 1 true, line 2 the surround 0..0 of line 0, line 3 that of line 1
+-- one place with the sample 7: line 0 is "at least 0", line 1 true, line 2 the surround 0..0 of line 0 by true, line 3 that of true
 abbrev sheetBC : List ℕ
 sheetBC =
     0x10101001 ∷ 0x40000007 ∷ 0x50100000 ∷ 0x80000000 ∷ 0x50000000 ∷ 0x50700001 ∷ 0x60000000 ∷ 0x70000000 ∷ 0x50700401 ∷ 0x60000000
+    ∷ 0x70000000 ∷ 0xF000000B ∷ []
+
+-- the same with code 15, for which islands count
+abbrev sheetIslands : List ℕ
+sheetIslands =
+    0x10101001 ∷ 0x40000007 ∷ 0x50100000 ∷ 0x80000000 ∷ 0x50000000 ∷ 0x50F00001 ∷ 0x60000000 ∷ 0x70000000 ∷ 0x50F00401 ∷ 0x60000000
     ∷ 0x70000000 ∷ 0xF000000B ∷ []
 
 -- two places without a road, samples -1 and 8: lines 1 and 2 are somewhere 0..9 and 1..9, line 3 everywhere 1..9
@@ -69,7 +75,7 @@ layoutH = record {
   sizes = record { places = 3; signals = 2; samples = 1 };
   roads = 2;
   lines =
-      record { operator = AtLeast 0 (pos 0); extent = one-sample } ∷ record { operator = AtLeast 1 (pos 0); extent = one-sample } ∷ record { operator = Surrounded 0 1 1 1; extent = one-sample } ∷ [];
+      record { operator = AtLeast 0 (pos 0); extent = one-sample } ∷ record { operator = AtLeast 1 (pos 0); extent = one-sample } ∷ record { operator = Surrounded false 0 1 1 1; extent = one-sample } ∷ [];
 }
 
 -- ---- what is said of them
@@ -87,8 +93,12 @@ pub record StarredExamples (holds : List ℕ → ℕ → ℕ → (Judged → Typ
         ∷ 0xAFFFFFFE ∷ 0x90000005 ∷ 0x90000004 ∷ 0x90000001 ∷ 0xE0000002 ∷ 0xAFFFFFFE ∷ 0x90000005 ∷ 0x90000004 ∷ 0x90000001 ∷ 0xF0000013 ∷ [];
     distances = 0 ∷ 3 ∷ 3 ∷ 0 ∷ replicate 4092 0;
   })
-  pub B : holds sheetBC 4096 64 (λ j. saidIn j 2 ≡ says true (finite (pos 7)))
-  pub C : holds sheetBC 4096 64 (λ j. saidIn j 3 ≡ says true plusInfinity)
+  pub B : holds sheetBC 4096 64 (λ j. saidIn j 2 ≡ says false minusInfinity)
+  pub C : holds sheetBC 4096 64 (λ j. saidIn j 3 ≡ says false minusInfinity)
+  pub BC-rounds : holds sheetBC 4096 64 (λ j. j .result .rounds ≡ 0)
+  pub B-islands : holds sheetIslands 4096 64 (λ j. saidIn j 2 ≡ says true (finite (pos 7)))
+  pub C-islands : holds sheetIslands 4096 64 (λ j. saidIn j 3 ≡ says true plusInfinity)
+  pub BC-islands-rounds : holds sheetIslands 4096 64 (λ j. j .result .rounds ≡ 1)
   pub D : holds sheetDEF 4096 64 (λ j. saidIn j 1 ≡ says false (finite (negsuc 0)))
   pub E : holds sheetDEF 4096 64 (λ j. saidIn j 2 ≡ says false minusInfinity)
   pub F : holds sheetDEF 4096 64 (λ j. saidIn j 3 ≡ says true plusInfinity)
@@ -98,7 +108,7 @@ pub record StarredExamples (holds : List ℕ → ℕ → ℕ → (Judged → Typ
   pub H-rounds : holds sheetH 4096 64 (λ j. j .result .rounds ≡ 3)
   -- and the greatest rounds are those of the surround at place 0
   pub H-layout : checked sheetH 4096 ≡ accepted layoutH
-  pub H-centre : roundsAt (network sheetH layoutH) (valueAt margins (network sheetH layoutH) (recording sheetH layoutH) (layoutH .lines)) (Surrounded 0 1 1 1) 0 0 ≡ 3
+  pub H-centre : roundsAt (network sheetH layoutH) (valueAt margins (network sheetH layoutH) (recording sheetH layoutH) (layoutH .lines)) (Surrounded false 0 1 1 1) 0 0 ≡ 3
   pub I : holds sheetI 4096 64 (λ j. saidIn j 0 ≡ says false (finite (negsuc 134217726)))
   pub J : holds sheetJ 4096 64 (λ j. j .distances ≡ 0 ∷ 2 ∷ 1 ∷ 2 ∷ 0 ∷ 1 ∷ 1 ∷ 1 ∷ 0 ∷ replicate 4087 0)
   pub K : holds sheetK 4096 64 (λ j. saidIn j 2 ≡ says true (finite (pos 1)))
@@ -109,6 +119,10 @@ starred-examples = record {
   A = refl;
   B = refl;
   C = refl;
+  BC-rounds = refl;
+  B-islands = refl;
+  C-islands = refl;
+  BC-islands-rounds = refl;
   D = refl;
   E = refl;
   F = refl;
@@ -132,6 +146,10 @@ examples-of holds leaves = record {
   A = leaves _ _ _ _ refl (starred-examples .A);
   B = leaves _ _ _ _ refl (starred-examples .B);
   C = leaves _ _ _ _ refl (starred-examples .C);
+  BC-rounds = leaves _ _ _ _ refl (starred-examples .BC-rounds);
+  B-islands = leaves _ _ _ _ refl (starred-examples .B-islands);
+  C-islands = leaves _ _ _ _ refl (starred-examples .C-islands);
+  BC-islands-rounds = leaves _ _ _ _ refl (starred-examples .BC-islands-rounds);
   D = leaves _ _ _ _ refl (starred-examples .D);
   E = leaves _ _ _ _ refl (starred-examples .E);
   F = leaves _ _ _ _ refl (starred-examples .F);

@@ -7,4 +7,5 @@ pub mod Accepted
 pub mod Steadiness
 pub mod Pinned
 pub mod LookingBack
+pub mod Islands
 pub mod Fitting

@@ -82,7 +82,7 @@ accepted-table s layout distances accepting =
           recorded = le-of-lt (sheet .table-there);
         };
         room = room;
-        measured = distance-at (network s L) distances (accepting .measured);
+        measured = record { number = distance-at (network s L) distances (accepting .measured) };
       };
       roads = good-roads s (L .roads) (L .sizes .places) good-road;
     })

@@ -9,7 +9,7 @@ use native.Mathlib.Omega.{arith}
 use lib.ListN.{length, getD}
 use Rattle.formulas.specs.Formulas.{forward, backward, Extent, span, common, looking, extentOf}
 use Rattle.logic.specs.Table.{Signal, untilAt, everTrue, somewhereAt, surroundAt, value}
-use Rattle.logic.specs.Counts.{roundsAt}
+use Rattle.logic.specs.Counts.{surroundRounds, roundsAt}
 use Rattle.sheet.specs.declared.check.Layout.{Layout}
 use Rattle.lines.specs.declared.operator.Bounds.{Bounds}
 use Rattle.lines.specs.declared.operator.Direction.{Direction}
@@ -20,22 +20,23 @@ use Rattle.lines.specs.declared.line.Line.{Line}
 use Rattle.lines.specs.Decoding.{sideSaid, operatorSaid, lineSaid}
 use Rattle.lines.specs.GoodLines.{Sound}
 use Rattle.lines.specs.GoodLines as Good
-use Rattle.values.specs.Chain.{chains, chainLattice, chainOpposite, Valid}
+use Rattle.values.specs.Chain.{chains, chainLattice, chainOpposite, chainMargin, Valid}
 use Rattle.values.specs.Signals.{signalIn, turned}
 use Rattle.values.proofs.ChainWords.{signal-bound, signal-later}
 use Rattle.operators.specs.Reach.{Window}
 use Rattle.operators.specs.Rows.{atomValue, eventuallyAt}
 use Rattle.operators.proofs.Later.{until-later, since-later, eventually-from, once-from}
+use Rattle.surrounds.specs.Surround.{surroundIn, surroundRoundsIn}
 use Rattle.verdicts.specs.declared.around.Around.{Around}
 use Rattle.verdicts.specs.declared.around.Around.the-variants.{Surround, Range}
 use Rattle.verdicts.specs.declared.located.Located.{Located}
 use Rattle.verdicts.specs.declared.located.Located.the-variants.{Rows, Blocks}
 use Rattle.verdicts.specs.Located.{startAt, untilLocated, eventuallyLocated, surroundLocated, rangeLocated, locatedBy, locatedOf}
 use Rattle.verdicts.specs.Rows.{sheetRecording, rowValue, RowReads}
-use Rattle.verdicts.specs.Around.{AroundReads, AroundReady, aroundValue, aroundRounds}
-use Rattle.evaluation.specs.Writing.{sheetNetwork, earlier, lineValue, lineRounds}
+use Rattle.verdicts.specs.Around.{sheetNetwork, AroundReads, AroundReady, aroundValue, aroundRounds}
+use Rattle.evaluation.specs.Writing.{earlier, lineValue, lineRounds}
 use Rattle.evaluation.specs.Line.{LineReady}
-use Rattle.evaluation.proofs.SpaceTable.{roundsAbout, somewhere-same, value-by-table, rounds-by-table}
+use Rattle.evaluation.proofs.SpaceTable.{somewhere-same}
 
 module _ (s : List ℕ) (L : Layout) (distances words : List ℕ) where
   -- what its writer makes of a located line, and what that writer reads
@@ -192,7 +193,7 @@ module _ {s : List ℕ} {L : Layout} {distances words starts firsts : List ℕ} 
 
   -- ---- over space
 
-  around-ready : (around : Around) → AroundReads words L s around (extent .length) → AroundReady words L s distances around (extent .length)
+  around-ready : (around : Around) → AroundReads words L s distances around (extent .length) → AroundReady words L s distances around (extent .length)
   around-ready around reads = record {
     few-places = ready .surveyed .sheet .places;
     few = omega (arith, ready .good .ends, ready .surveyed .sheet .samples);
@@ -230,24 +231,25 @@ module _ {s : List ℕ} {L : Layout} {distances words starts firsts : List ℕ} 
         rounds = λ t l _. ranged-rounds dual i b (extent .first + t) l;
       }
 
-  surround-known : (i j : ℕ) (b : Bounds) → i < ready .earlier → j < ready .earlier → b .upper < 2 ^ 28 → extent ≡ common (ready .extents i) (ready .extents j)
-      → Known (Surrounded i j b) (surroundLocated starts firsts n (extent .first) i j b)
-  unfolding lineValue value surroundAt lineRounds roundsAt
-  surround-known i j b left right small e =
+  surround-known : (islands : Bool) (i j : ℕ) (b : Bounds) → i < ready .earlier → j < ready .earlier → b .upper < 2 ^ 28 → extent ≡ common (ready .extents i) (ready .extents j)
+      → Known (Surrounded islands i j b) (surroundLocated starts firsts n (extent .first) islands i j b)
+  unfolding lineValue value surroundIn surroundAt lineRounds roundsAt surroundRoundsIn
+  surround-known islands i j b left right small e =
       let from : ℕ = start (extent .first) i in
       let from′ : ℕ = start (extent .first) j in
       record {
-        reads = around-ready (Surround (record { left = from; right = from′; bounds = b })) (record {
+        reads = around-ready (Surround (record { left = from; right = from′; bounds = b; islands = islands })) (record {
           left-there = both-there left right e (extent .length) (le-refl _) .0;
           right-there = both-there left right e (extent .length) (le-refl _) .1;
           roads-in = ready .roads;
+          measured = ready .surveyed .measured;
+          small = small;
           left-valid = λ t l h k. valid-from t l (both-begun left right e .0) (omega (arith, ap (λ (x : Extent). x .first) e, ap (λ (x : Extent). x .length) e)) k;
           right-valid = λ t l h k. valid-from t l (both-begun left right e .1) (omega (arith, ap (λ (x : Extent). x .first) e, ap (λ (x : Extent). x .length) e)) k;
         });
-        values = λ t l place. value-by-table s L distances (ready .surveyed) words from from′ (b .lower) (b .upper) t l small place
-            ∙ both-same left right e (λ p q. surroundAt chains (sheetNetwork s L) p q (b .lower) (b .upper) t l);
-        rounds = λ t l place. rounds-by-table s L distances (ready .surveyed) words from from′ (b .lower) (b .upper) t l small place
-            ∙ both-same left right e (λ p q. roundsAbout s L p q (b .lower) (b .upper) t l);
+        values = λ t l place. both-same left right e (λ p q. surroundAt chains (sheetNetwork s L) islands p q (b .lower) (b .upper) t l);
+        rounds = λ t l place. both-same left right e
+            (λ p q. surroundRounds (sheetNetwork s L) (b .lower) (b .upper) islands (λ k. chainMargin (p t k)) (λ k. chainMargin (q t k)) l);
       }
 
   -- ---- every line
@@ -284,7 +286,7 @@ module _ {s : List ℕ} {L : Layout} {distances words starts firsts : List ℕ} 
   }
   known (Until direction i j b) h e = until-known direction i j b (h .0) (h .1) (h .2) e
   known (Somewhere i b) h e = range-known false i b (h .0) (h .1 .small) e
-  known (Surrounded i j b) h e = surround-known i j b (h .0) (h .1) (h .2 .small) e
+  known (Surrounded islands i j b) h e = surround-known islands i j b (h .0) (h .1) (h .2 .small) e
   known (Or i j) h e = record {
     reads = λ t b. both-there (h .0) (h .1) e (t + 1) (omega arith);
     values = λ t l b. both-same (h .0) (h .1) e (λ p q. chainOpposite (chainLattice .meet (chainOpposite (p t l)) (chainOpposite (q t l))));

@@ -6,15 +6,13 @@ use native.Mathlib.Omega.{arith}
 use lib.ListN.{length}
 use Rattle.words.specs.Rows.{rows}
 use Rattle.words.proofs.Rows.{rows-ext}
-use Rattle.logic.specs.Margin.{marginLattice}
-use Rattle.network.specs.Network.{Network, joined, within}
+use Rattle.network.specs.Network.{Network}
 use Rattle.formulas.specs.Formulas.{Operator, True, AtLeast, AtMost, Not, And, Until, Somewhere, Surrounded, Or, Eventually, Always, Everywhere, Extent, Line, lineIn, extentOf, Recording, InBits}
 use Rattle.formulas.proofs.Extents.{Has, has-left, has-right}
 use Rattle.logic.specs.Table.{Signal, verdicts, margins, value, valueAt}
 use Rattle.counting.specs.Totals.{count, sumBelow, mostBelow}
 use Rattle.logic.specs.Counts.{roundsAt}
-use Rattle.logic.proofs.Keeps.{same-kept, masked-kept}
-use Rattle.logic.proofs.Rounds.{rounds-same}
+use Rattle.logic.proofs.Counts.{surround-rounds-same}
 use Rattle.formulas.specs.Formulas.{ConstantsIn}
 use Rattle.counting.proofs.Totals.{sum-same, most-same}
 use Rattle.lines.specs.GoodLines.{extentsOf, Sound, GoodTable}
@@ -36,11 +34,9 @@ module _ (N : Network) (T v k : ℕ) (extents : ℕ → Extent) (line line′ : 
   rounds-alike (And i j) sound t l u = refl
   rounds-alike (Until side i j lower upper) sound t l u = refl
   rounds-alike (Somewhere i lower upper) sound t l u = refl
-  rounds-alike (Surrounded i j lower upper) sound t l u = rounds-same (joined N) (N.places) _ _ _ _
-      (masked-kept marginLattice marginLattice (λ a b. a ≡ b) (same-kept marginLattice) (within N l 0 upper) (line i t) (line′ i t) (N.places)
-      (λ m b. alike i t m (sound .0) (has-left (extents i) (extents j) t u) b))
-      (masked-kept marginLattice marginLattice (λ a b. a ≡ b) (same-kept marginLattice) (within N l lower upper) (line j t) (line′ j t) (N.places)
-      (λ m b. alike j t m (sound .1) (has-right (extents i) (extents j) t u) b))
+  rounds-alike (Surrounded islands i j lower upper) sound t l u = surround-rounds-same N lower upper l islands _ _ _ _
+      (λ m b. alike i t m (sound .0) (has-left (extents i) (extents j) t u) b)
+      (λ m b. alike j t m (sound .1) (has-right (extents i) (extents j) t u) b)
   rounds-alike (Or i j) sound t l u = refl
   rounds-alike (Eventually side i lower upper) sound t l u = refl
   rounds-alike (Always side i lower upper) sound t l u = refl

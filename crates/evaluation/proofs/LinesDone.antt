@@ -33,9 +33,10 @@ use Rattle.samples.specs.declared.tally.Tally.{Tally}
 use Rattle.samples.specs.Tally.{together}
 use Rattle.answers.specs.Answer.{lineIndex, firstWord, lineWords}
 use Rattle.verdicts.specs.Rows.{sheetRecording}
+use Rattle.verdicts.specs.Around.{sheetNetwork}
 use Rattle.answers.proofs.AnswerWords.{lines-size, sizes-below}
 use Rattle.verdicts.proofs.Points.{sheet-bits}
-use Rattle.evaluation.specs.Writing.{sheetNetwork, earlier, lineValue, lineRounds}
+use Rattle.evaluation.specs.Writing.{earlier, lineValue, lineRounds}
 use Rattle.evaluation.specs.Line.{LineReady, LineWritten, wordsUpTo, valueHere, roundsHere}
 use Rattle.evaluation.specs.Lines.{found, Accepting, LinesWritten}
 use Rattle.evaluation.proofs.AcceptedTable.{Table, line-ends}

@@ -18,7 +18,7 @@ use Rattle.values.specs.Signals.{signalIn}
 use Rattle.values.proofs.ChainWords.{signal-bound}
 use Rattle.operators.proofs.Bounds.{greatest-bound}
 use Rattle.lanes.specs.Lanes.{lanes, laneOf}
-use Rattle.surrounds.specs.Surround.{surroundRounds, blockRounds}
+use Rattle.surrounds.specs.Surround.{surroundRoundsIn, blockRounds}
 use Rattle.surrounds.specs.Blocks.{BlockReady, BlockDone}
 use Rattle.ranges.specs.Ranges.{somewhereIn, RangeReady, RangeDone}
 use Rattle.ranges.specs.declared.Range as Within
@@ -28,7 +28,7 @@ use Rattle.samples.specs.Tally.{together}
 use Rattle.verdicts.specs.declared.around.Around.{Around}
 use Rattle.verdicts.specs.declared.around.Around.the-variants.{Surround, Range}
 use Rattle.samples.specs.Written.{SamplesWritten}
-use Rattle.verdicts.specs.Around.{LanesBounded, AroundReads, AroundReady, BlockFits, aroundValue, aroundRounds, BlockFilled}
+use Rattle.verdicts.specs.Around.{sheetNetwork, LanesBounded, AroundReads, AroundReady, BlockFits, aroundValue, aroundRounds, BlockFilled}
 use Rattle.verdicts.proofs.Points.{surround-bound}
 
 -- ---- a + b samples
@@ -64,24 +64,27 @@ few-yes {value} w = rw (w .counted) (table-yes-bound (λ t l. chainVerdict (valu
 
 -- ---- a block
 
-reads-fewer : (words : List ℕ) (L : Layout) (sheet : List ℕ) (around : Around) (samples k : ℕ) → AroundReads words L sheet around samples → k ≤ samples → AroundReads words L sheet around k
-reads-fewer words L sheet (Surround a) samples k reads h =
+reads-fewer : (words : List ℕ) (L : Layout) (sheet distances : List ℕ) (around : Around) (samples k : ℕ) → AroundReads words L sheet distances around samples → k ≤ samples
+    → AroundReads words L sheet distances around k
+reads-fewer words L sheet distances (Surround a) samples k reads h =
     let m = mul-le-mul-right (L .places) h in
     record {
       left-there = omega (arith, reads .left-there);
       right-there = omega (arith, reads .right-there);
       roads-in = reads .roads-in;
+      measured = reads .measured;
+      small = reads .small;
       left-valid = λ t l b. reads .left-valid t l (omega arith);
       right-valid = λ t l b. reads .right-valid t l (omega arith);
     }
-reads-fewer words L sheet (Range a) samples k reads h = omega (arith, mul-le-mul-right (L .places) h)
+reads-fewer words L sheet distances (Range a) samples k reads h = omega (arith, mul-le-mul-right (L .places) h)
 
 range-small : (dual : Bool) (words : List ℕ) (left n : ℕ) (distances : List ℕ) (lower upper t l : ℕ) → somewhereIn dual distances n (signalIn words left n) lower upper t l ≤ highest
 range-small true words left n distances lower upper t l = omega arith
 range-small false words left n distances lower upper t l = greatest-bound _ _ n (λ k _. signal-bound words left n t k)
 
 around-small : (words : List ℕ) (L : Layout) (sheet distances : List ℕ) (around : Around) (t l : ℕ) → aroundValue words L sheet distances around t l ≤ highest
-around-small words L sheet distances (Surround a) t l = surround-bound words (a .left) (a .right) (L .places) sheet (L .roads) distances (a .bounds .lower) (a .bounds .upper) t l
+around-small words L sheet distances (Surround a) t l = surround-bound words a (sheetNetwork sheet L) t l
 around-small words L sheet distances (Range a) t l = range-small (a .dual) words (a .left) (L .places) distances (a .bounds .lower) (a .bounds .upper) t l
 
 module _ {words : List ℕ} {L : Layout} {sheet distances : List ℕ} where
@@ -90,11 +93,11 @@ module _ {words : List ℕ} {L : Layout} {sheet distances : List ℕ} where
     few-places = ready .few-places;
     few = omega (arith, ready .few);
     distances-there = ready .distances-there;
-    reads = reads-fewer words L sheet around samples k (ready .reads) h;
+    reads = reads-fewer words L sheet distances around samples k (ready .reads) h;
   }
 
   pub block-ready : {a : Asked.Surround} {first size : ℕ} → BlockFits words L sheet distances (Surround a) first size
-      → BlockReady words (a .left) (a .right) (L .places) sheet (L .roads) distances first size
+      → BlockReady words a (L .places) sheet (L .roads) first size distances
   block-ready fits = record {
     few-places = fits .ready .few-places .1;
     some = fits .some;
@@ -103,6 +106,8 @@ module _ {words : List ℕ} {L : Layout} {sheet distances : List ℕ} where
     right-there = fits .ready .reads .right-there;
     roads-in = fits .ready .reads .roads-in;
     distances-there = fits .ready .distances-there;
+    measured = fits .ready .reads .measured;
+    small = fits .ready .reads .small;
     left-valid = λ t l _. fits .ready .reads .left-valid t l;
     right-valid = λ t l _. fits .ready .reads .right-valid t l;
   }
@@ -112,12 +117,12 @@ module _ {words : List ℕ} {L : Layout} {sheet distances : List ℕ} where
   range-ready fits = record { few-places = fits .ready .few-places .1; few = fits .few; there = fits .ready .reads; distances-there = fits .ready .distances-there }
 
   pub surround-filled : {a : Asked.Surround} {first size : ℕ} {before out : List ℕ} {r : ℕ}
-      → BlockDone words (a .left) (a .right) (L .places) sheet (L .roads) distances first size (a .bounds .lower) (a .bounds .upper) before out r
+      → BlockDone words a (L .places) sheet (L .roads) first size before out r
       → BlockFilled words L sheet distances (Surround a) first size out r
   unfolding blockRounds
   surround-filled {a} {first} {size} done = record {
     values = done .values;
-    rounds = done .rounds ∙ most-swap (λ centre lane. surroundRounds words (a .left) (a .right) (L .places) sheet (L .roads) distances (a .bounds .lower) (a .bounds .upper) (first + lane) centre) (L .places) size;
+    rounds = done .rounds ∙ most-swap (λ centre lane. surroundRoundsIn words a (sheetNetwork sheet L) (first + lane) centre) (L .places) size;
   }
 
   pub somewhere-filled : {a : Within.Range} {first size : ℕ} {before out : List ℕ}

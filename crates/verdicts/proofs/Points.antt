@@ -15,7 +15,8 @@ use Rattle.words.specs.Bytes.{wordsOf}
 use Rattle.words.proofs.Rows.{in-table}
 use Rattle.words.proofs.Words.{words-drop, words-take}
 use Rattle.formulas.specs.Formulas.{InBits}
-use Rattle.logic.specs.Table.{windowAt, untilAt}
+use Rattle.network.specs.Network.{Network, joined}
+use Rattle.logic.specs.Table.{windowAt, untilAt, surroundAt}
 use Rattle.logic.proofs.Keeps.{least-kept, surround-kept}
 use Rattle.logic.proofs.Small.{difference-small}
 use Rattle.sheet.specs.declared.check.Layout.{Layout}
@@ -26,19 +27,21 @@ use Rattle.values.proofs.Machine.{small-fits}
 use Rattle.values.proofs.Valid.{valid-difference}
 use Rattle.values.proofs.ChainWords.{signal-bound}
 use Rattle.operators.proofs.Bounds.{bounded-kept, meet-bound, greatest-bound, ahead-bound}
-use Rattle.surrounds.specs.Surround.{joinedBy, surroundValue}
+use Rattle.surrounds.specs.declared.surround.Surround.{Surround}
+use Rattle.surrounds.specs.Surround.{surroundIn}
 use Rattle.verdicts.specs.declared.located.RowOperator.{RowOperator}
 use Rattle.verdicts.specs.declared.located.RowOperator.the-variants.{True, Atom, Not, Both, Until, Since, Eventually}
 use Rattle.verdicts.specs.Rows.{sheetRecording, rowValue, RowReads}
 
 -- ---- no value is beyond `highest`
 
-pub surround-bound : (words : List ℕ) (left right n : ℕ) (sheet : List ℕ) (roads : ℕ) (distances : List ℕ) (lower upper t centre : ℕ)
-    → surroundValue words left right n sheet roads distances lower upper t centre ≤ highest
-unfolding surroundValue
-surround-bound words left right n sheet roads distances lower upper t centre = surround-kept chainLattice chainLattice (λ c _. c ≤ highest) bounded-kept (joinedBy sheet roads) n
-    (signalIn words left n t) (signalIn words right n t) (signalIn words left n t) (signalIn words right n t)
-    (λ k _. signal-bound words left n t k) (λ k _. signal-bound words right n t k) _ _ centre
+pub surround-bound : (words : List ℕ) (a : Surround) (N : Network) (t centre : ℕ) → surroundIn words a N t centre ≤ highest
+unfolding surroundIn surroundAt
+surround-bound words a N t centre =
+    let left : ℕ → ℕ = signalIn words (a .left) N.places t in
+    let right : ℕ → ℕ = signalIn words (a .right) N.places t in
+    surround-kept chainLattice chainLattice (λ c _. c ≤ highest) bounded-kept (joined N) N.places left right left right
+    (λ k _. signal-bound words (a .left) N.places t k) (λ k _. signal-bound words (a .right) N.places t k) (a .islands) _ _ centre
 
 window-bound : (words : List ℕ) (left right n first last : ℕ) (from to : ℕ → ℕ) (l : ℕ) → windowAt chains (signalIn words left n) (signalIn words right n) first last from to l ≤ highest
 unfolding windowAt

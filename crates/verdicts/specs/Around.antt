@@ -1,16 +1,19 @@
 -- For inner contracts only: what the writers of a line over space are given and what they leave.
 use mathlib.Core.Path.{_≡_}
 use mathlib.Core.List.{List}
-use Prim.Native.Nat.{ℕ, _+_, _*_, _<_, _≤_}
+use Prim.Native.Nat.{ℕ, _+_, _*_, _<_, _≤_, _^_}
 use lib.ListN.{length, take}
 use Rattle.words.specs.Bytes.{wordsOf, numbersOf}
 use Rattle.counting.specs.Totals.{mostBelow}
+use Rattle.network.specs.Network.{Network}
+use Rattle.roads.specs.Roads.{networkOf, Measured}
 use Rattle.sheet.specs.declared.check.Layout as Code
 use Rattle.checks.specs.Limits.{mostPlaces, mostSamples}
 use Rattle.values.specs.Chain.{highest, Valid}
 use Rattle.values.specs.Signals.{signalIn}
 use Rattle.lanes.specs.Lanes.{lanes, laneOf}
-use Rattle.surrounds.specs.Surround.{surroundValue, surroundRounds}
+use Rattle.surrounds.specs.declared.surround.Surround as Asked
+use Rattle.surrounds.specs.Surround.{surroundIn, surroundRoundsIn}
 use Rattle.surrounds.specs.Steps.{RoadsIn}
 use Rattle.ranges.specs.Ranges.{somewhereIn}
 use Rattle.verdicts.specs.declared.around.Around.{Around}
@@ -25,23 +28,29 @@ pub record LanesBounded (row : List ℕ) (places samples : ℕ) : Type 0 where
   pub room : places * lanes ≤ length row
   pub bound : (place lane : ℕ) → place < places → lane < samples → laneOf row lane place ≤ highest
 
--- the operands' signals are written, as chain numbers that can arise, and the roads are there
-pub record SurroundReads (words : List ℕ) (left right : ℕ) (L : Code.Layout) (sheet : List ℕ) (samples : ℕ) : Type 0 where
-  pub left-there : left + samples * L .places ≤ length words
-  pub right-there : right + samples * L .places ≤ length words
-  pub roads-in : RoadsIn sheet (L .roads) (L .places)
-  pub left-valid : (t l : ℕ) → t < samples → l < L .places → Valid (signalIn words left (L .places) t l)
-  pub right-valid : (t l : ℕ) → t < samples → l < L .places → Valid (signalIn words right (L .places) t l)
+-- the network of the sheet's roads
+abbrev pub sheetNetwork : List ℕ → Code.Layout → Network
+sheetNetwork sheet L = networkOf sheet (L .places) (L .roads)
 
-abbrev pub AroundReads : List ℕ → Code.Layout → List ℕ → Around → ℕ → Type 0
-AroundReads words L sheet (Surround a) samples = SurroundReads words (a .left) (a .right) L sheet samples
-AroundReads words L sheet (Range a) samples = a .left + samples * L .places ≤ length words
+-- the operands' signals are written, as chain numbers that can arise, the roads are there, and the distances are theirs
+pub record SurroundReads (words : List ℕ) (a : Asked.Surround) (L : Code.Layout) (sheet distances : List ℕ) (samples : ℕ) : Type 0 where
+  pub left-there : a .left + samples * L .places ≤ length words
+  pub right-there : a .right + samples * L .places ≤ length words
+  pub roads-in : RoadsIn sheet (L .roads) (L .places)
+  pub measured : Measured (sheetNetwork sheet L) distances
+  pub small : a .bounds .upper < 2 ^ 28
+  pub left-valid : (t l : ℕ) → t < samples → l < L .places → Valid (signalIn words (a .left) (L .places) t l)
+  pub right-valid : (t l : ℕ) → t < samples → l < L .places → Valid (signalIn words (a .right) (L .places) t l)
+
+abbrev pub AroundReads : List ℕ → Code.Layout → (sheet distances : List ℕ) → Around → ℕ → Type 0
+AroundReads words L sheet distances (Surround a) samples = SurroundReads words a L sheet distances samples
+AroundReads words L sheet distances (Range a) samples = a .left + samples * L .places ≤ length words
 
 pub record AroundReady (words : List ℕ) (L : Code.Layout) (sheet distances : List ℕ) (around : Around) (samples : ℕ) : Type 0 where
   pub few-places : (1 ≤ L .places) × (L .places ≤ mostPlaces)
   pub few : samples ≤ mostSamples
   pub distances-there : L .places * L .places ≤ length distances
-  pub reads : AroundReads words L sheet around samples
+  pub reads : AroundReads words L sheet distances around samples
 
 -- the samples `first` to first + size - 1 make a block
 pub record BlockFits (words : List ℕ) (L : Code.Layout) (sheet distances : List ℕ) (around : Around) (first size : ℕ) : Type 0 where
@@ -52,11 +61,11 @@ pub record BlockFits (words : List ℕ) (L : Code.Layout) (sheet distances : Lis
 module _ (words : List ℕ) (L : Code.Layout) (sheet distances : List ℕ) where
   -- the chain number at a sample and a centre, and the rounds there
   abbrev pub aroundValue : Around → ℕ → ℕ → ℕ
-  aroundValue (Surround a) = surroundValue words (a .left) (a .right) (L .places) sheet (L .roads) distances (a .bounds .lower) (a .bounds .upper)
+  aroundValue (Surround a) = surroundIn words a (sheetNetwork sheet L)
   aroundValue (Range a) = somewhereIn (a .dual) distances (L .places) (signalIn words (a .left) (L .places)) (a .bounds .lower) (a .bounds .upper)
 
   abbrev pub aroundRounds : Around → ℕ → ℕ → ℕ
-  aroundRounds (Surround a) = surroundRounds words (a .left) (a .right) (L .places) sheet (L .roads) distances (a .bounds .lower) (a .bounds .upper)
+  aroundRounds (Surround a) = surroundRoundsIn words a (sheetNetwork sheet L)
   aroundRounds (Range a) = λ _ _. 0
 
   -- samples `first` to first + size - 1 side by side

@@ -40,8 +40,8 @@ module _ (starts firsts : List ℕ) (places : ℕ) where
     eventuallyLocated Forward left b dual = Rows (Eventually (startAt first left) b dual)
     eventuallyLocated Backward left b dual = Rows (Eventually (startAt (first - b .upper) left) (record { lower = 0; upper = b .upper - b .lower }) dual)
 
-    abbrev pub surroundLocated : ℕ → ℕ → Bounds → Located
-    surroundLocated left right b = Blocks (Surround (record { left = startAt first left; right = startAt first right; bounds = b }))
+    abbrev pub surroundLocated : Bool → ℕ → ℕ → Bounds → Located
+    surroundLocated islands left right b = Blocks (Surround (record { left = startAt first left; right = startAt first right; bounds = b; islands = islands }))
 
     abbrev pub rangeLocated : ℕ → Bounds → Bool → Located
     rangeLocated left b dual = Blocks (Range (record { left = startAt first left; bounds = b; dual = dual }))
@@ -54,7 +54,7 @@ module _ (starts firsts : List ℕ) (places : ℕ) where
     locatedBy (Read.And left right) = bothLocated left right false
     locatedBy (Read.Until direction left right b) = untilLocated direction left right b
     locatedBy (Read.Somewhere left b) = rangeLocated left b false
-    locatedBy (Read.Surrounded left right b) = surroundLocated left right b
+    locatedBy (Read.Surrounded islands left right b) = surroundLocated islands left right b
     locatedBy (Read.Or left right) = bothLocated left right true
     locatedBy (Read.Eventually direction left b) = eventuallyLocated direction left b false
     locatedBy (Read.Always direction left b) = eventuallyLocated direction left b true

@@ -178,8 +178,9 @@ fn eventually(
     }
 }
 
-// Code 7.
+// Codes 7 and 15.
 fn surround(
+    islands: bool,
     starts: &[usize],
     firsts: &[u32],
     left: usize,
@@ -188,12 +189,13 @@ fn surround(
     bounds: Bounds,
 ) -> Located
     requires { ⌜ StartsLow (now starts) (origin .places) ⌝ }
-    ensures { λ r. ⌜ r ≡ surroundLocated (now (starts .entry)) (now (firsts .entry)) (origin .places) (origin .sample) left right bounds ⌝ }
+    ensures { λ r. ⌜ r ≡ surroundLocated (now (starts .entry)) (now (firsts .entry)) (origin .places) (origin .sample) islands left right bounds ⌝ }
 {
     Located::Blocks(Around::Surround(Surround {
         left: start_of(starts, firsts, left, origin),
         right: start_of(starts, firsts, right, origin),
         bounds,
+        islands,
     }))
 }
 
@@ -243,10 +245,11 @@ pub fn locate(line: Line, starts: &[usize], firsts: &[u32], places: usize) -> Lo
         } => until(direction, starts, firsts, left, right, origin, bounds),
         Operator::Somewhere { left, bounds } => range(starts, firsts, left, origin, bounds, false),
         Operator::Surrounded {
+            islands,
             left,
             right,
             bounds,
-        } => surround(starts, firsts, left, right, origin, bounds),
+        } => surround(islands, starts, firsts, left, right, origin, bounds),
         Operator::Or { left, right } => both(starts, firsts, left, right, origin, true),
         Operator::Eventually {
             direction,

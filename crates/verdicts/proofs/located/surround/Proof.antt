@@ -10,7 +10,7 @@ use Rattle.verdicts.proofs.located.surround.Tie as tie
 returns : tie.Need-returns
 returns c =
     let a = c .before .before .before .before .args in
-    ap₂ (λ (left right : ℕ). Blocks (Surround (record { left = left; right = right; bounds = a .bounds }))) (c .before .start-of .ensures) (c .start-of2 .ensures)
+    ap₂ (λ (left right : ℕ). Blocks (Surround (record { left = left; right = right; bounds = a .bounds; islands = a .islands }))) (c .before .start-of .ensures) (c .start-of2 .ensures)
 
 pub surround-spec : {M : Type 1} → statement M
 surround-spec = tie.close (tie.spec (λ c κs. search needs) (λ c κs. search needs) returns)
