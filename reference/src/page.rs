@@ -4,7 +4,8 @@
 const PAGE: &str = include_str!("../../docs/SHEETS.md");
 
 /// The labels of the page's sheets.
-pub const SHEETS: [&str; 3] = ["words a-sheet", "words network-sheet", "words back-sheet"];
+pub const SHEETS: [&str; 4] =
+    ["words a-sheet", "words network-sheet", "words islands-sheet", "words back-sheet"];
 
 /// The page's rows.
 pub fn rows() -> impl Iterator<Item = &'static str> {

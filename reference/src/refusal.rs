@@ -24,7 +24,7 @@ pub enum Fault {
     SampleBit = 9,
     /// There is no first line, or a 65th kind 5 word.
     LineCount = 10,
-    /// Code above 14; signal not below v; operand not an earlier line; unused
+    /// Code above 15; signal not below v; operand not an earlier line; unused
     /// field not zero.
     LineWord = 11,
     /// A parameter is absent, of a wrong kind, a constant with bit 27 set, or

@@ -59,18 +59,35 @@ fn a_with_19_answer_words_is_refused() {
     assert_eq!(judged(&Case::of(&EXAMPLE_A, 20)).number, 0);
 }
 
-#[test]
-fn b_one_place_surrounded() {
+/// Sample 7 by true, as code 7 or 15 has it.
+fn example_b(code: u32) -> Vec<u32> {
     let sheet = SheetBuilder::new(1, 1, 1).samples(&[7]).at_least(0, 0);
-    let sheet = sheet.truth().bounded(7, 0, 1, (0, 0));
-    assert_eq!(last_line(&sheet.end()), [yes(7)]);
+    sheet.truth().bounded(code, 0, 1, (0, 0)).end()
 }
 
-#[test]
-fn c_truth_surrounded() {
+/// True by true.
+fn example_c(code: u32) -> Vec<u32> {
     let sheet = SheetBuilder::new(1, 1, 1).samples(&[7]).truth();
-    let sheet = sheet.bounded(7, 0, 0, (0, 0));
-    assert_eq!(last_line(&sheet.end()), [YES_PLUS_INFINITY]);
+    sheet.bounded(code, 0, 0, (0, 0)).end()
+}
+
+/// "Examples B and C become no at minus infinity", and no run is made.
+#[test]
+fn b_and_c_one_place_is_not_surrounded() {
+    for words in [example_b(7), example_c(7)] {
+        assert_eq!(last_line(&words), [NO_MINUS_INFINITY]);
+        assert_eq!(outcome(&judged_words(&words)).rounds, 0);
+    }
+}
+
+/// "The former reading moves to code 15."
+#[test]
+fn b_and_c_one_place_is_an_island() {
+    assert_eq!(last_line(&example_b(15)), [yes(7)]);
+    assert_eq!(last_line(&example_c(15)), [YES_PLUS_INFINITY]);
+    for words in [example_b(15), example_c(15)] {
+        assert_eq!(outcome(&judged_words(&words)).rounds, 1);
+    }
 }
 
 fn two_unconnected() -> SheetBuilder {
@@ -107,9 +124,11 @@ fn g_zero_is_yes_and_its_not_is_no() {
 
 #[test]
 fn h_takes_three_rounds() {
-    let sheet = row_of_three([4, 4, 4], [9, -3, 9]).bounded(7, 0, 1, (1, 1));
-    assert_eq!(last_line(&sheet.clone().end())[0], no(-3));
-    assert_eq!(outcome(&judged_words(&sheet.end())).rounds, 3);
+    for code in [7, 15] {
+        let words = row_of_three([4, 4, 4], [9, -3, 9]).bounded(code, 0, 1, (1, 1)).end();
+        assert_eq!(last_line(&words)[0], no(-3));
+        assert_eq!(outcome(&judged_words(&words)).rounds, 3);
+    }
 }
 
 #[test]
@@ -130,8 +149,10 @@ fn j_the_shortest_path() {
 
 #[test]
 fn k_the_right_signal_is_masked_by_both_bounds() {
-    let sheet = row_of_three([4, 1, 1], [9, 9, 9]).bounded(7, 0, 1, (2, 2));
-    assert_eq!(last_line(&sheet.end())[0], yes(1));
+    for code in [7, 15] {
+        let sheet = row_of_three([4, 1, 1], [9, 9, 9]).bounded(code, 0, 1, (2, 2));
+        assert_eq!(last_line(&sheet.end())[0], yes(1));
+    }
 }
 
 fn until_with_upper_two(samples: u32) -> Vec<u32> {

@@ -49,13 +49,15 @@ fn every_code_has_its_extent() {
         .bounded(6, 1, 0, (0, 5))
         .bounded(11, 1, 0, (0, 5))
         .bounded(7, 1, 2, (0, 5))
+        .bounded(15, 1, 2, (0, 5))
         .bounded(10, 1, 0, (0, 2))
         .bounded(14, 2, 0, (0, 1))
         .truth();
     let of_first_three = [(0, 10), (3, 7), (0, 8)];
     let joined = [(3, 5), (3, 5), (3, 4), (5, 3)];
-    let alone = [(3, 7), (3, 7), (3, 7), (3, 5), (3, 5), (1, 7), (0, 10)];
-    assert_eq!(extents(sheet), [&of_first_three[..], &joined, &alone].concat());
+    let alone = [(3, 7), (3, 7), (3, 7)];
+    let last = [(3, 5), (3, 5), (3, 5), (1, 7), (0, 10)];
+    assert_eq!(extents(sheet), [&of_first_three[..], &joined, &alone, &last].concat());
 }
 
 #[test]
@@ -81,7 +83,7 @@ fn late_lines_are_read_at_the_recordings_samples() {
     assert_eq!(margins(late().bounded(12, 1, 0, (1, 1))), (3, vec![0, 10, 20]));
     assert_eq!(margins(late().bounded(6, 1, 0, (0, 0))), (2, vec![0, 10, 20, 30]));
     assert_eq!(margins(late().bounded(11, 1, 0, (0, 0))), (2, vec![0, 10, 20, 30]));
-    assert_eq!(margins(late().bounded(7, 1, 0, (0, 0))), (2, vec![0, 10, 20, 30]));
+    assert_eq!(margins(late().bounded(15, 1, 0, (0, 0))), (2, vec![0, 10, 20, 30]));
 }
 
 #[test]
@@ -106,18 +108,20 @@ fn the_later_first_sample_counts() {
 /// recorded at sample 0, and the rounds are those of that sample.
 #[test]
 fn a_surround_of_late_lines() {
-    let sheet = SheetBuilder::new(3, 2, 2)
+    let late = SheetBuilder::new(3, 2, 2)
         .road(0, 1, 1)
         .road(1, 2, 1)
         .samples(&[4, 9, 4, -3, 4, 9, 1, 1, 1, 1, 1, 1])
         .at_least(0, 0)
         .at_least(1, 0)
         .bounded(13, 0, 0, (1, 1))
-        .bounded(14, 1, 0, (1, 1))
-        .bounded(7, 2, 3, (1, 1));
-    let line = last_of(&sheet.clone().end());
-    assert_eq!((line.first, line.verdicts.len(), line.verdicts[0]), (1, 3, no(-3)));
-    assert_eq!(outcome(&judged_words(&sheet.end())).rounds, 3);
+        .bounded(14, 1, 0, (1, 1));
+    for code in [7, 15] {
+        let words = late.clone().bounded(code, 2, 3, (1, 1)).end();
+        let line = last_of(&words);
+        assert_eq!((line.first, line.verdicts.len(), line.verdicts[0]), (1, 3, no(-3)));
+        assert_eq!(outcome(&judged_words(&words)).rounds, 3);
+    }
 }
 
 /// Line 1 begins at sample 1, line 2 ends before it. Line 3 will stand at word
@@ -137,7 +141,7 @@ fn number_13_operands_without_a_common_sample() {
         for code in [4, 8] {
             assert_eq!(refused(&apart().line(code, left, right).end()), (13, 11));
         }
-        for code in [5, 7, 12] {
+        for code in [5, 7, 12, 15] {
             for bounds in [(0, 0), (0, 1), (0, GREATEST), (GREATEST, GREATEST)] {
                 let words = apart().bounded(code, left, right, bounds).end();
                 assert_eq!(refused(&words), (13, 11));
@@ -153,7 +157,7 @@ fn one_common_sample_is_enough() {
         for code in [4, 8] {
             assert_eq!(extents(sheet().line(code, left, right))[3], (1, 1));
         }
-        for code in [5, 7, 12] {
+        for code in [5, 7, 12, 15] {
             assert_eq!(extents(sheet().bounded(code, left, right, (0, 0)))[3], (1, 1));
         }
         for code in [5, 12] {
@@ -188,7 +192,7 @@ fn number_13_nothing_left_of_a_late_line() {
 /// The parameters come first: what is wrong with them is 12.
 #[test]
 fn number_12_comes_before_operands_apart() {
-    for code in [5, 7, 12] {
+    for code in [5, 7, 12, 15] {
         assert_eq!(refused(&apart().line(code, 1, 2).end()), (12, 12));
         assert_eq!(refused(&apart().bounded(code, 1, 2, (1, 0)).end()), (12, 13));
     }
@@ -198,5 +202,5 @@ fn number_12_comes_before_operands_apart() {
 fn number_13_comes_before_what_follows_operands_apart() {
     let line = apart().line(4, 1, 2);
     assert_eq!(refused(&line.clone().words()), (13, 11));
-    assert_eq!(refused(&line.line(15, 0, 0).end()), (13, 11));
+    assert_eq!(refused(&line.line(16, 0, 0).end()), (13, 11));
 }

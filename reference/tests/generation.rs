@@ -6,8 +6,8 @@ use common::*;
 use reference::answer::Answer;
 use reference::fast::Fast;
 use reference::generate::random::Random;
-use reference::generate::{aim, answers, case, limits, rounds, valid, Case};
-use reference::sheet::{check, Reach, DISTANCE_ENTRIES};
+use reference::generate::{aim, answers, case, islands, limits, rounds, valid, Case};
+use reference::sheet::{check, Line, Operator, Reach, DISTANCE_ENTRIES};
 
 #[test]
 fn a_seed_determines_its_case() {
@@ -19,7 +19,7 @@ fn a_seed_determines_its_case() {
 
 #[test]
 fn valid_sheets_are_accepted_and_use_every_code() {
-    let mut used = [0; 15];
+    let mut used = [0; 16];
     for seed in 0..500 {
         let words = valid::sheet(&mut Random::new(seed), 64);
         let sheet = check(&words, DISTANCE_ENTRIES).expect("a valid sheet");
@@ -89,32 +89,92 @@ fn limits_are_reached() {
 fn the_largest_sheet_is_judged() {
     let words = valid::largest_sheet(&mut Random::new(1));
     assert!(words.len() > 16 * 64 * 1024);
-    let left = judged_by::<Fast>(&Case::of(&words, 2 + 6 * (1 + 64 * 1024)));
+    let left = judged_by::<Fast>(&Case::of(&words, 2 + 7 * (1 + 64 * 1024)));
     assert_eq!(left.number, 0);
 }
 
-#[test]
-fn rounds_are_as_many_as_places() {
-    for seed in 0..40 {
-        let words = rounds::wandering_margins(&mut Random::new(seed), 64);
-        let sheet = check(&words, DISTANCE_ENTRIES).expect("a valid sheet");
-        let left = judged_by::<Fast>(&Case::of(&words, 2 + 4 * (1 + 33 * 64)));
-        assert_eq!(outcome(&left).rounds, sheet.head.places as u64, "seed {seed}");
-    }
+/// The codes of a sheet's lines.
+fn codes(words: &[u32]) -> Vec<u32> {
+    let sheet = check(words, DISTANCE_ENTRIES).expect("a valid sheet");
+    sheet.lines.iter().map(|line| line.operator.code()).collect()
 }
 
-/// A no reaches every place of the path, though few rounds are counted.
+/// Under either code: of the two surrounds the first has the whole path. A lone
+/// place has no run of code 7.
+#[test]
+fn rounds_are_as_many_as_places() {
+    let mut first = [0; 16];
+    for seed in 0..120 {
+        let words = rounds::wandering_margins(&mut Random::new(seed), 64);
+        let left = judged_by::<Fast>(&Case::of(&words, 2 + 4 * (1 + 33 * 64)));
+        let places = left.whole_answer().expect("a whole answer").places as u64;
+        let has_run = places > 1 || codes(&words).contains(&15);
+        assert_eq!(outcome(&left).rounds, if has_run { places } else { 0 }, "seed {seed}");
+        first[codes(&words)[2] as usize] += u32::from(places > 1);
+    }
+    assert!(first[7] > 10 && first[15] > 10, "{first:?}");
+}
+
+/// A no reaches every place of the path, though few rounds are counted. To code
+/// 7 the path's end is around what the no wanders over; a lone place has nothing
+/// around.
 #[test]
 fn verdicts_wander_where_margins_rest() {
-    let mut few = 0;
-    for seed in 0..40 {
+    let mut few = [0; 16];
+    for seed in 0..120 {
         let words = rounds::wandering_verdicts(&mut Random::new(seed), 64);
         let left = judged_by::<Fast>(&Case::of(&words, 2 + 7 * (1 + 33 * 64)));
         let answer = left.whole_answer().expect("a whole answer");
-        assert!(answer.lines[5].verdicts.iter().all(|verdict| *verdict == no(0)), "seed {seed}");
-        few += u64::from(answer.places > 8 && outcome(&left).rounds < 5);
+        let code = codes(&words)[5];
+        let (places, line) = (answer.places, &answer.lines[5]);
+        let noes = line.verdicts.iter().filter(|verdict| **verdict == no(0)).count();
+        let ends = if code == 7 { line.verdicts.len() / places } else { 0 };
+        assert_eq!(noes, line.verdicts.len() - ends, "seed {seed}");
+        assert!(line.verdicts.iter().all(|verdict| !verdict.yes), "seed {seed}");
+        few[code as usize] += u32::from(places > 8 && outcome(&left).rounds < 5);
     }
-    assert!(few > 5, "{few}");
+    assert!(few[7] > 2 && few[15] > 10, "{few:?}");
+}
+
+/// A surround without islands is often followed by the same with islands.
+#[test]
+fn both_readings_of_a_surround_stand_side_by_side() {
+    let mut pairs = 0;
+    for seed in 0..1000 {
+        let words = valid::sheet(&mut Random::new(seed), 8);
+        let sheet = check(&words, DISTANCE_ENTRIES).expect("a valid sheet");
+        let same = |pair: &&[Line]| match [pair[0].operator, pair[1].operator] {
+            [Operator::Surround { left, right, bounds }, other] => {
+                other == Operator::SurroundOrIsland { left, right, bounds }
+            }
+            _ => false,
+        };
+        pairs += sheet.lines.windows(2).filter(same).count();
+    }
+    assert!(pairs > 100, "{pairs}");
+}
+
+/// Where a surround stands without islands and with them, they often differ, also
+/// in the verdict alone, and often do not.
+#[test]
+fn islands_matter() {
+    let (mut apart, mut verdicts_apart, mut same, mut no_rounds) = (0, 0, 0, 0);
+    for seed in 0..1000 {
+        let words = islands::sheet(&mut Random::new(seed), 64);
+        let left = judged_by::<Fast>(&Case::of(&words, 2 + 8 * (1 + 3 * 8)));
+        let lines = left.whole_answer().expect("a whole answer").lines;
+        no_rounds += u32::from(codes(&words)[6..] == [7] && outcome(&left).rounds == 0);
+        if let [without, with] = &lines[6..] {
+            let mut pairs = without.verdicts.iter().zip(&with.verdicts);
+            apart += u32::from(pairs.clone().any(|(one, other)| one.margin != other.margin));
+            same += u32::from(pairs.clone().any(|(one, other)| one == other));
+            verdicts_apart += u32::from(
+                pairs.any(|(one, other)| one.margin == other.margin && one.yes != other.yes),
+            );
+        }
+    }
+    let counts = [apart, verdicts_apart, same, no_rounds];
+    assert!(counts.iter().all(|&count| count > 4), "{counts:?}");
 }
 
 #[test]

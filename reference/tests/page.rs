@@ -37,6 +37,26 @@ fn the_worked_network() {
 }
 
 #[test]
+fn with_and_without_islands() {
+    let sheet = page::words("words islands-sheet");
+    assert_eq!(sheet, ISLANDS);
+    assert_eq!(printed(&sheet), page::block("rows islands-printed").join("\n") + "\n");
+}
+
+/// What the page says of the same sheet without its road, and without line 3.
+#[test]
+fn islands_without_a_road() {
+    let sheet = [&ISLANDS[..1], &ISLANDS[3..11]].concat();
+    let line_2 = [0x50700001, 0x60000000, 0x70000009];
+    let line_3 = [0x50F00001, 0x60000000, 0x70000009];
+    let both = [&sheet[..], &line_2, &line_3, &[0xF000_000F]].concat();
+    let rows = "2 0 no -inf no -inf\n3 0 yes 5 yes 6\nend 4\n";
+    assert!(printed(&both).ends_with(rows));
+    let one = [&sheet[..], &line_2, &[0xF000_000C]].concat();
+    assert!(printed(&one).starts_with("accepted 11 0 4\n"));
+}
+
+#[test]
 fn looking_back() {
     let sheet = page::words("words back-sheet");
     assert_eq!(sheet, LOOKING_BACK);

@@ -190,8 +190,8 @@ fn number_10_a_65th_line() {
     assert_eq!(refused(&lines(65).end()), (10, 66));
     assert_eq!(refused(&lines(65).words()), (10, 66));
     // Whatever else is wrong with the 65th.
-    assert_eq!(refused(&lines(64).line(15, 1, 1).words()), (10, 66));
+    assert_eq!(refused(&lines(64).line(16, 1, 1).words()), (10, 66));
     assert_eq!(refused(&lines(64).line(1, 0, 0).words()), (10, 66));
     // Other faults before it come first.
-    assert_eq!(refused(&lines(63).line(15, 0, 0).truth().end()), (11, 65));
+    assert_eq!(refused(&lines(63).line(16, 0, 0).truth().end()), (11, 65));
 }

@@ -23,16 +23,16 @@ fn bounded(code: u32, lower: u32, upper: u32) -> (u64, u64) {
     refused(&two_lines().bounded(code, 0, 0, (lower, upper)).end())
 }
 
-const BOUNDED: [u32; 9] = [5, 6, 7, 9, 10, 11, 12, 13, 14];
+const BOUNDED: [u32; 10] = [5, 6, 7, 9, 10, 11, 12, 13, 14, 15];
 const TIMED: [u32; 6] = [5, 9, 10, 12, 13, 14];
 
 #[test]
-fn number_11_codes_above_14() {
-    for code in [15, 16, 64, 128, 255] {
+fn number_11_codes_above_15() {
+    for code in [16, 17, 31, 64, 128, 255] {
         assert_eq!(third(code, 0, 0), (11, 10));
         assert_eq!(bounded(code, 0, 0), (11, 10));
     }
-    for code in 12..=14 {
+    for code in 12..=15 {
         let words = two_lines().bounded(code, 0, 0, (0, 0)).end();
         assert_eq!(judged_words(&words).number, 0);
     }
@@ -52,16 +52,16 @@ fn number_11_signals_not_below_v() {
 #[test]
 fn number_11_operands_that_are_no_earlier_lines() {
     for operand in [2, 3, 64, 1023] {
-        for code in 3..=14 {
+        for code in 3..=15 {
             assert_eq!(third(code, operand, 0), (11, 10));
         }
-        for code in [4, 5, 7, 8, 12] {
+        for code in [4, 5, 7, 8, 12, 15] {
             assert_eq!(third(code, 0, operand), (11, 10));
             assert_eq!(third(code, 1, operand), (11, 10));
         }
     }
     let first = SheetBuilder::new(1, 1, 1).samples(&[0]);
-    for code in 3..=14 {
+    for code in 3..=15 {
         assert_eq!(refused(&first.clone().line(code, 0, 0).end()), (11, 2));
     }
 }
@@ -80,6 +80,7 @@ fn number_11_unused_fields() {
 fn number_11_comes_before_missing_parameters() {
     assert_eq!(refused(&two_lines().line(1, 2, 0).words()), (11, 10));
     assert_eq!(refused(&two_lines().line(7, 0, 2).words()), (11, 10));
+    assert_eq!(refused(&two_lines().line(15, 0, 2).words()), (11, 10));
 }
 
 #[test]
@@ -133,7 +134,7 @@ fn number_13_lengths_below_1() {
         let words = two_lines().bounded(code, 0, 0, (2, 2)).end();
         assert_eq!(judged_words(&words).number, 0);
     }
-    for code in [6, 7, 11] {
+    for code in [6, 7, 11, 15] {
         let words = two_lines().bounded(code, 0, 0, (0, (1 << 28) - 1)).end();
         assert_eq!(judged_words(&words).number, 0);
     }
@@ -154,7 +155,7 @@ fn number_13_counts_the_lesser_operand() {
 fn number_13_comes_before_what_follows() {
     let line = two_lines().bounded(10, 0, 0, (0, 3));
     assert_eq!(refused(&line.clone().words()), (13, 10));
-    assert_eq!(refused(&line.clone().line(15, 0, 0).end()), (13, 10));
+    assert_eq!(refused(&line.clone().line(16, 0, 0).end()), (13, 10));
     assert_eq!(refused(&line.word(kinds::END, 0).words()), (13, 10));
 }
 

@@ -1,16 +1,17 @@
 //! What is timed, and the rows that tell it.
 
-use super::sheets::{self, BothWays};
+use super::sheets::{self, BothWays, Readings};
 use super::{timed, Times};
 use crate::Engine;
 use std::time::Duration;
 
 /// Times the three sheets of the benchmark, then how time grows with samples,
 /// places, lines, windows of time and ranges; prints a row for each. Last come
-/// windows ahead beside the same windows back.
+/// windows ahead beside the same windows back, and surrounds with islands beside
+/// the same without.
 pub fn print(engine: &dyn Engine) {
-    section("The three sheets, 64 places and 1,024 samples");
-    row(engine, "8×8 grid, codes 0 to 11", &sheets::full_grid());
+    section("The three sheets, 64 places and 1,024 samples, surrounds with islands (code 15)");
+    row(engine, "8×8 grid, twelve codes", &sheets::full_grid());
     row(engine, "path", &sheets::path());
     row(engine, "full graph of 2,016 roads", &sheets::full_graph());
     by_samples(engine);
@@ -19,17 +20,18 @@ pub fn print(engine: &dyn Engine) {
     by_windows(engine);
     by_ranges(engine);
     both_ways(engine);
+    both_readings(engine);
 }
 
 fn by_samples(engine: &dyn Engine) {
-    section("By samples: 8×8 grid, codes 0 to 11");
+    section("By samples: 8×8 grid, codes 0 to 6, 8 to 11 and 15");
     for samples in [1, 8, 16, 64, 256, 1024] {
         row(engine, &format!("samples: {samples}"), &sheets::grid(8, samples));
     }
 }
 
 fn by_places(engine: &dyn Engine) {
-    section("By places: square grids, codes 0 to 11, 256 samples");
+    section("By places: square grids, codes 0 to 6, 8 to 11 and 15, 256 samples");
     for side in [2, 3, 4, 5, 6, 7, 8] {
         row(engine, &format!("places: {}", side * side), &sheets::grid(side, 256));
     }
@@ -62,9 +64,8 @@ const BOTH_WAYS: [(u32, u32); 7] =
 
 fn both_ways(engine: &dyn Engine) {
     println!("\nAhead and back: 8×8 grid, 1,024 samples, the same windows both ways");
-    println!("{:28}{:^36}{:^36}", "", "engine", "implementation");
-    let columns = format!("{:>12}{:>12}{:>12}", "ahead", "back", "back/ahead");
-    println!("{:28}{columns}{columns}", "");
+    heading("ahead", "back", "back/ahead");
+    println!();
     for (lower, upper) in BOTH_WAYS {
         let sheets = sheets::until_and_since((lower, upper));
         pair(engine, &format!("until, since {lower}..{upper}"), &sheets);
@@ -92,17 +93,53 @@ fn row(engine: &dyn Engine, name: &str, words: &[u32]) {
     );
 }
 
+/// Bounds of the surrounds that are timed with islands and without.
+const BOTH_READINGS: [(u32, u32); 3] = [(0, 3), (0, 6), (2, 8)];
+
+fn both_readings(engine: &dyn Engine) {
+    println!("\nWith islands (15) and without (7): 8×8 grid, 64 samples");
+    heading("15", "7", "7/15");
+    println!("{:>12}{:>12}{:>8}", "share of 15", "share of 7", "runs");
+    for (lower, upper) in BOTH_READINGS {
+        let sheets = sheets::surrounds((lower, upper));
+        readings(engine, &format!("surround {lower}..{upper}"), &sheets);
+    }
+    readings(engine, "twelve codes, 3 surrounds", &sheets::grids_of_surrounds());
+}
+
+/// The columns of two sheets side by side; the row is not ended.
+fn heading(one: &str, other: &str, ratio: &str) {
+    println!("{:28}{:^36}{:^36}", "", "engine", "implementation");
+    let columns = format!("{one:>12}{other:>12}{ratio:>12}");
+    print!("{:28}{columns}{columns}", "");
+}
+
 fn pair(engine: &dyn Engine, name: &str, sheets: &BothWays) {
     let (ahead, back) = (timed(engine, &sheets.ahead), timed(engine, &sheets.back));
-    let columns = |ahead: Duration, back: Duration| {
-        let ratio = back.as_secs_f64() / ahead.as_secs_f64();
-        format!("{:>12}{:>12}{ratio:>12.2}", milliseconds(ahead), milliseconds(back))
-    };
+    println!("{name:28}{}", side_by_side(ahead, back));
+}
+
+/// Beside the times stand the engine's shares, and how many runs a centre has in
+/// the sheet without islands.
+fn readings(engine: &dyn Engine, name: &str, sheets: &Readings) {
+    let with = timed(engine, &sheets.with_islands);
+    let without = timed(engine, &sheets.without_islands);
+    let runs = sheets::runs_of_centre(&sheets.without_islands);
     println!(
-        "{name:28}{}{}",
-        columns(ahead.engine, back.engine),
-        columns(ahead.implementation, back.implementation)
+        "{name:28}{}{:>12.2}{:>12.2}{runs:>8.1}",
+        side_by_side(with, without),
+        with.share(),
+        without.share()
     );
+}
+
+/// The times of two sheets and their ratio, for both engines.
+fn side_by_side(one: Times, other: Times) -> String {
+    let columns = |one: Duration, other: Duration| {
+        let ratio = other.as_secs_f64() / one.as_secs_f64();
+        format!("{:>12}{:>12}{ratio:>12.2}", milliseconds(one), milliseconds(other))
+    };
+    columns(one.engine, other.engine) + &columns(one.implementation, other.implementation)
 }
 
 fn milliseconds(time: Duration) -> String {

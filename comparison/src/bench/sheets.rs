@@ -1,7 +1,9 @@
 //! The sheets that are timed.
 
 use reference::builder::SheetBuilder;
+use reference::distance::Distances;
 use reference::generate::random::Random;
+use reference::sheet::{check, Operator, DISTANCE_ENTRIES};
 
 /// The most samples.
 const SAMPLES: u32 = 1024;
@@ -9,11 +11,19 @@ const SAMPLES: u32 = 1024;
 /// The most places.
 const PLACES: u32 = 64;
 
-/// A square grid of so many places a side with codes 0 to 11, two signals and so
-/// many samples.
+/// The samples of sheets on which the two surrounds are timed side by side.
+const SAMPLES_OF_RUNS: u32 = 64;
+
+/// The codes of the surrounds without islands, which makes a run for each place
+/// within its upper bound, and with them, which makes one.
+const WITHOUT_ISLANDS: u32 = 7;
+const WITH_ISLANDS: u32 = 15;
+
+/// A square grid of so many places a side with twelve codes, surrounds with
+/// islands among them, two signals and so many samples.
 pub fn grid(side: u32, samples: u32) -> Vec<u32> {
     let sheet = grid_network(side, samples);
-    codes_0_to_11(sheet, samples).end()
+    twelve_codes(sheet, samples, WITH_ISLANDS).end()
 }
 
 /// The 8×8 grid, full length.
@@ -53,8 +63,9 @@ fn drifting(side: u32, samples: u32, random: &mut Random) -> Vec<i32> {
     (0..points).map(number).collect()
 }
 
-/// Codes 0 to 11 once each, and two surrounds more with other bounds.
-fn codes_0_to_11(sheet: SheetBuilder, samples: u32) -> SheetBuilder {
+/// Codes 0 to 6 and 8 to 11 once each, and three surrounds of one code with other
+/// bounds.
+fn twelve_codes(sheet: SheetBuilder, samples: u32, surround: u32) -> SheetBuilder {
     let ahead = 20.min(samples / 4);
     // Of few samples no line can look at another than its own.
     let next = ahead.min(1);
@@ -66,13 +77,13 @@ fn codes_0_to_11(sheet: SheetBuilder, samples: u32) -> SheetBuilder {
         .line(4, 1, 2)
         .bounded(5, 1, 2, (next, ahead))
         .bounded(6, 4, 0, (1, 5))
-        .bounded(7, 1, 2, (0, 6))
+        .bounded(surround, 1, 2, (0, 6))
         .line(8, 3, 2)
         .bounded(9, 4, 0, (0, ahead))
         .bounded(10, 8, 0, (0, ahead))
         .bounded(11, 8, 0, (0, 4))
-        .bounded(7, 8, 6, (2, 8))
-        .bounded(7, 1, 0, (1, 100))
+        .bounded(surround, 8, 6, (2, 8))
+        .bounded(surround, 1, 0, (1, 100))
 }
 
 /// A path of 64 places on which the lowest number wanders from one end to the
@@ -83,7 +94,7 @@ pub fn path() -> Vec<u32> {
     let sheet = (1..PLACES).fold(sheet, |sheet, place| sheet.road(place - 1, place, 1));
     let numbers: Vec<i32> = (0..SAMPLES).flat_map(|_| wandering(&mut random)).collect();
     let sheet = sheet.samples(&numbers);
-    sheet.at_least(0, 0).at_least(1, 0).bounded(7, 0, 1, (0, PLACES)).end()
+    sheet.at_least(0, 0).at_least(1, 0).bounded(WITH_ISLANDS, 0, 1, (0, PLACES)).end()
 }
 
 /// Left lowest at the last place, right below all of it.
@@ -109,8 +120,8 @@ pub fn full_graph() -> Vec<u32> {
         .samples(&numbers)
         .at_least(0, 0)
         .at_least(1, 0)
-        .bounded(7, 0, 1, (0, 1000))
-        .bounded(7, 0, 1, (3, 12))
+        .bounded(WITH_ISLANDS, 0, 1, (0, 1000))
+        .bounded(WITH_ISLANDS, 0, 1, (3, 12))
         .end()
 }
 
@@ -121,7 +132,7 @@ pub fn grid_of_lines(lines: u32) -> Vec<u32> {
     let add = |sheet: SheetBuilder, line: u32| match line % 3 {
         0 => sheet.bounded(5, 0, 1, (0, 10)),
         1 => sheet.bounded(6, 0, 0, (0, 5)),
-        _ => sheet.bounded(7, 0, 1, (0, 6)),
+        _ => sheet.bounded(WITH_ISLANDS, 0, 1, (0, 6)),
     };
     (2..lines).fold(sheet, add).end()
 }
@@ -138,6 +149,59 @@ pub fn grid_of_windows(ahead: u32) -> Vec<u32> {
         .end()
 }
 
+/// Two sheets of the same words but for the codes of surrounds.
+pub struct Readings {
+    /// The sheet with islands.
+    pub with_islands: Vec<u32>,
+    /// The sheet without.
+    pub without_islands: Vec<u32>,
+}
+
+impl Readings {
+    fn of(sheet: impl Fn(u32) -> Vec<u32>) -> Self {
+        Readings { with_islands: sheet(WITH_ISLANDS), without_islands: sheet(WITHOUT_ISLANDS) }
+    }
+}
+
+/// The 8×8 grid of 64 samples with one surround.
+pub fn surrounds(bounds: (u32, u32)) -> Readings {
+    Readings::of(|code| conditions(SAMPLES_OF_RUNS).bounded(code, 0, 1, bounds).end())
+}
+
+/// The 8×8 grid of 64 samples with twelve codes, three of its lines surrounds.
+pub fn grids_of_surrounds() -> Readings {
+    let network = || grid_network(8, SAMPLES_OF_RUNS);
+    Readings::of(|code| twelve_codes(network(), SAMPLES_OF_RUNS, code).end())
+}
+
+/// How many runs without islands that are not alike a centre has, on an average
+/// over a sheet's surrounds: one for each other place within the upper bound, and
+/// one for all beyond, where left is masked and cutting out changes nothing.
+///
+/// # Panics
+///
+/// If the sheet is not valid.
+pub fn runs_of_centre(words: &[u32]) -> f64 {
+    let sheet = check(words, DISTANCE_ENTRIES).expect("a valid sheet");
+    let places = sheet.head.places;
+    let distances = Distances::new(places, &sheet.roads);
+    let uppers = sheet.lines.iter().filter_map(|line| match line.operator {
+        Operator::Surround { bounds, .. } => Some(u64::from(bounds.upper)),
+        _ => None,
+    });
+    let runs = |centre: usize, upper: u64| {
+        let reached = (0..places).filter_map(|place| distances.between(centre, place));
+        let reached: Vec<u64> = reached.collect();
+        let others = reached.iter().filter(|&&distance| distance <= upper).count() - 1;
+        others + usize::from(reached.iter().any(|&distance| distance > upper))
+    };
+    let all: Vec<usize> = uppers
+        .flat_map(|upper| (0..places).map(move |centre| (centre, upper)))
+        .map(|(centre, upper)| runs(centre, upper))
+        .collect();
+    all.iter().sum::<usize>() as f64 / all.len() as f64
+}
+
 /// Two sheets of the same words but for codes: one looks ahead, the other back.
 pub struct BothWays {
     /// The sheet that looks ahead.
@@ -148,7 +212,7 @@ pub struct BothWays {
 
 /// The 8×8 grid with until in the one sheet, since in the other.
 pub fn until_and_since(bounds: (u32, u32)) -> BothWays {
-    let sheet = |code: u32| two_conditions().bounded(code, 0, 1, bounds).end();
+    let sheet = |code: u32| conditions(SAMPLES).bounded(code, 0, 1, bounds).end();
     BothWays { ahead: sheet(5), back: sheet(12) }
 }
 
@@ -156,14 +220,14 @@ pub fn until_and_since(bounds: (u32, u32)) -> BothWays {
 /// historically in the other.
 pub fn windows_both_ways(bounds: (u32, u32)) -> BothWays {
     let sheet = |some: u32, all: u32| {
-        two_conditions().bounded(some, 0, 0, bounds).bounded(all, 1, 0, bounds).end()
+        conditions(SAMPLES).bounded(some, 0, 0, bounds).bounded(all, 1, 0, bounds).end()
     };
     BothWays { ahead: sheet(9, 10), back: sheet(13, 14) }
 }
 
-/// The 8×8 grid with a line for each of its signals.
-fn two_conditions() -> SheetBuilder {
-    grid_network(8, SAMPLES).at_least(0, -20).at_most(1, 10)
+/// The 8×8 grid of so many samples with a line for each of its signals.
+fn conditions(samples: u32) -> SheetBuilder {
+    grid_network(8, samples).at_least(0, -20).at_most(1, 10)
 }
 
 /// The 8×8 grid with no surround: somewhere and everywhere up to a distance.

@@ -1,22 +1,39 @@
 //! The sheets are what the benchmark says of them. Nothing is timed here.
 
-use super::sheets::{self, BothWays};
+use super::sheets::{self, BothWays, Readings};
+use reference::builder::SheetBuilder;
 use reference::fast::Fast;
 use reference::judge::Outcome;
-use reference::sheet::{check, Sheet, DISTANCE_ENTRIES};
+use reference::sheet::{check, Sheet, DISTANCE_ENTRIES, LAST_CODE};
+use std::collections::BTreeSet;
 
 fn checked(words: &[u32]) -> Sheet {
     check(words, DISTANCE_ENTRIES).expect("a valid sheet")
 }
 
+/// The codes of some sheets, each once.
+fn codes(sheets: &[&[u32]]) -> BTreeSet<u32> {
+    let codes = |words: &&[u32]| -> Vec<u32> {
+        checked(words).lines.iter().map(|line| line.operator.code()).collect()
+    };
+    sheets.iter().flat_map(codes).collect()
+}
+
 #[test]
-fn the_grid_has_codes_0_to_11() {
-    let sheet = checked(&sheets::full_grid());
-    let mut codes: Vec<u32> = sheet.lines.iter().map(|line| line.operator.code()).collect();
-    codes.sort();
-    codes.dedup();
-    assert_eq!(codes, (0..=11).collect::<Vec<_>>());
+fn the_grid_has_twelve_codes() {
+    let words = sheets::full_grid();
+    let sheet = checked(&words);
+    assert_eq!(codes(&[&words]), (0..=6).chain(8..=11).chain([15]).collect());
     assert_eq!((sheet.head.places, sheet.head.signals, sheet.head.samples), (64, 2, 1024));
+}
+
+#[test]
+fn every_code_is_timed() {
+    let since = sheets::until_and_since((0, 4)).back;
+    let back = sheets::windows_both_ways((0, 4)).back;
+    let surround = sheets::surrounds((0, 3)).without_islands;
+    let timed = codes(&[&sheets::full_grid(), &since, &back, &surround]);
+    assert_eq!(timed, (0..=LAST_CODE).collect());
 }
 
 #[test]
@@ -45,14 +62,16 @@ fn lines_are_as_many_as_asked_for() {
     assert_eq!(checked(&sheets::grid_of_lines(64)).lines.len(), 64);
 }
 
+/// The words without the codes of lines.
+fn without_codes(words: &[u32]) -> Vec<u32> {
+    let line = |&word: &u32| word >> 28 == 5;
+    words.iter().map(|word| if line(word) { word & !(0xFF << 20) } else { *word }).collect()
+}
+
 /// Both sheets have the same words but for the codes of lines, and lines of the
 /// same lengths.
 fn assert_alike(sheets: &BothWays, codes: &[(u32, u32)]) {
-    let line = |&word: &u32| word >> 28 == 5;
-    let without_code = |words: &[u32]| -> Vec<u32> {
-        words.iter().map(|word| if line(word) { word & !(0xFF << 20) } else { *word }).collect()
-    };
-    assert_eq!(without_code(&sheets.ahead), without_code(&sheets.back));
+    assert_eq!(without_codes(&sheets.ahead), without_codes(&sheets.back));
     let (ahead, back) = (checked(&sheets.ahead).lines, checked(&sheets.back).lines);
     let pairs: Vec<_> = ahead.iter().zip(&back).skip(2).collect();
     let found = pairs.iter().map(|(a, b)| (a.operator.code(), b.operator.code()));
@@ -67,4 +86,30 @@ fn windows_are_the_same_both_ways() {
         assert_alike(&sheets::until_and_since(bounds), &[(5, 12)]);
         assert_alike(&sheets::windows_both_ways(bounds), &[(9, 13), (10, 14)]);
     }
+}
+
+/// Both sheets have the same words but for the codes of so many surrounds.
+fn assert_readings(sheets: &Readings, surrounds: usize) {
+    assert_eq!(without_codes(&sheets.with_islands), without_codes(&sheets.without_islands));
+    let (with, without) = (checked(&sheets.with_islands), checked(&sheets.without_islands));
+    assert_eq!((with.head.places, with.head.samples), (64, 64));
+    let pairs = with.lines.iter().zip(&without.lines);
+    let pairs = pairs.map(|(with, without)| (with.operator.code(), without.operator.code()));
+    let apart: Vec<(u32, u32)> = pairs.filter(|(with, without)| with != without).collect();
+    assert_eq!(apart, vec![(15, 7); surrounds]);
+}
+
+#[test]
+fn readings_differ_in_surrounds_alone() {
+    assert_readings(&sheets::surrounds((0, 3)), 1);
+    assert_readings(&sheets::grids_of_surrounds(), 3);
+}
+
+/// Three places in a row with roads of 1: up to 1 the middle has two runs, an end
+/// has one for the middle and one for the other end. Up to 2 all have two.
+#[test]
+fn runs_are_counted() {
+    let row = SheetBuilder::new(3, 1, 1).road(0, 1, 1).road(1, 2, 1).samples(&[0; 3]).truth();
+    let runs = |upper: u32| sheets::runs_of_centre(&row.clone().bounded(7, 0, 0, (0, upper)).end());
+    assert_eq!([runs(0), runs(1), runs(2)], [1.0, 2.0, 2.0]);
 }

@@ -1,20 +1,20 @@
-//! The laws, and those of them that do not look back.
+//! The laws, and those of them that neither look back nor speak of surrounds.
 
-use super::back;
 use super::table::{Bounds, Table};
+use super::{back, surrounds};
 use super::{Law, Pair};
 use reference::generate::random::Random;
 use reference::sheet::GREATEST_WEIGHT as GREATEST;
 
 pub const AND: u32 = 4;
-const SOMEWHERE: u32 = 6;
+pub const SOMEWHERE: u32 = 6;
 pub const OR: u32 = 8;
 pub const EVENTUALLY: u32 = 9;
 pub const ALWAYS: u32 = 10;
-const EVERYWHERE: u32 = 11;
+pub const EVERYWHERE: u32 = 11;
 
 /// All laws.
-pub const LAWS: [Law; 26] = [
+pub const LAWS: [Law; 36] = [
     ("not not left is left", not_not),
     ("or is not (not left and not right)", or_is_not_and),
     ("and exchanges its sides", and_exchanges),
@@ -28,10 +28,20 @@ pub const LAWS: [Law; 26] = [
     ("somewhere 0..0 is left", somewhere_here),
     ("somewhere splits its range", somewhere_splits),
     ("somewhere goes through or", somewhere_of_or),
-    ("surround needs left", surround_needs_left),
-    ("surround by true is left", surround_by_true),
-    ("surround grows with its bounds", surround_grows),
-    ("surround by both is no more than by one", surround_of_both),
+    ("surround needs left", surrounds::needs_left),
+    ("surround grows with its bounds", surrounds::grows),
+    ("surround by both is no more than by one", surrounds::by_both),
+    ("surround of both is no more than of one", surrounds::of_both),
+    ("with islands, surround by true is left", surrounds::with_by_true),
+    ("with islands, surround is one without or an island", surrounds::with_is_without_or_island),
+    ("an island has left everywhere", surrounds::island_is_everywhere),
+    ("without islands, surround is no more than with", surrounds::without_below_with),
+    ("beyond the ball there are no islands", surrounds::same_where_network_goes_on),
+    ("without islands, surround by true is left beside another", surrounds::without_by_true),
+    ("without islands, nothing surrounds nothing", surrounds::without_by_nothing),
+    ("without islands, surround 0..0 is nothing", surrounds::without_here),
+    ("without islands, surround is no more than right around", surrounds::without_below_right),
+    ("without islands, surround is no less than of one place", surrounds::without_above_one),
     ("once is true since left", back::once_is_since),
     ("historically is not once not, and once not historically not", back::historically_is_not_once),
     ("since 0..0 is and", back::since_now),
@@ -50,7 +60,7 @@ pub fn two(table: &Table, random: &mut Random) -> Pair {
 }
 
 /// Bounds of distance, mostly of a few roads.
-fn distances(random: &mut Random) -> Bounds {
+pub fn distances(random: &mut Random) -> Bounds {
     let (a, b) = (random.field(0, 6), random.field(0, 6));
     let upper = random.pick(&[a.max(b), a.max(b), GREATEST]);
     (a.min(b), upper)
@@ -159,37 +169,4 @@ fn somewhere_of_or(table: &mut Table, random: &mut Random) -> Option<Pair> {
     let one = table.around(SOMEWHERE, left, bounds);
     let other = table.around(SOMEWHERE, right, bounds);
     Some((table.around(SOMEWHERE, either, bounds), table.join(OR, one, other)))
-}
-
-/// The centre belongs to its region.
-fn surround_needs_left(table: &mut Table, random: &mut Random) -> Option<Pair> {
-    let (left, right) = two(table, random);
-    let surround = table.surround(left, right, distances(random));
-    Some((surround, table.join(AND, surround, left)))
-}
-
-/// The centre alone is a region, and every road is within the greatest bound.
-fn surround_by_true(table: &mut Table, random: &mut Random) -> Option<Pair> {
-    let left = table.any(random);
-    let truth = table.truth();
-    Some((left, table.surround(left, truth, (0, GREATEST))))
-}
-
-fn surround_grows(table: &mut Table, random: &mut Random) -> Option<Pair> {
-    let (left, right) = two(table, random);
-    let (lower, upper) = distances(random);
-    let wide = (random.field(0, lower), (upper + random.field(0, 3)).min(GREATEST));
-    let narrow = table.surround(left, right, (lower, upper));
-    let wider = table.surround(left, right, wide);
-    Some((wider, table.join(OR, narrow, wider)))
-}
-
-fn surround_of_both(table: &mut Table, random: &mut Random) -> Option<Pair> {
-    let (left, right) = two(table, random);
-    let other = table.any_with(random, &[left, right]);
-    let bounds = distances(random);
-    let both = table.join(AND, right, other);
-    let by_both = table.surround(left, both, bounds);
-    let by_one = table.surround(left, right, bounds);
-    Some((by_both, table.join(AND, by_both, by_one)))
 }

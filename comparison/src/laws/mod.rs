@@ -3,6 +3,7 @@
 
 mod back;
 mod list;
+mod surrounds;
 mod table;
 
 pub use list::LAWS;

@@ -58,6 +58,12 @@ impl Table {
         self.add(0, (0, 0), None, Extent::whole(self.samples))
     }
 
+    /// What holds nowhere and never.
+    pub fn falsehood(&mut self) -> u32 {
+        let truth = self.truth();
+        self.not(truth)
+    }
+
     /// Code 3.
     pub fn not(&mut self, left: u32) -> u32 {
         let extent = self.common(&[left]);
@@ -100,10 +106,10 @@ impl Table {
         self.add(code, (left, 0), Some(bounds), extent)
     }
 
-    /// Code 7.
-    pub fn surround(&mut self, left: u32, right: u32, bounds: Bounds) -> u32 {
+    /// Codes 7 and 15.
+    pub fn surround(&mut self, code: u32, left: u32, right: u32, bounds: Bounds) -> u32 {
         let extent = self.common(&[left, right]);
-        self.add(7, (left, right), Some(bounds), extent)
+        self.add(code, (left, right), Some(bounds), extent)
     }
 
     fn common(&self, lines: &[u32]) -> Extent {

@@ -1,19 +1,19 @@
 //! What an accepted sheet and its answer show.
 
-use super::extents;
+use super::{extents, surrounds};
 use reference::distance::NO_DISTANCE;
 use reference::generate::Case;
 use reference::judge::BYTES_PER_DISTANCE;
 use reference::left::Left;
 use reference::print::MOST_BYTES;
-use reference::sheet::{self, Line, Operator, Sheet, DISTANCE_ENTRIES, GREATEST_WEIGHT, LAST_CODE};
+use reference::sheet::{self, Line, Sheet, DISTANCE_ENTRIES, GREATEST_WEIGHT, LAST_CODE};
 use reference::sheet::{MOST_LINES, MOST_PLACES, MOST_SAMPLES, MOST_SIGNALS};
 use reference::words::{self, kinds, BYTES_PER_WORD};
 
 const GREATEST_MARGIN: u32 = (1 << 27) - 1;
 
 /// What is looked for in a sheet, beside its codes.
-const IN_SHEET: [&str; 16] = [
+const IN_SHEET: [&str; 14] = [
     "64 places",
     "16 signals",
     "1,024 samples",
@@ -28,8 +28,6 @@ const IN_SHEET: [&str; 16] = [
     "64 rounds",
     "above 32,768 bytes",
     "places, signals and samples all at their limits",
-    "a surround in circles of roads, above 16 places and 16 samples",
-    "a surround in circles of roads, 64 places and 1,024 samples",
 ];
 
 /// What is looked for in what is lent.
@@ -54,11 +52,8 @@ const IN_ANSWER: [(&str, u32); 6] = [
 pub fn labels() -> Vec<String> {
     let codes = (0..=LAST_CODE).map(code_label);
     let rest = IN_SHEET.iter().chain(&LENT).chain(IN_ANSWER.iter().map(|(label, _)| label));
-    let extents = extents::labels();
-    codes
-        .chain(rest.map(|text| label(text)))
-        .chain(extents.iter().map(|text| label(text)))
-        .collect()
+    let of_lines = extents::labels().into_iter().chain(surrounds::labels());
+    codes.chain(rest.map(|text| label(text))).chain(of_lines.map(|text| label(&text))).collect()
 }
 
 fn label(text: &str) -> String {
@@ -82,17 +77,17 @@ pub fn shown(words: &[u32], case: &Case, left: &Left) -> Vec<String> {
         .chain(lent(case, left).map(label))
         .chain(in_answer(left))
         .chain(extents::shown(&sheet).iter().map(|text| label(text)))
+        .chain(surrounds::shown(&sheet, left).iter().map(|text| label(text)))
         .collect()
 }
 
 /// In the order of [`IN_SHEET`].
-fn in_sheet(sheet: &Sheet, words: &[u32], left: &Left) -> [bool; 16] {
+fn in_sheet(sheet: &Sheet, words: &[u32], left: &Left) -> [bool; 14] {
     let bounds = |wanted: fn(u32, u32) -> bool| {
         let mut all = sheet.lines.iter().filter_map(|line| line.operator.bounds());
         all.any(|bounds| wanted(bounds.lower, bounds.upper))
     };
     let (places, samples) = (sheet.head.places, sheet.head.samples);
-    let circles = surrounds_in_circles(sheet);
     let none = NO_DISTANCE.to_le_bytes();
     let mut distances = left.distances.chunks_exact(BYTES_PER_DISTANCE);
     [
@@ -110,16 +105,7 @@ fn in_sheet(sheet: &Sheet, words: &[u32], left: &Left) -> [bool; 16] {
         left.outcome().is_some_and(|outcome| outcome.rounds == 64),
         words.len() * BYTES_PER_WORD > MOST_BYTES,
         (places, sheet.head.signals, samples) == (MOST_PLACES, MOST_SIGNALS, MOST_SAMPLES),
-        circles && places > 16 && samples > 16,
-        circles && places == MOST_PLACES && samples == MOST_SAMPLES,
     ]
-}
-
-/// Whether a surround looks at a network in which roads go round in circles: one
-/// with as many roads as places has to.
-fn surrounds_in_circles(sheet: &Sheet) -> bool {
-    let is_surround = |line: &Line| matches!(line.operator, Operator::Surround { .. });
-    sheet.roads.len() >= sheet.head.places && sheet.lines.iter().any(is_surround)
 }
 
 /// The greatest number of lines on top of one another.

@@ -1,5 +1,6 @@
 //! What accepted sheets show of where lines begin and end.
 
+use super::chosen;
 use reference::sheet::{Extent, Line, Operator, Reach, Sheet, LAST_CODE};
 
 /// The first code that has an operand.
@@ -10,7 +11,7 @@ pub const AHEAD: [u32; 3] = [5, 9, 10];
 pub const BACK: [u32; 3] = [12, 13, 14];
 
 /// Codes with two operands.
-pub const WITH_TWO: [u32; 5] = [4, 5, 7, 8, 12];
+pub const WITH_TWO: [u32; 6] = [4, 5, 7, 8, 12, 15];
 
 /// What is looked for in a line of two operands.
 const OF_TWO: [&str; 5] = [
@@ -77,13 +78,6 @@ fn shown_by(sheet: &Sheet, line: &Line) -> Vec<String> {
     }
     let last_first = (line.extent.first == 1023).then(|| LAST_FIRST.to_string());
     shown.into_iter().map(|text| of_code(operator.code(), text)).chain(last_first).collect()
-}
-
-fn chosen<const N: usize>(
-    texts: &'static [&'static str; N],
-    shown: [bool; N],
-) -> impl Iterator<Item = &'static str> {
-    texts.iter().zip(shown).filter(|(_, shown)| *shown).map(|(text, _)| *text)
 }
 
 /// In the order of [`OF_TWO`].

@@ -7,7 +7,9 @@ mod extents;
 mod looked_up;
 mod no_sample;
 mod refused;
+mod runs;
 mod setting;
+mod surrounds;
 
 pub use looked_up::LookedUp;
 
@@ -87,4 +89,12 @@ impl Reached {
         let missed = self.labels.iter().filter(|label| self.counts[*label] == 0);
         missed.map(String::as_str).collect()
     }
+}
+
+/// The texts of which it is said that they are shown.
+fn chosen<const N: usize>(
+    texts: &'static [&'static str; N],
+    shown: [bool; N],
+) -> impl Iterator<Item = &'static str> {
+    texts.iter().zip(shown).filter(|(_, shown)| *shown).map(|(text, _)| *text)
 }

@@ -1,6 +1,7 @@
 //! The ways to refusal 13: windows of time that are too long, and operands that
 //! have no sample in common.
 
+use super::chosen;
 use super::extents::{AHEAD, BACK, WITH_TWO};
 use reference::sheet::{check, Extent, Sheet, DISTANCE_ENTRIES, GREATEST_WEIGHT};
 use reference::words::{self, kinds};
@@ -73,6 +74,5 @@ fn apart(left: Extent, right: Extent) -> usize {
 
 fn long(common: Extent, upper: u32) -> Vec<&'static str> {
     let beyond = upper as usize > common.length();
-    let shown = [!beyond, beyond, upper == GREATEST_WEIGHT, common.first > 0];
-    LONG.iter().zip(shown).filter(|(_, shown)| *shown).map(|(text, _)| *text).collect()
+    chosen(&LONG, [!beyond, beyond, upper == GREATEST_WEIGHT, common.first > 0]).collect()
 }

@@ -11,7 +11,7 @@ use reference::words::{self, kinds, BYTES_PER_WORD};
 const WITH_CONSTANT: [u32; 2] = [1, 2];
 
 /// Codes that are followed by bounds.
-const WITH_BOUNDS: [u32; 9] = [5, 6, 7, 9, 10, 11, 12, 13, 14];
+const WITH_BOUNDS: [u32; 10] = [5, 6, 7, 9, 10, 11, 12, 13, 14, 15];
 
 /// What the fields of a line word can stand for.
 const SIGNAL: &str = "signal";

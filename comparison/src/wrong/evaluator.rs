@@ -1,6 +1,7 @@
 //! A plain evaluator that is right but for the one fault it is told to make, and
 //! the engine over it.
 
+use super::network::Network;
 use crate::{Engine, Filled, Implementation};
 use reference::distance::Distances;
 use reference::evaluation::Evaluation;
@@ -20,12 +21,25 @@ pub const LEFT_OF_WHOLE_WINDOW: u32 = 7;
 pub const LEFT_AFTER_RIGHT: u32 = 8;
 pub const LEFT_BEFORE_NOW: u32 = 9;
 pub const OWN_FIRST: u32 = 10;
+pub const ISLANDS_COUNTED: u32 = 11;
+pub const ISLANDS_AT_ZERO: u32 = 12;
+pub const RUN_OF_CENTRE: u32 = 13;
+pub const RUNS_OF_BALL: u32 = 14;
+pub const RUNS_OF_ALL: u32 = 15;
+pub const RUNS_OF_NEIGHBOURS: u32 = 16;
+pub const ROUNDS_OF_PLAIN: u32 = 17;
+pub const ROUNDS_OF_BEST: u32 = 18;
+pub const ROUND_OF_LONE: u32 = 19;
+pub const LEAST_OF_RUNS: u32 = 20;
+pub const LAST_OF_RUNS: u32 = 21;
+pub const RIGHT_CUT_OUT: u32 = 22;
+pub const BOTH_CUT_OUT: u32 = 23;
 
 /// A row of verdicts, one for each place.
-type Row = Vec<Verdict>;
+pub type Row = Vec<Verdict>;
 
-const TOP: Verdict = Verdict { yes: true, margin: Margin::PlusInfinity };
-const BOTTOM: Verdict = Verdict { yes: false, margin: Margin::MinusInfinity };
+pub const TOP: Verdict = Verdict { yes: true, margin: Margin::PlusInfinity };
+pub const BOTTOM: Verdict = Verdict { yes: false, margin: Margin::MinusInfinity };
 
 /// The rows of all lines with their extents, and the rounds.
 pub struct Faulty<const FAULT: u32> {
@@ -71,7 +85,7 @@ fn looks_from(line: &Line) -> usize {
     }
 }
 
-fn lesser(a: Verdict, b: Verdict) -> Verdict {
+pub fn lesser(a: Verdict, b: Verdict) -> Verdict {
     Verdict { yes: a.yes && b.yes, margin: a.margin.min(b.margin) }
 }
 
@@ -79,7 +93,7 @@ fn not(a: Verdict) -> Verdict {
     Verdict { yes: !a.yes, margin: a.margin.negate() }
 }
 
-fn greater(a: Verdict, b: Verdict) -> Verdict {
+pub fn greater(a: Verdict, b: Verdict) -> Verdict {
     not(lesser(not(a), not(b)))
 }
 
@@ -130,8 +144,10 @@ impl<const FAULT: u32> Faulty<FAULT> {
             Operator::Historically { left, bounds } => self.least(left, back::<FAULT>(at, bounds)),
             Operator::Somewhere { left, bounds } => around(distances, of(left), bounds, BOTTOM),
             Operator::Everywhere { left, bounds } => around(distances, of(left), bounds, TOP),
-            Operator::Surround { left, right, bounds } => {
-                return self.surround(sheet, distances, (of(left), of(right)), bounds);
+            Operator::Surround { left, right, .. }
+            | Operator::SurroundOrIsland { left, right, .. } => {
+                let network = Network { neighbours: sheet.neighbours(), distances };
+                return network.surround::<FAULT>(operator, of(left), of(right));
             }
         };
         (row, 0)
@@ -180,27 +196,6 @@ impl<const FAULT: u32> Faulty<FAULT> {
         }
         best
     }
-
-    fn surround(
-        &self,
-        sheet: &Sheet,
-        distances: &Distances,
-        (left, right): (&Row, &Row),
-        bounds: Bounds,
-    ) -> (Row, u64) {
-        let neighbours = sheet.neighbours();
-        let ball = Bounds { lower: 0, ..bounds };
-        let ring = if FAULT == UPPER_MASK { ball } else { bounds };
-        let settled = (0..left.len()).map(|centre| {
-            let left = masked(distances, centre, left, ball);
-            let right = masked(distances, centre, right, ring);
-            let (row, rounds) = settle::<FAULT>(&neighbours, left, &right);
-            (row[centre], rounds)
-        });
-        let settled: Vec<(Verdict, u64)> = settled.collect();
-        let rounds = settled.iter().map(|centre| centre.1).max();
-        (settled.into_iter().map(|centre| centre.0).collect(), rounds.unwrap_or(0))
-    }
 }
 
 /// The samples of a window ahead; the fault is that its last is left out.
@@ -224,43 +219,6 @@ fn around(distances: &Distances, row: &Row, bounds: Bounds, nothing: Verdict) ->
         near.fold(nothing, |value, place| join(value, row[place]))
     };
     (0..row.len()).map(at).collect()
-}
-
-fn masked(distances: &Distances, centre: usize, row: &Row, bounds: Bounds) -> Row {
-    let value = |(place, &value): (usize, &Verdict)| {
-        if distances.within(centre, place, bounds) {
-            value
-        } else {
-            BOTTOM
-        }
-    };
-    row.iter().enumerate().map(value).collect()
-}
-
-/// Steps until neither margins nor verdicts change; rounds are counted while
-/// margins do.
-fn settle<const FAULT: u32>(neighbours: &[Vec<usize>], left: Row, right: &Row) -> (Row, u64) {
-    let margins = |row: &Row| row.iter().map(|value| value.margin).collect::<Vec<_>>();
-    let mut row = left;
-    let mut rounds = 1;
-    loop {
-        let next = step::<FAULT>(neighbours, &row, right);
-        rounds += u64::from(margins(&next) != margins(&row));
-        if next == row || FAULT == ONE_ROUND {
-            break (next, rounds);
-        }
-        row = next;
-    }
-}
-
-fn step<const FAULT: u32>(neighbours: &[Vec<usize>], row: &Row, right: &Row) -> Row {
-    let mut next = row.clone();
-    for (place, around) in neighbours.iter().enumerate() {
-        let former = if FAULT == IN_PLACE { next.clone() } else { row.clone() };
-        let offers = around.iter().map(|&other| greater(former[other], right[other]));
-        next[place] = offers.fold(former[place], lesser);
-    }
-    next
 }
 
 /// An engine over this evaluator.

@@ -5,9 +5,11 @@ mod bytes;
 mod evaluator;
 mod extents;
 mod lookups;
+mod network;
 mod printing;
 mod refusals;
 mod sizes;
+mod surrounds;
 mod traps;
 
 use crate::compare::Comparison;

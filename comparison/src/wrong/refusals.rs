@@ -154,10 +154,11 @@ fn faults_behind_the_twelfth_line_told_a_word_too_far() {
     });
 }
 
-/// And, surround and or have no window, so nothing else takes their samples away.
+/// And, or and both surrounds have no window, so nothing else takes their samples
+/// away.
 #[test]
 fn operands_without_a_common_sample_told_a_word_too_far() {
-    for code in [4, 7, 8] {
+    for code in [4, 7, 8, 15] {
         assert_caught(|given, outcome| {
             if outcome.number == 13 && given.code_at(outcome.place) == Some(code) {
                 outcome.place += 1;
@@ -205,7 +206,7 @@ fn the_greatest_window_back_not_seen() {
 #[test]
 fn the_first_code_that_there_is_not_taken_for_one_with_bounds() {
     assert_caught(|given, outcome| {
-        if outcome.number == 11 && given.code_at(outcome.place) == Some(15) {
+        if outcome.number == 11 && given.code_at(outcome.place) == Some(16) {
             (outcome.number, outcome.place) = (12, outcome.place + 1);
         }
     });
@@ -236,7 +237,7 @@ impl Engine for Lacks {
 
 #[test]
 fn a_code_that_is_not_known() {
-    for code in 12..=14 {
+    for code in 12..=15 {
         assert!(caught(&Lacks(code)).is_some());
     }
 }

@@ -11,22 +11,24 @@ use reference::margin::Verdict;
 use reference::sheet::{Operator, Sheet};
 use reference::words::BYTES_PER_WORD;
 
-/// Right, but for surrounds on networks with more than so many places, with so
-/// many roads that some go round in circles, and more than so many samples: left
-/// is taken for the surround there.
-struct InCircles<const PLACES: usize, const SAMPLES: usize> {
+/// Right, but for surrounds of one code on networks with more than so many
+/// places, with so many roads that some go round in circles, and more than so
+/// many samples: left is taken for the surround there.
+struct InCircles<const CODE: u32, const PLACES: usize, const SAMPLES: usize> {
     right: Fast,
     /// For each surround that goes wrong its left operand.
     lefts: Vec<Option<usize>>,
 }
 
-impl<const PLACES: usize, const SAMPLES: usize> Evaluation for InCircles<PLACES, SAMPLES> {
+impl<const CODE: u32, const PLACES: usize, const SAMPLES: usize> Evaluation
+    for InCircles<CODE, PLACES, SAMPLES>
+{
     fn evaluate(sheet: &Sheet, distances: &Distances) -> Self {
         let goes_wrong = sheet.head.places > PLACES
             && sheet.head.samples > SAMPLES
             && sheet.roads.len() >= sheet.head.places;
-        let left = |operator: &Operator| match *operator {
-            Operator::Surround { left, .. } if goes_wrong => Some(left),
+        let left = |operator: &Operator| match operator.surround() {
+            Some((left, ..)) if goes_wrong && operator.code() == CODE => Some(left),
             _ => None,
         };
         let lefts = sheet.lines.iter().map(|line| left(&line.operator)).collect();
@@ -43,12 +45,14 @@ impl<const PLACES: usize, const SAMPLES: usize> Evaluation for InCircles<PLACES,
 }
 
 /// An engine over this evaluator.
-struct Circling<const PLACES: usize, const SAMPLES: usize>;
+struct Circling<const CODE: u32, const PLACES: usize, const SAMPLES: usize>;
 
-impl<const PLACES: usize, const SAMPLES: usize> Engine for Circling<PLACES, SAMPLES> {
+impl<const CODE: u32, const PLACES: usize, const SAMPLES: usize> Engine
+    for Circling<CODE, PLACES, SAMPLES>
+{
     fn judge(&self, sheet: &[u8], left: Filled) -> u64 {
         let Filled { distances, answer, result } = left;
-        reference::judge::<InCircles<PLACES, SAMPLES>>(sheet, distances, answer, result)
+        reference::judge::<InCircles<CODE, PLACES, SAMPLES>>(sheet, distances, answer, result)
     }
 
     fn lookup(&self, answer: &[u8], line: u64, sample: u64, place: u64) -> u64 {
@@ -58,23 +62,28 @@ impl<const PLACES: usize, const SAMPLES: usize> Engine for Circling<PLACES, SAMP
 
 #[test]
 fn a_wrong_surround_above_12_places_and_16_samples() {
-    assert!(caught(&Circling::<12, 16>).is_some());
+    assert!(caught(&Circling::<7, 12, 16>).is_some());
+    assert!(caught(&Circling::<15, 12, 16>).is_some());
 }
 
 #[test]
 fn a_wrong_surround_above_16_places_and_3_samples() {
-    assert!(caught(&Circling::<16, 3>).is_some());
+    assert!(caught(&Circling::<7, 16, 3>).is_some());
+    assert!(caught(&Circling::<15, 16, 3>).is_some());
 }
 
 #[test]
 fn a_wrong_surround_above_48_places_and_48_samples() {
-    assert!(caught(&Circling::<48, 48>).is_some());
+    assert!(caught(&Circling::<7, 48, 48>).is_some());
+    assert!(caught(&Circling::<15, 48, 48>).is_some());
 }
 
 #[test]
 fn a_wrong_surround_above_63_places_and_1_023_samples() {
-    let engine = Circling::<63, 1023>;
-    assert!(Comparison::new(&engine, None).largest(&mut Random::new(1)).is_err());
+    let caught =
+        |engine: &dyn Engine| Comparison::new(engine, None).largest(&mut Random::new(1)).is_err();
+    assert!(caught(&Circling::<7, 63, 1023>));
+    assert!(caught(&Circling::<15, 63, 1023>));
 }
 
 /// An engine whose lookup finds nothing in long answers.

@@ -63,7 +63,7 @@ fn operands_read_from_their_own_first_sample() {
 }
 
 /// What a check finds that has nothing to compare an engine with.
-fn found_alone(
+pub fn found_alone(
     engine: &dyn Engine,
     check: fn(&dyn Engine, &mut Random, &mut Reached) -> Result<(), Difference>,
 ) -> Option<usize> {

@@ -10,6 +10,7 @@ mod back;
 mod rows;
 mod scale;
 mod space;
+mod surround;
 
 use crate::distance::Distances;
 use crate::evaluation::Evaluation;
@@ -18,6 +19,7 @@ use crate::sheet::{Extent, Line, Operator, Reach, Sheet};
 use rows::Rows;
 use scale::Scale;
 use space::Space;
+use surround::{surround, Islands};
 
 /// The verdicts of a sheet by the published algorithms.
 pub struct Fast {
@@ -105,11 +107,20 @@ impl<'a, S: Scale> Table<'a, S> {
                 space.range(of(left).values, bounds, S::TOP, S::min)
             }
             Operator::Surround { left, right, bounds } => {
-                let (values, taken) = space.surround(of(left).values, of(right).values, bounds);
-                self.rounds = taken.max(self.rounds);
-                values
+                let settled = surround(space, of(left), of(right), bounds, Islands::LeftOut);
+                self.settled(settled)
+            }
+            Operator::SurroundOrIsland { left, right, bounds } => {
+                let settled = surround(space, of(left), of(right), bounds, Islands::Counted);
+                self.settled(settled)
             }
         }
+    }
+
+    /// The values of a surround, whose rounds are counted.
+    fn settled(&mut self, (values, rounds): (Vec<S>, u64)) -> Vec<S> {
+        self.rounds = rounds.max(self.rounds);
+        values
     }
 
     /// The rows of an earlier line at these samples, all of which it has.

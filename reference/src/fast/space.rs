@@ -1,4 +1,4 @@
-//! Operators over space: somewhere, everywhere, surround.
+//! The network, and the operators over ranges of it: somewhere, everywhere.
 
 use super::scale::Scale;
 use crate::distance::Distances;
@@ -6,8 +6,10 @@ use crate::sheet::{Bounds, Sheet};
 
 /// The network as the spatial operators see it.
 pub struct Space<'a> {
-    places: usize,
-    neighbours: Vec<Vec<usize>>,
+    /// How many places there are.
+    pub places: usize,
+    /// For each place those that a road joins to it.
+    pub neighbours: Vec<Vec<usize>>,
     distances: &'a Distances,
 }
 
@@ -38,93 +40,14 @@ impl<'a> Space<'a> {
         values
     }
 
-    /// Surround by Algorithm 2: for each centre and sample the masked signals
-    /// of Corollary 4.6 are iterated to the fixed point, whose value at the
-    /// centre counts. Also gives the greatest number of rounds.
-    pub fn surround<S: Scale>(&self, left: &[S], right: &[S], bounds: Bounds) -> (Vec<S>, u64) {
-        let places = self.places;
-        let inner = Bounds { lower: 0, ..bounds };
-        let mut values = vec![S::BOTTOM; left.len()];
-        let mut signals = Signals::new(places);
-        let mut greatest = 0;
-        for centre in 0..places {
-            let region = self.in_range(centre, inner);
-            let boundary = self.in_range(centre, bounds);
-            for first in (0..left.len()).step_by(places) {
-                let row = first..first + places;
-                signals.mask(&left[row.clone()], &region, &right[row], &boundary);
-                greatest = greatest.max(signals.settle(&self.neighbours));
-                values[first + centre] = signals.step[centre];
-            }
-        }
-        (values, greatest)
-    }
-
-    fn in_range(&self, centre: usize, bounds: Bounds) -> Vec<usize> {
+    /// The places within bounds of a centre.
+    pub fn in_range(&self, centre: usize, bounds: Bounds) -> Vec<usize> {
         (0..self.places).filter(|&place| self.distances.within(centre, place, bounds)).collect()
     }
-}
 
-/// The signals of one fixed point. One set serves all fixed points of a line,
-/// so that memory is taken once.
-struct Signals<S> {
-    /// The present step X(i, ·) of Definition 4.4.
-    step: Vec<S>,
-    /// The step that follows.
-    next: Vec<S>,
-    /// The masked right signal s2.
-    right: Vec<S>,
-    /// What each place offers its neighbours: max(X(i, ·), s2).
-    offered: Vec<S>,
-}
-
-impl<S: Scale> Signals<S> {
-    fn new(places: usize) -> Self {
-        let bottom = vec![S::BOTTOM; places];
-        Signals {
-            step: bottom.clone(),
-            next: bottom.clone(),
-            right: bottom.clone(),
-            offered: bottom,
-        }
-    }
-
-    /// Sets s2 and X(0, ·) = s1: "minus infinity" outside the bounds.
-    fn mask(&mut self, left: &[S], region: &[usize], right: &[S], boundary: &[usize]) {
-        self.step.fill(S::BOTTOM);
-        self.right.fill(S::BOTTOM);
-        for &place in region {
-            self.step[place] = left[place];
-        }
-        for &place in boundary {
-            self.right[place] = right[place];
-        }
-    }
-
-    /// Steps until no place changes; gives the rounds, "1 plus the least i at
-    /// which step i + 1 equals step i at all places".
-    fn settle(&mut self, neighbours: &[Vec<usize>]) -> u64 {
-        let mut rounds = 0;
-        loop {
-            self.advance(neighbours);
-            rounds += 1;
-            if self.next == self.step {
-                break rounds;
-            }
-            std::mem::swap(&mut self.step, &mut self.next);
-        }
-    }
-
-    /// Definition 4.4 (2), all places from the former step.
-    fn advance(&mut self, neighbours: &[Vec<usize>]) {
-        let sides = self.step.iter().zip(&self.right);
-        for (offered, (&step, &right)) in self.offered.iter_mut().zip(sides) {
-            *offered = step.max(right);
-        }
-        let steps = self.step.iter().zip(neighbours);
-        for (next, (&step, around)) in self.next.iter_mut().zip(steps) {
-            let offers = around.iter().map(|&place| self.offered[place]);
-            *next = offers.fold(step, S::min);
-        }
+    /// Every other place with a distance from a centre.
+    pub fn others(&self, centre: usize) -> Vec<usize> {
+        let has_distance = |&other: &usize| self.distances.between(centre, other).is_some();
+        (0..self.places).filter(|&other| other != centre).filter(has_distance).collect()
     }
 }

@@ -5,6 +5,7 @@
 //! that it wanders from place to place, one a round.
 
 use super::random::Random;
+use super::table::{WITHOUT_ISLANDS, WITH_ISLANDS};
 use crate::builder::SheetBuilder;
 use std::collections::BTreeSet;
 
@@ -18,75 +19,110 @@ pub fn sheet(random: &mut Random, most_places: usize) -> Vec<u32> {
     }
 }
 
-/// The first of two surrounds takes as many rounds as there are places.
+/// The first of two surrounds takes as many rounds as there are places, none
+/// where it is one of code 7 and there is one place. In a run of code 7 the place
+/// that is cut out brings right, lower than all of left, down the path.
 pub fn wandering_margins(random: &mut Random, most_places: usize) -> Vec<u32> {
-    let order = places_in_order(random, most_places);
-    let (far, near) = bounds(random, &order);
+    let way = Way::drawn(random, most_places);
     let lowest = random.between(-3, 3) as i32;
     let numbers = |random: &mut Random, step: usize| {
         let above = if step == 0 { 0 } else { random.field(1, 9) as i32 };
         (lowest + above, random.field(20, 40) as i32)
     };
-    path(random, &order, numbers)
+    way.path(random, numbers)
         .at_least(0, 0)
         .at_most(1, 0)
-        .bounded(7, 0, 1, far)
-        .bounded(7, 0, 1, near)
+        .bounded(way.codes.0, 0, 1, way.far)
+        .bounded(way.codes.1, 0, 1, way.near)
         .end()
 }
 
 /// Margins of 0 with both verdicts: a no wanders over the path, while margins
-/// rest from the start, or soon where some are above 0.
+/// rest from the start, or soon where some are above 0. For code 7 the path's
+/// last place has a right that is a yes, so that with this place cut out there
+/// is a region to wander over.
 pub fn wandering_verdicts(random: &mut Random, most_places: usize) -> Vec<u32> {
-    let order = places_in_order(random, most_places);
-    let (far, near) = bounds(random, &order);
+    let way = Way::drawn(random, most_places);
     let above = random.pick(&[0, 0, 10, 30]);
+    let last = way.order.len() - 1;
     let numbers = |random: &mut Random, step: usize| {
-        let first = if random.chance(above) { random.field(1, 3) } else { 0 };
-        (first as i32, i32::from(step > 0))
+        let first = if random.chance(above) { random.field(1, 3) as i32 } else { 0 };
+        let is_around = way.codes.0 == WITHOUT_ISLANDS && step == last;
+        (if is_around { -1 } else { first }, i32::from(step > 0))
     };
     // Line 3 is left: no 0 at the path's first place, and a yes at the others.
-    // Line 4 is right: no, nowhere above 0.
-    path(random, &order, numbers)
+    // Line 4 is right: no, nowhere above 0. What is around is no -1 and yes 1.
+    way.path(random, numbers)
         .at_least(0, 0)
         .at_most(1, 0)
         .line(3, 1, 0)
         .line(4, 0, 2)
         .line(3, 0, 0)
-        .bounded(7, 3, 4, far)
-        .bounded(7, 3, 4, near)
+        .bounded(way.codes.0, 3, 4, way.far)
+        .bounded(way.codes.1, 3, 4, way.near)
         .end()
 }
 
-/// All places, in the order in which the path visits them.
+/// A path, and the two surrounds on it.
+struct Way {
+    /// All places, in the order in which the path visits them.
+    order: Vec<u32>,
+    samples: u32,
+    codes: (u32, u32),
+    /// Bounds that hold the whole path.
+    far: (u32, u32),
+    /// Any others.
+    near: (u32, u32),
+}
+
+impl Way {
+    fn drawn(random: &mut Random, most_places: usize) -> Self {
+        let order = places_in_order(random, most_places);
+        let far = 3 * order.len() as u32;
+        let (codes, samples) = codes_and_samples(random, order.len());
+        let nearer = random.pick(&[far + 4, far / 4 + 4]);
+        let near = (random.field(0, 4), random.field(4, nearer));
+        Way { order, samples, codes, far: (0, far), near }
+    }
+
+    /// Roads that join each place to the next, and two numbers for each place by
+    /// its step on the path, at every sample.
+    fn path(
+        &self,
+        random: &mut Random,
+        numbers: impl Fn(&mut Random, usize) -> (i32, i32),
+    ) -> SheetBuilder {
+        let mut sheet = SheetBuilder::new(self.order.len() as u32, 2, self.samples);
+        for (first, second) in rising_pairs(&self.order) {
+            sheet = sheet.road(first, second, random.field(1, 3));
+        }
+        let samples = 0..self.samples;
+        let numbers: Vec<i32> =
+            samples.flat_map(|_| sample(random, &self.order, &numbers)).collect();
+        sheet.samples(&numbers)
+    }
+}
+
+/// The codes of the two surrounds, and how many samples there are. Code 7 makes
+/// a run for every place of the path, each of as many rounds: on a long path only
+/// the first surround has it, now and then, and a single sample.
+fn codes_and_samples(random: &mut Random, places: usize) -> ((u32, u32), u32) {
+    const BOTH: [u32; 2] = [WITHOUT_ISLANDS, WITH_ISLANDS];
+    let samples = random.pick(&[1, 2, 3, 16, 17, 33]);
+    match places {
+        0..=12 => ((random.pick(&BOTH), random.pick(&BOTH)), samples),
+        _ if random.chance(30) => ((WITHOUT_ISLANDS, WITH_ISLANDS), 1),
+        _ => ((WITH_ISLANDS, WITH_ISLANDS), samples),
+    }
+}
+
+/// All places, in a random order.
 fn places_in_order(random: &mut Random, most_places: usize) -> Vec<u32> {
     let any = random.count(1, most_places);
     let places = random.pick(&[any, any, most_places]);
     let mut order: Vec<u32> = (0..places as u32).collect();
     random.shuffle(&mut order);
     order
-}
-
-/// Bounds that hold the whole path, and any others.
-fn bounds(random: &mut Random, order: &[u32]) -> ((u32, u32), (u32, u32)) {
-    let far = 3 * order.len() as u32;
-    ((0, far), (random.field(0, 4), random.field(4, far + 4)))
-}
-
-/// Roads that join each place to the next, and two numbers for each place by its
-/// step on the path, at every sample.
-fn path(
-    random: &mut Random,
-    order: &[u32],
-    numbers: impl Fn(&mut Random, usize) -> (i32, i32),
-) -> SheetBuilder {
-    let samples = random.pick(&[1, 2, 3, 16, 17, 33]);
-    let mut sheet = SheetBuilder::new(order.len() as u32, 2, samples);
-    for (first, second) in rising_pairs(order) {
-        sheet = sheet.road(first, second, random.field(1, 3));
-    }
-    let numbers: Vec<i32> = (0..samples).flat_map(|_| sample(random, order, &numbers)).collect();
-    sheet.samples(&numbers)
 }
 
 /// The pairs of places that follow one another, as a sheet wants them: the lower

@@ -17,14 +17,52 @@ pub struct Source<'a> {
     pub readings: &'a [i32],
     /// The weights of the sheet's roads, of which bounds are made.
     pub weights: Vec<u32>,
+    /// The greatest upper bound of a line of code 7.
+    pub widest: u32,
 }
 
 /// Codes of lines, those with the most to go wrong more often.
-const CODES: [u32; 24] =
-    [0, 1, 1, 2, 2, 3, 3, 4, 4, 5, 5, 6, 7, 7, 7, 8, 9, 10, 11, 11, 12, 12, 13, 14];
+const CODES: [u32; 26] =
+    [0, 1, 1, 2, 2, 3, 3, 4, 4, 5, 5, 6, 7, 7, 7, 8, 9, 10, 11, 11, 12, 12, 13, 14, 15, 15];
 
 /// Codes that need no earlier line.
 const FIRST_CODES: [u32; 7] = [0, 1, 1, 1, 2, 2, 2];
+
+/// The code of the surround to which a region with an empty boundary does not
+/// count.
+pub const WITHOUT_ISLANDS: u32 = 7;
+
+/// The code of the surround to which it does.
+pub const WITH_ISLANDS: u32 = 15;
+
+/// A line that has been drawn.
+#[derive(Clone, Copy)]
+struct Drawn {
+    code: u32,
+    left: u32,
+    right: u32,
+    parameter: Parameter,
+    extent: Extent,
+}
+
+/// What follows a line's word.
+#[derive(Clone, Copy)]
+enum Parameter {
+    Nothing,
+    Constant(i32),
+    Bounds(u32, u32),
+}
+
+impl Drawn {
+    fn written(self, sheet: SheetBuilder) -> SheetBuilder {
+        let sheet = sheet.line(self.code, self.left, self.right);
+        match self.parameter {
+            Parameter::Nothing => sheet,
+            Parameter::Constant(number) => sheet.constant(number),
+            Parameter::Bounds(lower, upper) => sheet.bounds(lower, upper),
+        }
+    }
+}
 
 /// Adds so many valid lines to a sheet.
 pub fn lines(
@@ -34,50 +72,63 @@ pub fn lines(
     count: usize,
 ) -> SheetBuilder {
     let mut extents: Vec<Extent> = Vec::new();
+    let mut last = None;
     for number in 0..count {
         let early = number == 0 || (number < 3 && random.chance(60));
         let code = random.pick(if early { &FIRST_CODES[..] } else { &CODES[..] });
-        let (extended, extent) = line(random, sheet, source, &extents, code);
-        sheet = extended;
-        extents.push(extent);
+        let again = other_reading(random, last);
+        let drawn = again.unwrap_or_else(|| line(random, source, &extents, code));
+        sheet = drawn.written(sheet);
+        extents.push(drawn.extent);
+        last = Some(drawn);
     }
     sheet
 }
 
-/// Adds one line of a code; gives its extent too.
-fn line(
-    random: &mut Random,
-    sheet: SheetBuilder,
-    source: &Source,
-    extents: &[Extent],
-    code: u32,
-) -> (SheetBuilder, Extent) {
+/// After a surround without islands often the same with islands.
+fn other_reading(random: &mut Random, last: Option<Drawn>) -> Option<Drawn> {
+    let surround = last.filter(|line| line.code == WITHOUT_ISLANDS && random.chance(40));
+    surround.map(|line| Drawn { code: WITH_ISLANDS, ..line })
+}
+
+/// Draws one line of a code.
+fn line(random: &mut Random, source: &Source, extents: &[Extent], code: u32) -> Drawn {
     let whole = Extent::whole(source.samples);
-    if code == 0 {
-        return (sheet.truth(), whole);
-    }
-    if code <= 2 {
-        let signal = random.below(source.signals) as u32;
-        let number = constant(random, source);
-        return (sheet.line(code, signal, 0).constant(number), whole);
-    }
-    let left = operand(random, extents.len());
-    let binary = matches!(code, 4 | 5 | 7 | 8 | 12);
-    let right = if binary { partner(random, extents, left) } else { 0 };
-    let common = if binary { extents[left].common(extents[right]) } else { extents[left] };
-    let sheet = sheet.line(code, left as u32, right as u32);
+    let nothing = Parameter::Nothing;
     match code {
-        3 | 4 | 8 => (sheet, common),
-        6 | 7 | 11 => {
-            let (lower, upper) = distance_bounds(random, source);
-            (sheet.bounds(lower, upper), common)
+        0 => Drawn { code, left: 0, right: 0, parameter: nothing, extent: whole },
+        1 | 2 => {
+            let left = random.below(source.signals) as u32;
+            let parameter = Parameter::Constant(constant(random, source));
+            Drawn { code, left, right: 0, parameter, extent: whole }
+        }
+        _ => {
+            let left = operand(random, extents.len());
+            let binary = matches!(code, 4 | 5 | 7 | 8 | 12 | 15);
+            let right = if binary { partner(random, extents, left) } else { 0 };
+            let common = if binary { extents[left].common(extents[right]) } else { extents[left] };
+            let (parameter, extent) = bounded(random, source, common, code);
+            Drawn { code, left: left as u32, right: right as u32, parameter, extent }
+        }
+    }
+}
+
+/// The bounds of a line whose operands have this extent in common, if its code
+/// has any, and the extent that they leave.
+fn bounded(random: &mut Random, source: &Source, common: Extent, code: u32) -> (Parameter, Extent) {
+    match code {
+        3 | 4 | 8 => (Parameter::Nothing, common),
+        6 | 7 | 11 | 15 => {
+            let (lower, upper) = distance_bounds(random, &source.weights);
+            let widest = if code == WITHOUT_ISLANDS { source.widest } else { GREATEST };
+            (Parameter::Bounds(lower.min(widest), upper.min(widest)), common)
         }
         _ => {
             let (lower, upper) = time_bounds(random, common.length());
             let looks_back = code >= 12;
             let extent =
                 if looks_back { common.begins_later(upper) } else { common.ends_sooner(upper) };
-            (sheet.bounds(lower, upper), extent)
+            (Parameter::Bounds(lower, upper), extent)
         }
     }
 }
@@ -129,10 +180,10 @@ fn time_bounds(random: &mut Random, length: usize) -> (u32, u32) {
     (lower as u32, upper as u32)
 }
 
-/// Bounds of distance: empty, equal, huge, or near sums of the sheet's weights.
-fn distance_bounds(random: &mut Random, source: &Source) -> (u32, u32) {
+/// Bounds of distance: empty, equal, huge, or near sums of a network's weights.
+pub fn distance_bounds(random: &mut Random, weights: &[u32]) -> (u32, u32) {
     let near = |random: &mut Random| {
-        let weight = if source.weights.is_empty() { 1 } else { random.pick(&source.weights) };
+        let weight = if weights.is_empty() { 1 } else { random.pick(weights) };
         let sum = u64::from(weight) * random.below(4) as u64;
         (sum as u32).min(GREATEST)
     };

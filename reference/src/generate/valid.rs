@@ -2,7 +2,7 @@
 
 use super::network::{self, Triple};
 use super::random::Random;
-use super::table;
+use super::{runs, table};
 use crate::builder::SheetBuilder;
 use crate::sheet::{GREATEST_WEIGHT, MOST_LINES, MOST_PLACES, MOST_SAMPLES, MOST_SIGNALS};
 
@@ -15,6 +15,9 @@ pub const MOST: i32 = 67_108_863;
 /// Counts of samples around powers of two. An engine that takes samples in
 /// blocks goes wrong, if it does, at the edge of one.
 const AROUND_BLOCKS: [usize; 15] = [9, 15, 16, 17, 31, 32, 33, 47, 48, 49, 63, 64, 65, 127, 129];
+
+/// The most places in a ball of code 7 on the largest sheet, the centre included.
+const PLACES_IN_LARGEST: usize = 3;
 
 /// How large a sheet is to be.
 #[derive(Clone, Copy, Debug)]
@@ -73,20 +76,23 @@ pub fn sheet_to_damage(random: &mut Random, most_places: usize) -> Vec<u32> {
 
 /// The words of a sheet with places, signals and samples all at their limits,
 /// a million words long. Its lines are always the same, so that each such sheet
-/// has until, somewhere, surround and since over all of it.
+/// has until, somewhere, both surrounds and since over all of it; the surround
+/// without islands has few places in each ball, as it makes a run for each.
 pub fn largest_sheet(random: &mut Random) -> Vec<u32> {
     let roads = network::roads_in_circles(random, MOST_PLACES);
     let numbers = Numbers::Small;
     let readings = readings(random, numbers, MOST_PLACES * MOST_SIGNALS * MOST_SAMPLES);
     let weights = roads.iter().map(|road| road.2);
     let near = weights.max().map_or(1, |weight| (2 * weight).min(GREATEST_WEIGHT));
+    let nearest = runs::widest_of(MOST_PLACES, &roads, PLACES_IN_LARGEST);
     let last_signal = MOST_SIGNALS as u32 - 1;
     recorded((MOST_PLACES, MOST_SIGNALS, MOST_SAMPLES), &roads, &readings)
         .at_least(0, numbers.draw(random))
         .at_most(last_signal, numbers.draw(random))
         .bounded(5, 0, 1, (1, random.field(1, 9)))
         .bounded(6, 1, 0, (1, near))
-        .bounded(7, 0, 3, (0, near))
+        .bounded(15, 0, 3, (0, near))
+        .bounded(7, 0, 3, (0, nearest))
         .bounded(12, 0, 1, (1, random.field(1, 9)))
         .end()
 }
@@ -103,6 +109,7 @@ fn sheet_of(random: &mut Random, sizes: Sizes) -> Vec<u32> {
         numbers,
         readings: &readings,
         weights: roads.iter().map(|road| road.2).collect(),
+        widest: runs::widest(random, places, samples, &roads),
     };
     table::lines(random, sheet, &source, lines).end()
 }
@@ -147,10 +154,10 @@ fn sizes(random: &mut Random, most_places: usize) -> Sizes {
         },
         38..=39 => Sizes { places: most_places, samples: random.count(1, 2), ..small },
         40..=42 => Sizes {
-            samples: random.pick(&[100, MOST_SAMPLES - 1, MOST_SAMPLES]),
+            samples: random.pick(&[100, MOST_SAMPLES - 1, MOST_SAMPLES, MOST_SAMPLES]),
             places: random.count(1, most_places.min(3)),
             signals: random.pick(&[1, 1, 1, MOST_SIGNALS]),
-            lines: random.count(1, 5),
+            lines: random.count(3, 8),
         },
         43..=46 => Sizes { lines: random.count(MOST_LINES - 4, MOST_LINES), ..small },
         47..=50 => Sizes { signals: MOST_SIGNALS, ..small },

@@ -8,7 +8,7 @@
 mod boolean;
 mod quantitative;
 mod regions;
-mod rounds;
+pub mod rounds;
 
 use crate::distance::Distances;
 use crate::evaluation::Evaluation;
@@ -90,7 +90,7 @@ impl World<'_> {
 }
 
 /// Where a formula is looked at: the sample, the place, and for a surround the
-/// regions that place allows (no formula of another code asks for them).
+/// regions that its code allows there (no formula of another code asks for them).
 struct Point<'a> {
     sample: usize,
     place: usize,
@@ -115,12 +115,17 @@ fn verdicts(world: &World, line: &Line) -> Verdicts {
 }
 
 /// The regions of a surround at one centre. They do not depend on the sample,
-/// so they are enumerated once.
+/// so they are enumerated once. "For code 7 a region with an empty boundary no
+/// longer counts"; code 15 has "the former reading".
 fn allowed_regions(world: &World, operator: &Operator, centre: usize) -> Vec<Region> {
+    let allowed = |bounds| regions::allowed(&world.neighbours, world.distances, centre, bounds);
     match *operator {
         Operator::Surround { bounds, .. } => {
-            regions::allowed(&world.neighbours, world.distances, centre, bounds)
+            let mut regions = allowed(bounds);
+            regions.retain(|region| !region.is_island());
+            regions
         }
+        Operator::SurroundOrIsland { bounds, .. } => allowed(bounds),
         _ => Vec::new(),
     }
 }

@@ -25,7 +25,7 @@ pub fn margin(world: &World, operator: &Operator, point: &Point) -> Margin {
         Operator::And { left, right } => here(left).min(here(right)),
         Operator::Until { left, right, bounds } => until(sample, bounds, then(left), then(right)),
         Operator::Somewhere { left, bounds } => somewhere(world, place, bounds, there(left)),
-        Operator::Surround { left, right, .. } => {
+        Operator::Surround { left, right, .. } | Operator::SurroundOrIsland { left, right, .. } => {
             surround(point.regions, there(left), there(right))
         }
         Operator::Or { left, right } => here(left).negate().min(here(right).negate()).negate(),

@@ -23,11 +23,16 @@ impl Region {
     pub fn boundary(&self) -> impl Iterator<Item = usize> {
         places_of(self.boundary)
     }
+
+    /// Whether nothing is around it.
+    pub fn is_island(&self) -> bool {
+        self.boundary().next().is_none()
+    }
 }
 
-/// All regions that a surround at the centre may take: "some region A holds p,
-/// lies within distance 0..upper of p, and every place outside A joined by a
-/// road to a place of A lies within lower..upper of p".
+/// All regions that a surround at the centre may take, islands among them: "some
+/// region A holds p, lies within distance 0..upper of p, and every place outside
+/// A joined by a road to a place of A lies within lower..upper of p".
 pub fn allowed(
     neighbours: &[Vec<usize>],
     distances: &Distances,

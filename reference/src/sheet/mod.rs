@@ -35,7 +35,7 @@ pub const MOST_LINES: usize = 64;
 pub const GREATEST_WEIGHT: u32 = PAYLOAD_MASK;
 
 /// The greatest code of a line.
-pub const LAST_CODE: u32 = 14;
+pub const LAST_CODE: u32 = 15;
 
 /// The sizes a sheet's head tells.
 #[derive(Clone, Copy, Debug, PartialEq, Eq)]

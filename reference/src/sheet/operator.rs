@@ -1,7 +1,7 @@
 //! What a line of the table says.
 
 /// The bounds of a line, both included: of time for codes 5, 9, 10 and 12 to
-/// 14, of distance for codes 6, 7 and 11.
+/// 14, of distance for codes 6, 7, 11 and 15.
 #[derive(Clone, Copy, Debug, PartialEq, Eq)]
 pub struct Bounds {
     /// The lower bound.
@@ -11,7 +11,7 @@ pub struct Bounds {
 }
 
 /// A line's operator with its operands (numbers of earlier lines), signal,
-/// constant and bounds. The cases stand in the order of the codes 0 to 14.
+/// constant and bounds. The cases stand in the order of the codes 0 to 15.
 #[derive(Clone, Copy, Debug, PartialEq, Eq)]
 #[allow(missing_docs)]
 pub enum Operator {
@@ -29,7 +29,7 @@ pub enum Operator {
     Until { left: usize, right: usize, bounds: Bounds },
     /// Code 6.
     Somewhere { left: usize, bounds: Bounds },
-    /// Code 7.
+    /// Code 7: "a region with an empty boundary no longer counts".
     Surround { left: usize, right: usize, bounds: Bounds },
     /// Code 8.
     Or { left: usize, right: usize },
@@ -45,6 +45,9 @@ pub enum Operator {
     Once { left: usize, bounds: Bounds },
     /// Code 14.
     Historically { left: usize, bounds: Bounds },
+    /// Code 15: the surround to which "a boundary may be empty", so that a place
+    /// that nothing surrounds may hold as an island.
+    SurroundOrIsland { left: usize, right: usize, bounds: Bounds },
 }
 
 /// Which way a line looks from its own samples.
@@ -59,7 +62,7 @@ pub enum Reach {
 }
 
 impl Operator {
-    /// The code that the operator is written with, 0 to 14.
+    /// The code that the operator is written with, 0 to 15.
     pub fn code(&self) -> u32 {
         match self {
             Operator::True => 0,
@@ -77,6 +80,7 @@ impl Operator {
             Operator::Since { .. } => 12,
             Operator::Once { .. } => 13,
             Operator::Historically { .. } => 14,
+            Operator::SurroundOrIsland { .. } => 15,
         }
     }
 
@@ -95,7 +99,8 @@ impl Operator {
             | Operator::Until { left, right, .. }
             | Operator::Surround { left, right, .. }
             | Operator::Or { left, right }
-            | Operator::Since { left, right, .. } => [Some(left), Some(right)],
+            | Operator::Since { left, right, .. }
+            | Operator::SurroundOrIsland { left, right, .. } => [Some(left), Some(right)],
         }
     }
 
@@ -110,7 +115,17 @@ impl Operator {
             | Operator::Everywhere { bounds, .. }
             | Operator::Since { bounds, .. }
             | Operator::Once { bounds, .. }
-            | Operator::Historically { bounds, .. } => Some(bounds),
+            | Operator::Historically { bounds, .. }
+            | Operator::SurroundOrIsland { bounds, .. } => Some(bounds),
+            _ => None,
+        }
+    }
+
+    /// Left, right and bounds of a surround of either code.
+    pub fn surround(&self) -> Option<(usize, usize, Bounds)> {
+        match *self {
+            Operator::Surround { left, right, bounds }
+            | Operator::SurroundOrIsland { left, right, bounds } => Some((left, right, bounds)),
             _ => None,
         }
     }

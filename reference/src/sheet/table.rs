@@ -75,7 +75,7 @@ impl Fields {
         match self.code {
             1 | 2 => (Role::Signal, Role::Unused),
             3 | 6 | 9 | 10 | 11 | 13 | 14 => (Role::Operand, Role::Unused),
-            4 | 5 | 7 | 8 | 12 => (Role::Operand, Role::Operand),
+            4 | 5 | 7 | 8 | 12 | 15 => (Role::Operand, Role::Operand),
             _ => (Role::Unused, Role::Unused),
         }
     }
@@ -90,7 +90,7 @@ fn operator(reader: &mut Reader, fields: Fields) -> Result<Operator, Refusal> {
         3 => Operator::Not { left },
         4 => Operator::And { left, right },
         8 => Operator::Or { left, right },
-        5..=7 | 9..=14 => bounded(fields, bounds(reader)?),
+        5..=7 | 9..=15 => bounded(fields, bounds(reader)?),
         _ => Operator::True,
     })
 }
@@ -107,7 +107,8 @@ fn bounded(fields: Fields, bounds: Bounds) -> Operator {
         11 => Operator::Everywhere { left, bounds },
         12 => Operator::Since { left, right, bounds },
         13 => Operator::Once { left, bounds },
-        _ => Operator::Historically { left, bounds },
+        14 => Operator::Historically { left, bounds },
+        _ => Operator::SurroundOrIsland { left, right, bounds },
     }
 }
 
@@ -119,7 +120,7 @@ fn constant(reader: &mut Reader) -> Result<i32, Refusal> {
     Ok(words::signed27(word))
 }
 
-/// Codes 5, 6, 7 and 9 to 14 "are followed by kind 6, the lower bound, and kind
+/// Codes 5, 6, 7 and 9 to 15 "are followed by kind 6, the lower bound, and kind
 /// 7, the upper, each 28 bits, lower at most upper".
 fn bounds(reader: &mut Reader) -> Result<Bounds, Refusal> {
     let lower = words::payload(reader.expect(kinds::LOWER, Fault::Parameter)?);

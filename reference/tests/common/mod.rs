@@ -118,6 +118,14 @@ pub const LOOKING_BACK: [u32; 17] = [
     0xF0000010,
 ];
 
+/// The 18 words of the example with and without islands: two places, left (5, 6)
+/// in line 0, right (3, 4) in line 1, a surround 0..9 of code 7 and one of 15.
+pub const ISLANDS: [u32; 18] = [
+    0x10202001, 0x20000001, 0x30000001, 0x40000005, 0x40000003, 0x40000006, 0x40000004, 0x50100000,
+    0x80000000, 0x50100400, 0x80000000, 0x50700001, 0x60000000, 0x70000009, 0x50F00001, 0x60000000,
+    0x70000009, 0xF0000011,
+];
+
 /// Three places in a row with weights 1, two signals, one sample each.
 pub fn row_of_three(left: [i32; 3], right: [i32; 3]) -> SheetBuilder {
     SheetBuilder::new(3, 2, 1)

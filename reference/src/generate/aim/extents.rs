@@ -93,7 +93,7 @@ fn uppers(random: &mut Random, extent: Extent) -> (u32, u32) {
 /// Adds a line on two others, of any code that has two operands.
 fn joined(random: &mut Random, sheet: SheetBuilder, (one, other): (u32, u32)) -> SheetBuilder {
     let (left, right) = random.pick(&[(one, other), (other, one)]);
-    let code = random.pick(&[4, 5, 7, 8, 12]);
+    let code = random.pick(&[4, 5, 7, 8, 12, 15]);
     let upper = random.pick(&[0, 0, 1, GREATEST]);
     match code {
         4 | 8 => sheet.line(code, left, right),

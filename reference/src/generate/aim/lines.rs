@@ -31,7 +31,7 @@ pub fn line_count(random: &mut Random, mut words: Vec<u32>) -> Option<Vec<u32>> 
     Some(words)
 }
 
-/// 11: a code above 14, a signal not below v, an operand that is no earlier
+/// 11: a code above 15, a signal not below v, an operand that is no earlier
 /// line, or an unused field that is not zero.
 pub fn line_word(random: &mut Random, mut words: Vec<u32>) -> Option<Vec<u32>> {
     let lines = line_words(&words);
@@ -45,7 +45,7 @@ pub fn line_word(random: &mut Random, mut words: Vec<u32>) -> Option<Vec<u32>> {
     let (left_from, right_from) = match code {
         0 => (1, 1),
         1 | 2 => (signals, 1),
-        4 | 5 | 7 | 8 | 12 => (earlier, earlier),
+        4 | 5 | 7 | 8 | 12 | 15 => (earlier, earlier),
         _ => (earlier, 1),
     };
     let unknown = random.field(LAST_CODE + 1, 255);

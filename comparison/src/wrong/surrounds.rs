@@ -1,0 +1,199 @@
+//! Engines that read the surround without islands (code 7) or the one with them
+//! (code 15) wrongly.
+
+use super::caught;
+use super::evaluator::{self, Trapped};
+use super::traps::found_alone;
+use crate::{laws, steadiness, Engine, Filled, Implementation};
+use reference::distance::Distances;
+use reference::evaluation::Evaluation;
+use reference::fast::Fast;
+use reference::margin::{Margin, Verdict};
+use reference::sheet::Sheet;
+use reference::words::{self, kinds};
+
+#[test]
+fn an_island_is_surrounded() {
+    assert!(caught(&Trapped::<{ evaluator::ISLANDS_COUNTED }>).is_some());
+}
+
+/// The margin is right, and where it is 0 an island makes it a yes.
+#[test]
+fn an_island_decides_a_verdict() {
+    assert!(caught(&Trapped::<{ evaluator::ISLANDS_AT_ZERO }>).is_some());
+}
+
+/// It never has the greatest result, but it may have the most rounds.
+#[test]
+fn the_centre_itself_cut_out() {
+    assert!(caught(&Trapped::<{ evaluator::RUN_OF_CENTRE }>).is_some());
+}
+
+/// What lies beyond never has the greatest result alone.
+#[test]
+fn runs_within_the_ball_alone() {
+    assert!(caught(&Trapped::<{ evaluator::RUNS_OF_BALL }>).is_some());
+}
+
+#[test]
+fn runs_of_places_without_a_distance() {
+    assert!(caught(&Trapped::<{ evaluator::RUNS_OF_ALL }>).is_some());
+}
+
+#[test]
+fn runs_of_neighbours_alone() {
+    assert!(caught(&Trapped::<{ evaluator::RUNS_OF_NEIGHBOURS }>).is_some());
+}
+
+#[test]
+fn rounds_of_the_plain_run() {
+    assert!(caught(&Trapped::<{ evaluator::ROUNDS_OF_PLAIN }>).is_some());
+}
+
+#[test]
+fn rounds_of_the_run_that_decides() {
+    assert!(caught(&Trapped::<{ evaluator::ROUNDS_OF_BEST }>).is_some());
+}
+
+#[test]
+fn a_round_for_a_lone_place() {
+    assert!(caught(&Trapped::<{ evaluator::ROUND_OF_LONE }>).is_some());
+}
+
+#[test]
+fn the_least_of_the_runs() {
+    assert!(caught(&Trapped::<{ evaluator::LEAST_OF_RUNS }>).is_some());
+}
+
+#[test]
+fn the_last_of_the_runs() {
+    assert!(caught(&Trapped::<{ evaluator::LAST_OF_RUNS }>).is_some());
+}
+
+#[test]
+fn right_cut_out_in_place_of_left() {
+    assert!(caught(&Trapped::<{ evaluator::RIGHT_CUT_OUT }>).is_some());
+}
+
+#[test]
+fn right_cut_out_beside_left() {
+    assert!(caught(&Trapped::<{ evaluator::BOTH_CUT_OUT }>).is_some());
+}
+
+/// An engine that takes some codes for others.
+struct Recoded(fn(u32) -> u32);
+
+impl Engine for Recoded {
+    fn judge(&self, sheet: &[u8], left: Filled) -> u64 {
+        let recoded = |&word: &u32| match words::kind(word) {
+            kinds::LINE => word & !(0xFF << 20) | (self.0)(words::field(word, 27, 20)) << 20,
+            _ => word,
+        };
+        match words::from_bytes(sheet) {
+            Some(words) => {
+                let words: Vec<u32> = words.iter().map(recoded).collect();
+                Implementation.judge(&words::to_bytes(&words), left)
+            }
+            None => Implementation.judge(sheet, left),
+        }
+    }
+
+    fn lookup(&self, answer: &[u8], line: u64, sample: u64, place: u64) -> u64 {
+        Implementation.lookup(answer, line, sample, place)
+    }
+}
+
+#[test]
+fn the_two_codes_exchanged() {
+    let exchanged = |code: u32| match code {
+        7 => 15,
+        15 => 7,
+        _ => code,
+    };
+    assert!(caught(&Recoded(exchanged)).is_some());
+}
+
+#[test]
+fn one_reading_for_both_codes() {
+    assert!(caught(&Recoded(|code| if code == 15 { 7 } else { code })).is_some());
+    assert!(caught(&Recoded(|code| if code == 7 { 15 } else { code })).is_some());
+}
+
+#[test]
+fn the_first_code_that_there_is_not_taken() {
+    assert!(caught(&Recoded(|code| if code == 16 { 15 } else { code })).is_some());
+    assert!(caught(&Recoded(|code| if code == 16 { 0 } else { code })).is_some());
+}
+
+/// The lowest four bits of a code.
+#[test]
+fn codes_that_run_over() {
+    assert!(caught(&Recoded(|code| code & 0xF)).is_some());
+}
+
+/// The laws alone find what goes wrong with verdicts and margins, and tell the
+/// sheet. Of rounds they say nothing.
+#[test]
+fn faults_that_break_a_law() {
+    let found = |engine: &dyn Engine| found_alone(engine, laws::check);
+    assert_eq!(found(&Trapped::<{ evaluator::ISLANDS_COUNTED }>), Some(1));
+    assert_eq!(found(&Trapped::<{ evaluator::RUNS_OF_ALL }>), Some(1));
+    assert_eq!(found(&Trapped::<{ evaluator::RUNS_OF_NEIGHBOURS }>), Some(1));
+    assert_eq!(found(&Trapped::<{ evaluator::LEAST_OF_RUNS }>), Some(1));
+    assert_eq!(found(&Trapped::<{ evaluator::LAST_OF_RUNS }>), Some(1));
+    assert_eq!(found(&Trapped::<{ evaluator::RIGHT_CUT_OUT }>), Some(1));
+    assert_eq!(found(&Trapped::<{ evaluator::BOTH_CUT_OUT }>), Some(1));
+    assert_eq!(found(&Recoded(|code| if code == 15 { 7 } else { code })), Some(1));
+    assert_eq!(found(&Recoded(|code| if code == 7 { 15 } else { code })), Some(1));
+}
+
+/// Right, but for the margins of surrounds of one code, which are twice what they
+/// should be.
+struct Doubled<const CODE: u32> {
+    right: Fast,
+    codes: Vec<u32>,
+}
+
+impl<const CODE: u32> Evaluation for Doubled<CODE> {
+    fn evaluate(sheet: &Sheet, distances: &Distances) -> Self {
+        let codes = sheet.lines.iter().map(|line| line.operator.code()).collect();
+        Doubled { right: Fast::evaluate(sheet, distances), codes }
+    }
+
+    fn verdict(&self, line: usize, sample: usize, place: usize) -> Verdict {
+        let verdict = self.right.verdict(line, sample, place);
+        match verdict.margin {
+            // Twice as much still has a word.
+            Margin::Finite(number) if self.codes[line] == CODE && number.abs() < 1 << 26 => {
+                Verdict { margin: Margin::Finite(2 * number), ..verdict }
+            }
+            _ => verdict,
+        }
+    }
+
+    fn rounds(&self) -> u64 {
+        self.right.rounds()
+    }
+}
+
+/// An engine over this evaluator.
+struct Doubling<const CODE: u32>;
+
+impl<const CODE: u32> Engine for Doubling<CODE> {
+    fn judge(&self, sheet: &[u8], left: Filled) -> u64 {
+        let Filled { distances, answer, result } = left;
+        reference::judge::<Doubled<CODE>>(sheet, distances, answer, result)
+    }
+
+    fn lookup(&self, answer: &[u8], line: u64, sample: u64, place: u64) -> u64 {
+        Implementation.lookup(answer, line, sample, place)
+    }
+}
+
+/// "Both readings are to be steady": steadiness alone finds it of either code, and
+/// tells both sheets.
+#[test]
+fn a_surround_that_is_not_steady() {
+    assert_eq!(found_alone(&Doubling::<7>, steadiness::check), Some(2));
+    assert_eq!(found_alone(&Doubling::<15>, steadiness::check), Some(2));
+}
