@@ -25,6 +25,13 @@
  * Threads. Calls may run side by side. They may share a sheet in judge(), or an
  * answer in lookup(), as long as nobody writes to it; each call of judge() has
  * lent buffers of its own.
+ *
+ * Surrounds. A line of code 7, "left surrounded by right", asks for a region with
+ * left that has a boundary, and right on all of it. A region with nothing around
+ * it does not count: a place that no road leads to is not surrounded, no at minus
+ * infinity. For a line of code 15 such an island counts as well, by its left
+ * alone. Code 7 takes about as many times as long as code 15 as places lie within
+ * the upper bound, which should therefore be no greater than the condition needs.
  */
 #ifndef TECUHUALMA_H
 #define TECUHUALMA_H
@@ -36,9 +43,9 @@
 extern "C" {
 #endif
 
-#define TECUHUALMA_VERSION "0.2.0"
+#define TECUHUALMA_VERSION "0.3.0"
 #define TECUHUALMA_VERSION_MAJOR 0
-#define TECUHUALMA_VERSION_MINOR 2
+#define TECUHUALMA_VERSION_MINOR 3
 #define TECUHUALMA_VERSION_PATCH 0
 
 /* The limits of a sheet. */
@@ -75,7 +82,7 @@ enum tecuhualma_result {
     TECUHUALMA_NUMBER = 0, /* 0 on acceptance, else why the sheet is refused */
     TECUHUALMA_PLACE = 1,  /* where the fault is, see below; 0 on acceptance */
     TECUHUALMA_WORDS = 2,  /* the words of the answer, head to end */
-    TECUHUALMA_ROUNDS = 3, /* the greatest rounds of a surround, 0 without one */
+    TECUHUALMA_ROUNDS = 3, /* the greatest rounds of a surround's run, 0 without a run */
     TECUHUALMA_YES = 4     /* the count of yes verdicts */
 };
 
