@@ -7,7 +7,7 @@ use Rattle.network.specs.Distance.{direct, distance}
 use Rattle.network.specs.Network.{joined, distanceIn, within, reached, other}
 use Rattle.logic.specs.Surround.{greatestRegion, boundary, bounded, allowed, regionValue, surround}
 use Rattle.logic.specs.Iteration.{iterate, masked, except, first, atRest, rounds}
-use Rattle.logic.specs.Table.{windowAt, untilAt, somewhereAt, surroundAt, value, valuesAfter, valueAt}
+use Rattle.logic.specs.Table.{leastSoFar, untilSoFar, untilAt, somewhereAt, surroundAt, value, valuesAfter, valueAt}
 use Rattle.counting.specs.Totals.{mostBelow, sumBelow}
 use Rattle.logic.specs.Counts.{runRounds, surroundRounds, roundsAt, greatestRounds, yesCount}
 use Rattle.checks.specs.Checked.{isKind}
@@ -25,7 +25,7 @@ use Rattle.lookup.specs.Lookup.{lineStart, saidAt}
 -- with 4,096 distances and 64 answer words lent
 unfoldable pub answerOf : List ℕ → Judged
 unfolding leastOver greatestOver direct distance joined distanceIn within reached other greatestRegion boundary bounded allowed regionValue
-    surround iterate masked except first atRest rounds windowAt untilAt somewhereAt surroundAt value valuesAfter valueAt mostBelow sumBelow
+    surround iterate masked except first atRest rounds leastSoFar untilSoFar untilAt somewhereAt surroundAt value valuesAfter valueAt mostBelow sumBelow
     runRounds surroundRounds roundsAt greatestRounds yesCount isKind codes constantAt boundsAt operatorAt lineAt linesFrom sizesOf headChecked roadChecked
     roadsFrom samplesFrom endChecked checked joins weightAmong network recording distanceTable row concat lineIndex wordsNeeded wordFor
     lineWords headWord answerWords answered judged said lineStart saidAt

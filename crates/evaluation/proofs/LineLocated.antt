@@ -23,9 +23,10 @@ use Rattle.lines.specs.GoodLines as Good
 use Rattle.values.specs.Chain.{chains, chainLattice, chainOpposite, chainMargin, Valid}
 use Rattle.values.specs.Signals.{signalIn, turned}
 use Rattle.values.proofs.ChainWords.{signal-bound, signal-later}
-use Rattle.operators.specs.Reach.{Window}
-use Rattle.operators.specs.Rows.{atomValue, eventuallyAt}
-use Rattle.operators.proofs.Later.{until-later, since-later, eventually-from, once-from}
+use Rattle.operators.specs.Rows.{atomValue}
+use Rattle.windows.specs.Reach.{Window}
+use Rattle.windows.specs.Rows.{eventuallyAt}
+use Rattle.windows.proofs.Later.{until-later, since-later, eventually-from, once-from}
 use Rattle.surrounds.specs.Surround.{surroundIn, surroundRoundsIn}
 use Rattle.verdicts.specs.declared.around.Around.{Around}
 use Rattle.verdicts.specs.declared.around.Around.the-variants.{Surround, Range}
@@ -145,7 +146,7 @@ module _ {s : List ℕ} {L : Layout} {distances words starts firsts : List ℕ} 
         values = λ t l _.
             let sample : back + (t + b .upper) ≡ extent .first + t = omega arith in
             ap₂ (λ (p q : Signal chains). untilAt chains backward p q (b .lower) (b .upper) (t + b .upper) l) (read-from begun) (read-from begun′)
-            ∙ since-later (operand i) (operand j) back (b .lower) (b .upper) (t + b .upper) l (bounds .order) (omega arith)
+            ∙ since-later (operand i) (operand j) back (b .lower) (b .upper) (t + b .upper) l (omega arith)
             ∙ ap (λ (u : ℕ). untilAt chains backward (operand i) (operand j) (b .lower) (b .upper) u l) sample;
         rounds = λ t l _. refl;
       }

@@ -13,6 +13,8 @@ pub mod Monotone
 pub mod Limit
 pub mod Rounds
 pub mod Islands
+pub mod SoFar
+pub mod UntilSays
 pub mod TableKeeps
 pub mod ValueSame
 pub mod Steadiness

@@ -5,27 +5,21 @@ use mathlib.Core.List.{List, [], _∷_}
 use Prim.Native.Nat.{ℕ, _-_, _<_}
 use lib.IntN.{ℤ, _-ℤ_}
 use Rattle.network.specs.Network.{Network, joined, within}
-use Rattle.formulas.specs.Formulas.{Direction, forward, backward, Operator, True, AtLeast, AtMost, Not, And, Until, Somewhere, Surrounded, Or, Eventually, Always, Everywhere, Line, Recording, ConstantIn, ConstantsIn}
-use Rattle.logic.specs.Table.{Reading, Signal, windowAt, untilAt, somewhereAt, surroundAt, value, valuesAfter, valueAt}
+use Rattle.formulas.specs.Formulas.{Direction, Operator, True, AtLeast, AtMost, Not, And, Until, Somewhere, Surrounded, Or, Eventually, Always, Everywhere, Line, Recording, ConstantIn, ConstantsIn}
+use Rattle.logic.specs.Table.{Reading, Signal, away, untilAt, somewhereAt, surroundAt, value, valuesAfter, valueAt}
 use Rattle.counting.specs.Lists.{Each, none, more}
 use Rattle.counting.proofs.Lists.{each-append, each-at}
-use Rattle.logic.proofs.Keeps.{Keeps, least-kept, greatest-kept, surround-kept}
+use Rattle.logic.proofs.Keeps.{Keeps, greatest-kept, surround-kept}
+use Rattle.logic.proofs.SoFar.{until-related}
 
 module _ (R M : Reading) (N : Network) (Rel : R.lattice.Value → M.lattice.Value → Type 0) (K : Keeps R.lattice M.lattice Rel) where
   -- two signals related at every sample and place
   abbrev Alike : Signal R → Signal M → Type 0
   Alike f g = (t l : ℕ) → l < N.places → Rel (f t l) (g t l)
 
-  window-kept : (p q : Signal R) (p′ q′ : Signal M) → Alike p p′ → Alike q q′ → (first last : ℕ) (from to : ℕ → ℕ) (l : ℕ) → l < N.places
-      → Rel (windowAt R p q first last from to l) (windowAt M p′ q′ first last from to l)
-  unfolding windowAt
-  window-kept p q p′ q′ hp hq first last from to l b = greatest-kept R.lattice M.lattice Rel K _ _ _ _
-      (λ u _ _. K.keeps-meet _ _ _ _ (hq u l b) (least-kept R.lattice M.lattice Rel K _ _ _ _ (λ v _ _. hp v l b)))
-
   until-kept : (side : Direction) (p q : Signal R) (p′ q′ : Signal M) → Alike p p′ → Alike q q′ → (lower upper : ℕ) → Alike (untilAt R side p q lower upper) (untilAt M side p′ q′ lower upper)
   unfolding untilAt
-  until-kept forward p q p′ q′ hp hq lower upper t = window-kept p q p′ q′ hp hq _ _ _ _
-  until-kept backward p q p′ q′ hp hq lower upper t = window-kept p q p′ q′ hp hq _ _ _ _
+  until-kept side p q p′ q′ hp hq lower upper t l b = until-related R M Rel K side p q p′ q′ t t l lower _ (λ k _. hp (away side t k) l b) (λ k _. hq (away side t k) l b)
 
   somewhere-kept : (p : Signal R) (p′ : Signal M) → Alike p p′ → (lower upper : ℕ) → Alike (somewhereAt R N p lower upper) (somewhereAt M N p′ lower upper)
   unfolding somewhereAt

@@ -1,14 +1,14 @@
 -- The value of a line depends on its operands within their extents alone: an operator over time looks no further than its upper bound.
 use mathlib.Core.Path.{_≡_, refl, ap, ap₂}
 use mathlib.Core.Bool.{Bool}
-use Prim.Native.Nat.{ℕ, suc, _-_, _<_, _≤_}
+use Prim.Native.Nat.{ℕ, _-_, _<_, _≤_}
 use native.Mathlib.Omega.{arith}
-use lib.Dec.{leb, leb→le}
 use Rattle.network.specs.Network.{Network, joined, within}
 use Rattle.formulas.specs.Formulas.{Direction, forward, backward, Operator, True, AtLeast, AtMost, Not, And, Until, Somewhere, Surrounded, Or, Eventually, Always, Everywhere, Extent, common, looking, extentOf, Recording}
 use Rattle.formulas.proofs.Extents.{Has, has-left, has-right}
-use Rattle.logic.specs.Table.{Reading, Signal, windowAt, untilAt, somewhereAt, surroundAt, opposite, value}
-use Rattle.logic.proofs.Keeps.{same-kept, least-kept, greatest-kept, surround-kept}
+use Rattle.logic.specs.Table.{Reading, Signal, away, untilAt, somewhereAt, surroundAt, opposite, value}
+use Rattle.logic.proofs.Keeps.{same-kept, greatest-kept, surround-kept}
+use Rattle.logic.proofs.SoFar.{until-related}
 
 module _ (R : Reading) (N : Network) where
   abbrev Same : R.lattice.Value → R.lattice.Value → Type 0
@@ -18,25 +18,16 @@ module _ (R : Reading) (N : Network) where
   abbrev AlikeIn : Extent → Signal R → Signal R → Type 0
   AlikeIn e f g = (t l : ℕ) → Has e t → l < N.places → f t l ≡ g t l
 
-  -- a window and what it asks of left lie in the extent
-  window-same : (p q p′ q′ : Signal R) (e : Extent) → AlikeIn e p p′ → AlikeIn e q q′ → (first last : ℕ) (from to : ℕ → ℕ)
-      → ((u : ℕ) → first ≤ u → u ≤ last → Has e u) → ((u v : ℕ) → first ≤ u → u ≤ last → from u ≤ v → v ≤ to u → Has e v)
-      → (l : ℕ) → l < N.places → windowAt R p q first last from to l ≡ windowAt R p′ q′ first last from to l
-  unfolding windowAt
-  window-same p q p′ q′ e hp hq first last from to window path l c = greatest-kept R.lattice R.lattice Same (same-kept R.lattice) (leb first) _ _ (suc last)
-      (λ u b f. let i = leb→le first u f in ap₂ (R.lattice .meet) (hq u l (window u i (omega arith)) c)
-      (least-kept R.lattice R.lattice Same (same-kept R.lattice) (leb (from u)) _ _ _
-      (λ v d g. hp v l (path u v i (omega arith) (leb→le (from u) v g) (omega arith)) c)))
+  -- a sample as far away as the upper bound or nearer lies in the extent
+  looked-at : (side : Direction) (upper t k : ℕ) (e : Extent) → Has (looking side upper e) t → k ≤ upper → Has e (away side t k)
+  looked-at forward upper t k e h near = record { from = omega (arith, h .from); to = omega (arith, h .to) }
+  looked-at backward upper t k e h near = record { from = omega (arith, h .from); to = omega (arith, h .from, h .to) }
 
   until-same : (side : Direction) (p q p′ q′ : Signal R) (e : Extent) → AlikeIn e p p′ → AlikeIn e q q′ → (lower upper : ℕ)
       → AlikeIn (looking side upper e) (untilAt R side p q lower upper) (untilAt R side p′ q′ lower upper)
   unfolding untilAt
-  until-same forward p q p′ q′ e hp hq lower upper t l h c = window-same p q p′ q′ e hp hq _ _ _ _
-      (λ u a b. record { from = omega (arith, h .from); to = omega (arith, h .to) })
-      (λ u v a b d f. record { from = omega (arith, h .from); to = omega (arith, h .to) }) l c
-  until-same backward p q p′ q′ e hp hq lower upper t l h c = window-same p q p′ q′ e hp hq _ _ _ _
-      (λ u a b. record { from = omega (arith, h .from); to = omega (arith, h .to) })
-      (λ u v a b d f. record { from = omega (arith, h .from); to = omega (arith, h .to) }) l c
+  until-same side p q p′ q′ e hp hq lower upper t l h c = until-related R R Same (same-kept R.lattice) side p q p′ q′ t t l lower _
+      (λ k b. hp (away side t k) l (looked-at side upper t k e h (omega arith)) c) (λ k b. hq (away side t k) l (looked-at side upper t k e h (omega arith)) c)
 
   somewhere-same : (p p′ : Signal R) (e : Extent) → AlikeIn e p p′ → (lower upper : ℕ) → AlikeIn e (somewhereAt R N p lower upper) (somewhereAt R N p′ lower upper)
   unfolding somewhereAt

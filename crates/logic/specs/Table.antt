@@ -1,6 +1,6 @@
 -- The meaning of a table of lines, codes 0 to 15 (Definitions 3.1 and 3.4, requests M-100 and M-101), once for verdicts and margins: a reading says what values
 -- are, how they are negated and what an atom is worth by its margin.
-use mathlib.Core.Bool.{Bool, not}
+use mathlib.Core.Bool.{Bool, true, not}
 use mathlib.Core.List.{List, [], _∷_, _++_}
 use Prim.Native.Nat.{ℕ, suc, _+_, _-_}
 use lib.Dec.{leb}
@@ -26,20 +26,28 @@ verdicts = record { lattice = verdictLattice; opposite = not; atom = leZ (pos 0)
 abbrev pub margins : Reading
 margins = record { lattice = marginLattice; opposite = negate; atom = finite }
 
+-- the sample that is k samples later than t, or earlier
+abbrev pub away : Direction → ℕ → ℕ → ℕ
+away forward t k = t + k
+away backward t k = t - k
+
 -- the values of a line: sample, then place
 abbrev pub Signal : Reading → Type 0
 Signal R = ℕ → ℕ → R.lattice.Value
 
 module _ (R : Reading) where
-  -- some sample u from `first` to `last` has right at u and left at every sample from `from u` to `to u`, both included
-  unfoldable pub windowAt : Signal R → Signal R → (first last : ℕ) → (from to : ℕ → ℕ) → ℕ → R.lattice.Value
-  windowAt left right first last from to l = greatestOver R.lattice (leb first)
-      (λ u. R.lattice.meet (right u l) (leastOver R.lattice (leb (from u)) (λ v. left v l) (suc (to u)))) (suc last)
+  -- until reads the samples from t on and since those from t back: after n of them, the least of left so far (M-102)
+  unfoldable pub leastSoFar : Direction → Signal R → (t l n : ℕ) → R.lattice.Value
+  leastSoFar side left t l n = leastOver R.lattice (λ _. true) (λ k. left (away side t k) l) n
 
-  -- until: right at some u from t + lower to t + upper, left from t to u; since: right at some u from t - upper to t - lower, left from u to t
-  unfoldable pub untilAt : Direction → Signal R → Signal R → ℕ → ℕ → Signal R
-  untilAt forward left right lower upper t = windowAt left right (t + lower) (t + upper) (λ _. t) (λ u. u)
-  untilAt backward left right lower upper t = windowAt left right (t - upper) (t - lower) (λ u. u) (λ _. t)
+  -- and the greatest so far of what they offer from the lower bound on: right at a sample, and left at every sample from t to there, both included
+  unfoldable pub untilSoFar : Direction → Signal R → Signal R → (lower t l n : ℕ) → R.lattice.Value
+  untilSoFar side left right lower t l n =
+      greatestOver R.lattice (leb lower) (λ k. R.lattice.meet (right (away side t k) l) (leastSoFar side left t l (suc k))) n
+
+  -- until is what has been found once all samples from t to t + upper are read, and since once those from t back to t - upper are
+  unfoldable pub untilAt : Direction → Signal R → Signal R → (lower upper : ℕ) → Signal R
+  untilAt side left right lower upper t l = untilSoFar side left right lower t l (suc upper)
 
   abbrev pub opposite : Signal R → Signal R
   opposite left t l = R.opposite (left t l)

@@ -1,13 +1,9 @@
--- What the operators compute with stays small: values are at most `highest`, and a window has fewer samples than there are bytes.
+-- What the operators compute with stays small: values are at most `highest`.
 use mathlib.Core.Bool.{Bool}
 use mathlib.Core.List.{List}
-use Prim.Native.Nat.{ℕ, _+_, _*_, _≤_, _<_, zero-le}
-use native.Mathlib.Nat.{le-mul-of-pos-right}
+use Prim.Native.Nat.{ℕ, _+_, _-_, _*_, _≤_, _<_, zero-le}
 use native.Mathlib.Omega.{arith}
 use lib.Dec.{leb}
-use lib.ListN.{length}
-use Rattle.words.specs.Bytes.{wordsOf}
-use Rattle.words.proofs.Words.{words-count}
 use Rattle.words.proofs.Rows.{in-table}
 use Rattle.logic.specs.Lattice.{greatestOver}
 use Rattle.logic.proofs.Keeps.{Keeps, greatest-kept}
@@ -16,10 +12,6 @@ use Rattle.values.specs.Chain.{chainLattice, highest}
 use Rattle.values.specs.Signals.{signalIn, turned}
 use Rattle.values.proofs.Naturals.{leb-trans, leb-total}
 use Rattle.values.proofs.ChainWords.{signal-bound}
-use Rattle.operators.specs.Reach.{Reached}
-use Rattle.operators.specs.Rows.{ahead}
-use Rattle.operators.specs.declared.window.Bounds as Code
-use Rattle.operators.proofs.Windows.{eventually-all}
 use Rattle.operators.proofs.RowLaws.{turned-small}
 
 -- ---- no fold leads beyond `highest`
@@ -38,23 +30,7 @@ greatest-bound test f n h = greatest-kept chainLattice chainLattice (λ c _. c �
 pub turned-bound : (negated : Bool) (words : List ℕ) (start n t l : ℕ) → turned negated (signalIn words start n) t l ≤ highest
 turned-bound negated words start n t l = turned-small negated (signalIn words start n) t l (signal-bound words start n t l)
 
-pub ahead-bound : (negated : Bool) (words : List ℕ) (start n lower upper t l : ℕ) → ahead (turned negated (signalIn words start n)) lower upper t l ≤ highest
-ahead-bound negated words start n lower upper t l =
-    let small : (u : ℕ) → turned negated (signalIn words start n) u l ≤ highest = λ u. turned-bound negated words start n u l in
-    rw (eventually-all (turned negated (signalIn words start n)) l small lower upper t)
-    (greatest-bound (leb (t + lower)) (λ u. turned negated (signalIn words start n) u l) (t + upper + 1) (λ u _. small u))
-
--- ---- what is read is there, and its index fits the machine
+-- ---- and what it reads stands within its sample
 
 pub in-row : (t : ℕ) {l places : ℕ} → l < places → t * places + l < (t + 1) * places
 in-row t {l} {places} b = let sample : t < t + 1 = omega arith in in-table sample b
-
-pub reached-inside : {words : List ℕ} {start places : ℕ} {bounds : Code.Bounds} {t l u : ℕ} → Reached words start places bounds t l → u < t + bounds .upper + 1
-    → start + (u * places + l) < length words
-reached-inside reached before = omega (arith, in-table before (reached .place), reached .window .inside)
-
--- each sample has a word, and a word has bytes
-pub reached-end : (bytes : List ℕ) {start places : ℕ} {bounds : Code.Bounds} {t l : ℕ} → Reached (wordsOf bytes) start places bounds t l → t + bounds .upper + 1 ≤ length bytes
-reached-end bytes {start} {places} {bounds} {t} reached =
-    let some : 0 < places = omega (arith, reached .place) in
-    omega (arith, le-mul-of-pos-right (t + bounds .upper + 1) some, words-count bytes, reached .window .inside)

@@ -1,5 +1,2 @@
 pub mod RowLaws
-pub mod Folds
-pub mod Windows
-pub mod Later
 pub mod Bounds

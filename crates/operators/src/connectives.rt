@@ -8,14 +8,22 @@ ghost use Rattle.values.specs.Chain.{highest};
 ghost use Rattle.values.specs.Signals.{signalIn, turned};
 ghost use Rattle.operators.specs.Rows.{RowLeft, andIn};
 
+// The same number at every place.
+pub fn fill_row(places: usize, number: u32, row: &mut [u32])
+    requires { ⌜ places ≤ length (now row) ⌝ }
+    ensures { λ _. ⌜ RowLeft places (λ _. number) (now (row .entry)) (now (row .exit)) ⌝ }
+{
+    for l in 0..places {
+        row[l] = number;
+    }
+}
+
 // Code 0.
 pub fn true_row(places: usize, row: &mut [u32])
     requires { ⌜ places ≤ length (now row) ⌝ }
     ensures { λ _. ⌜ RowLeft places (λ _. highest) (now (row .entry)) (now (row .exit)) ⌝ }
 {
-    for l in 0..places {
-        row[l] = values::top();
-    }
+    fill_row(places, values::top(), row);
 }
 
 // A signal, or its opposite: code 3.

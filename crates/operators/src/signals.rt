@@ -1,16 +1,14 @@
-// Signals where they stand in the words of an answer: a value, turned or not, and the least between two samples.
+// Signals where they stand in the words of an answer: a value, turned or not.
 ghost use mathlib.Core.Path.{_≡_};
 ghost use Prim.Native.Nat.{_+_, _*_, _≤_, _<_};
-ghost use lib.Dec.{leb};
 ghost use lib.ListN.{length};
 ghost use Rattle.words.specs.Bytes.{wordsOf};
-ghost use Rattle.logic.specs.Lattice.{leastOver};
-ghost use Rattle.values.specs.Chain.{chainLattice, highest};
+ghost use Rattle.values.specs.Chain.{highest};
 ghost use Rattle.values.specs.Signals.{signalIn, turned};
 ghost use Rattle.operators.specs.Rows.{turnedTo};
 
 // A value, or its opposite.
-pub(crate) fn turn(c: u32, negated: bool) -> u32
+pub fn turn(c: u32, negated: bool) -> u32
     requires { ⌜ c ≤ highest ⌝ }
     ensures { λ r. ⌜ r ≡ turnedTo negated c ⌝ }
 {
@@ -18,7 +16,7 @@ pub(crate) fn turn(c: u32, negated: bool) -> u32
 }
 
 // The value of a signal, or its opposite.
-pub(crate) fn turned_at(
+pub fn turned_at(
     words: &[u8],
     start: usize,
     places: usize,
@@ -30,23 +28,4 @@ pub(crate) fn turned_at(
     ensures { λ r. ⌜ r ≡ turned negated (signalIn (wordsOf (now (words .entry))) start places) t l ⌝ }
 {
     turn(values::signal_at(words, start, places, t, l), negated)
-}
-
-// The least value of a signal from sample `first` up to and without sample `end`.
-pub(crate) fn least_between(
-    words: &[u8],
-    start: usize,
-    places: usize,
-    first: usize,
-    end: usize,
-    l: usize,
-) -> u32
-    requires { ⌜ (first ≤ end) × (l < places) × (start + end * places ≤ length (wordsOf (now words))) ⌝ }
-    ensures { λ r. ⌜ r ≡ leastOver chainLattice (leb first) (λ u. signalIn (wordsOf (now (words .entry))) start places u l) end ⌝ }
-{
-    let mut least = values::top();
-    for u in first..end {
-        least = values::lesser(least, values::signal_at(words, start, places, u, l));
-    }
-    least
 }

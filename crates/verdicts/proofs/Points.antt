@@ -2,10 +2,9 @@
 use mathlib.Core.Path.{_≡_, sym, ap, _∙_}
 use mathlib.Core.Bool.{true, false}
 use mathlib.Core.List.{List}
-use Prim.Native.Nat.{ℕ, suc, _+_, _-_, _*_, _≤_, _<_}
+use Prim.Native.Nat.{ℕ, _+_, _-_, _*_, _≤_, _<_}
 use native.Mathlib.Nat.{mul-comm, mul-assoc, mul-le-mul-right}
 use native.Mathlib.Omega.{arith}
-use lib.Dec.{leb}
 use lib.IntN.{ℤ, pos, negsuc, _-ℤ_}
 use lib.ListN.{take, drop}
 use mir.Syntax.{w32}
@@ -16,21 +15,23 @@ use Rattle.words.proofs.Rows.{in-table}
 use Rattle.words.proofs.Words.{words-drop, words-take}
 use Rattle.formulas.specs.Formulas.{InBits}
 use Rattle.network.specs.Network.{Network, joined}
-use Rattle.logic.specs.Table.{windowAt, untilAt, surroundAt}
-use Rattle.logic.proofs.Keeps.{least-kept, surround-kept}
+use Rattle.logic.specs.Table.{surroundAt}
+use Rattle.logic.proofs.Keeps.{surround-kept}
 use Rattle.logic.proofs.Small.{difference-small}
 use Rattle.sheet.specs.declared.check.Layout.{Layout}
 use Rattle.sheet.proofs.Samples.{recording-bits}
-use Rattle.values.specs.Chain.{chains, chainLattice, highest}
+use Rattle.values.specs.Chain.{chainLattice, highest}
 use Rattle.values.specs.Signals.{signalIn}
 use Rattle.values.proofs.Machine.{small-fits}
 use Rattle.values.proofs.Valid.{valid-difference}
 use Rattle.values.proofs.ChainWords.{signal-bound}
-use Rattle.operators.proofs.Bounds.{bounded-kept, meet-bound, greatest-bound, ahead-bound}
+use Rattle.operators.proofs.Bounds.{bounded-kept, meet-bound}
+use Rattle.windows.specs.Rows.{sideOf, presentOf}
+use Rattle.windows.proofs.Bounds.{until-bound, ahead-bound}
 use Rattle.surrounds.specs.declared.surround.Surround.{Surround}
 use Rattle.surrounds.specs.Surround.{surroundIn}
 use Rattle.verdicts.specs.declared.located.RowOperator.{RowOperator}
-use Rattle.verdicts.specs.declared.located.RowOperator.the-variants.{True, Atom, Not, Both, Until, Since, Eventually}
+use Rattle.verdicts.specs.declared.located.RowOperator.the-variants.{True, Atom, Not, Both, Until, Eventually}
 use Rattle.verdicts.specs.Rows.{sheetRecording, rowValue, RowReads}
 
 -- ---- no value is beyond `highest`
@@ -43,19 +44,13 @@ surround-bound words a N t centre =
     surround-kept chainLattice chainLattice (λ c _. c ≤ highest) bounded-kept (joined N) N.places left right left right
     (λ k _. signal-bound words (a .left) N.places t k) (λ k _. signal-bound words (a .right) N.places t k) (a .islands) _ _ centre
 
-window-bound : (words : List ℕ) (left right n first last : ℕ) (from to : ℕ → ℕ) (l : ℕ) → windowAt chains (signalIn words left n) (signalIn words right n) first last from to l ≤ highest
-unfolding windowAt
-window-bound words left right n first last from to l = greatest-bound (leb first) _ (suc last)
-    (λ u _. meet-bound _ _ (signal-bound words right n u l)
-    (least-kept chainLattice chainLattice (λ c _. c ≤ highest) bounded-kept (leb (from u)) _ (λ v. signalIn words left n v l) (suc (to u)) (λ v _ _. signal-bound words left n v l)))
-
 module _ (s : List ℕ) (L : Layout) where
   pub sheet-bits : (x t l : ℕ) → InBits 27 (sheetRecording s L x t l)
   unfolding sheetRecording
   sheet-bits = recording-bits s (L .recording) (L .places) (L .signals)
 
   pub row-bound : (words : List ℕ) (o : RowOperator) (t l : ℕ) → RowReads L words o t → rowValue s L words o t l ≤ highest
-  unfolding rowValue untilAt
+  unfolding rowValue
   row-bound words True t l reads = omega arith
   row-bound words (Atom x c true) t l reads =
       valid-difference (sheetRecording s L x t l -ℤ c) (difference-small (sheetRecording s L x t l) c (sheet-bits x t l) (reads .2)) .bounded
@@ -64,8 +59,8 @@ module _ (s : List ℕ) (L : Layout) where
   row-bound words (Not left) t l reads = omega arith
   row-bound words (Both left right true) t l reads = omega arith
   row-bound words (Both left right false) t l reads = meet-bound _ _ (signal-bound words left (L .places) t l) (signal-bound words right (L .places) t l)
-  row-bound words (Until left right b) t l reads = window-bound words left right (L .places) (t + b .lower) (t + b .upper) (λ _. t) (λ u. u) l
-  row-bound words (Since left right b) t l reads = window-bound words left right (L .places) (t + b .upper - b .upper) (t + b .upper - b .lower) (λ u. u) (λ _. t + b .upper) l
+  row-bound words (Until u) t l reads = until-bound (sideOf (u .backward)) (signalIn words (u .left) (L .places)) (signalIn words (u .right) (L .places)) (u .bounds .lower) (u .bounds .upper) (presentOf u t) l
+      (λ v. signal-bound words (u .left) (L .places) v l) (λ v. signal-bound words (u .right) (L .places) v l)
   row-bound words (Eventually left b true) t l reads = omega arith
   row-bound words (Eventually left b false) t l reads = ahead-bound false words left (L .places) (b .lower) (b .upper) t l
 

@@ -13,7 +13,7 @@ use Rattle.lines.specs.declared.operator.Operator.{Operator}
 use Rattle.lines.specs.declared.operator.Operator.the-variants as Read
 use Rattle.lines.specs.declared.line.Line.{Line}
 use Rattle.verdicts.specs.declared.around.Around.the-variants.{Surround, Range}
-use Rattle.verdicts.specs.declared.located.RowOperator.the-variants.{True, Atom, Not, Both, Until, Since, Eventually}
+use Rattle.verdicts.specs.declared.located.RowOperator.the-variants.{True, Atom, Not, Both, Until, Eventually}
 use Rattle.verdicts.specs.declared.located.Located.{Located}
 use Rattle.verdicts.specs.declared.located.Located.the-variants.{Rows, Blocks}
 
@@ -33,8 +33,8 @@ module _ (starts firsts : List ℕ) (places : ℕ) where
     bothLocated left right dual = Rows (Both (startAt first left) (startAt first right) dual)
 
     abbrev pub untilLocated : Direction → ℕ → ℕ → Bounds → Located
-    untilLocated Forward left right b = Rows (Until (startAt first left) (startAt first right) b)
-    untilLocated Backward left right b = Rows (Since (startAt (first - b .upper) left) (startAt (first - b .upper) right) b)
+    untilLocated Forward left right b = Rows (Until (record { left = startAt first left; right = startAt first right; bounds = b; backward = false }))
+    untilLocated Backward left right b = Rows (Until (record { left = startAt (first - b .upper) left; right = startAt (first - b .upper) right; bounds = b; backward = true }))
 
     abbrev pub eventuallyLocated : Direction → ℕ → Bounds → Bool → Located
     eventuallyLocated Forward left b dual = Rows (Eventually (startAt first left) b dual)

@@ -15,10 +15,11 @@ use Rattle.checks.specs.Limits.{mostPlaces, mostSignals, mostSamples}
 use Rattle.sheet.specs.Recording.{recordingOf}
 use Rattle.values.specs.Chain.{chains, chainWord, chainVerdict}
 use Rattle.values.specs.Signals.{signalIn}
-use Rattle.operators.specs.Reach.{Window}
-use Rattle.operators.specs.Rows.{Filled, atomValue, andIn, untilIn, sinceIn, eventuallyIn}
+use Rattle.operators.specs.Rows.{Filled, atomValue, andIn}
+use Rattle.windows.specs.Reach.{Window}
+use Rattle.windows.specs.Rows.{untilIn, eventuallyIn}
 use Rattle.verdicts.specs.declared.located.RowOperator.{RowOperator}
-use Rattle.verdicts.specs.declared.located.RowOperator.the-variants.{True, Atom, Not, Both, Until, Since, Eventually}
+use Rattle.verdicts.specs.declared.located.RowOperator.the-variants.{True, Atom, Not, Both, Until, Eventually}
 use Rattle.samples.specs.declared.tally.Tally.{Tally}
 use Rattle.samples.specs.Written.{SamplesWritten}
 
@@ -34,8 +35,7 @@ module _ (s : List ℕ) (L : Layout) where
     rowValue (Atom signal c atleast) = λ t l. atomValue atleast (sheetRecording signal t l) c
     rowValue (Not left) = opposite chains (signalIn words left (L .places))
     rowValue (Both left right dual) = andIn words (L .places) dual left right
-    rowValue (Until left right b) = untilIn words (L .places) left right (b .lower) (b .upper)
-    rowValue (Since left right b) = sinceIn words (L .places) left right (b .lower) (b .upper)
+    rowValue (Until u) = untilIn words (L .places) u
     rowValue (Eventually left b dual) = eventuallyIn words (L .places) dual left (b .lower) (b .upper)
 
 -- ---- what they are made from
@@ -57,8 +57,7 @@ RowReads L words True t = Unit {0}
 RowReads L words (Atom signal c atleast) t = (signal < L .signals) × (t < L .samples) × InBits 27 c
 RowReads L words (Not left) t = There L words left t
 RowReads L words (Both left right dual) t = There L words left t × There L words right t
-RowReads L words (Until left right b) t = Window words left (L .places) (b .lower) (b .upper) t × Window words right (L .places) (b .lower) (b .upper) t
-RowReads L words (Since left right b) t = Window words left (L .places) (b .lower) (b .upper) t × Window words right (L .places) (b .lower) (b .upper) t
+RowReads L words (Until u) t = Window words (u .left) (L .places) (u .bounds .lower) (u .bounds .upper) t × Window words (u .right) (L .places) (u .bounds .lower) (u .bounds .upper) t
 RowReads L words (Eventually left b dual) t = Window words left (L .places) (b .lower) (b .upper) t
 
 -- a row of values at sample t can be made of one that holds those at the sample before, if there is one

@@ -10,12 +10,14 @@ use lines::operator::Direction;
 use lines::operator::Operator;
 use ranges::Range;
 use surrounds::surround::Surround;
+use windows::until::Until;
 ghost use mathlib.Core.Path.{_≡_};
 ghost use Prim.Native.Nat.{_-_};
 ghost use lib.ListN.{getD};
 ghost use Rattle.verdicts.specs.Located.{StartsLow, startAt, bothLocated, untilLocated, eventuallyLocated, surroundLocated, rangeLocated, locatedOf};
 
-// What is evaluated sample by sample. Operands are the indices from which their signals are read. Or is the dual of and, always that of eventually.
+// What is evaluated sample by sample. Operands are the indices from which their signals are read. Since is until looking back, or the dual of and,
+// always that of eventually.
 pub enum RowOperator {
     True,
     Atom {
@@ -31,16 +33,7 @@ pub enum RowOperator {
         right: usize,
         dual: bool,
     },
-    Until {
-        left: usize,
-        right: usize,
-        bounds: Bounds,
-    },
-    Since {
-        left: usize,
-        right: usize,
-        bounds: Bounds,
-    },
+    Until(Until),
     Eventually {
         left: usize,
         bounds: Bounds,
@@ -131,18 +124,20 @@ fn until(
     ensures { λ r. ⌜ r ≡ untilLocated (now (starts .entry)) (now (firsts .entry)) (origin .places) (origin .sample) direction left right bounds ⌝ }
 {
     match direction {
-        Direction::Forward => Located::Rows(RowOperator::Until {
+        Direction::Forward => Located::Rows(RowOperator::Until(Until {
             left: start_of(starts, firsts, left, origin),
             right: start_of(starts, firsts, right, origin),
             bounds,
-        }),
+            backward: false,
+        })),
         Direction::Backward => {
             let back = earlier(origin, bounds.upper);
-            Located::Rows(RowOperator::Since {
+            Located::Rows(RowOperator::Until(Until {
                 left: start_of(starts, firsts, left, back),
                 right: start_of(starts, firsts, right, back),
                 bounds,
-            })
+                backward: true,
+            }))
         }
     }
 }

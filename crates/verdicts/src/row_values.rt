@@ -4,10 +4,9 @@ use operators::atoms::atom_row;
 use operators::connectives::and_row;
 use operators::connectives::true_row;
 use operators::connectives::turned_row;
-use operators::eventually::eventually_row;
-use operators::since::since_row;
-use operators::until::until_row;
 use sheet::check::Layout;
+use windows::eventually::eventually_row;
+use windows::until::until_row;
 ghost use Prim.Native.Nat.{_≤_, _<_};
 ghost use lib.ListN.{length};
 ghost use Rattle.words.specs.Bytes.{wordsOf};
@@ -64,18 +63,9 @@ pub(crate) fn value_row(
         } => recorded_row(sheet, layout, signal, constant, atleast, t, row),
         RowOperator::Not { left } => turned_row(words, left, n, true, t, row),
         RowOperator::Both { left, right, dual } => and_row(words, left, right, n, dual, t, row),
-        RowOperator::Until {
-            left,
-            right,
-            bounds,
-        } => until_row(words, left, right, n, bounds.lower, bounds.upper, t, row),
-        RowOperator::Since {
-            left,
-            right,
-            bounds,
-        } => since_row(words, left, right, n, bounds.lower, bounds.upper, t, row),
+        RowOperator::Until(until) => until_row(words, until, n, t, row),
         RowOperator::Eventually { left, bounds, dual } => {
-            eventually_row(words, left, n, bounds.lower, bounds.upper, dual, t, row)
+            eventually_row(words, left, n, bounds, dual, t, row)
         }
     }
 }

@@ -1,9 +1,10 @@
 -- By the direction: the starts of both operands are found, to look back those of the upper bound earlier.
 use mathlib.Core.Path.{_≡_, sym, ap, ap₂, subst, _∙_}
+use mathlib.Core.Bool.{true, false}
 use Prim.Native.Nat.{ℕ, _-_}
 use Rattle.lines.specs.declared.operator.Direction.{Direction}
 use Rattle.verdicts.specs.declared.located.Origin.{Origin}
-use Rattle.verdicts.specs.declared.located.RowOperator.the-variants.{Until, Since}
+use Rattle.verdicts.specs.declared.located.RowOperator.the-variants.{Until}
 use Rattle.verdicts.specs.declared.located.Located.the-variants.{Rows}
 use Rattle.verdicts.specs.Located.{StartsLow, startAt, untilLocated}
 use borrow.Author.Needs.{needs}
@@ -34,13 +35,13 @@ from c operand =
 returns : tie.Need-returns
 returns c =
     let start = c .before .before .before .before .before .before in
-    ap₂ (λ (left right : ℕ). Rows (Until left right (start .args .bounds))) (c .before .start-of .ensures) (c .start-of2 .ensures) ∙ by-direction start (c .before .before .enum-told .given .1)
+    ap₂ (λ (left right : ℕ). Rows (Until (record { left = left; right = right; bounds = start .args .bounds; backward = false }))) (c .before .start-of .ensures) (c .start-of2 .ensures) ∙ by-direction start (c .before .before .enum-told .given .1)
 
 returns-2 : tie.Need-returns-2
 returns-2 c =
     let back = c .before .before in
     let start = back .before .before .before .before .before in
-    ap₂ (λ (left right : ℕ). Rows (Since left right (start .args .bounds)))
+    ap₂ (λ (left right : ℕ). Rows (Until (record { left = left; right = right; bounds = start .args .bounds; backward = true })))
     (c .before .start-of3 .ensures ∙ from back (start .args .left)) (c .start-of4 .ensures ∙ from back (start .args .right))
     ∙ by-direction start (back .before .enum-told2 .given .1)
 

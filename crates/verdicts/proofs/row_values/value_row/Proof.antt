@@ -47,12 +47,9 @@ and-row-requires c κs = let here = ready (c .before .before .before .before) (c
 until-row-requires : tie.Need-until-row-requires
 until-row-requires c κs = let here = ready (c .before .before .before .before) (c .before .before .operator4 .given .1) in (here .reads .0, here .reads .1, here .room)
 
-since-row-requires : tie.Need-since-row-requires
-since-row-requires c κs = let here = ready (c .before .before .before .before) (c .before .before .operator5 .given .1) in (here .reads .0, here .reads .1, here .room)
-
 eventually-row-requires : tie.Need-eventually-row-requires
 unfolding rowValue
-eventually-row-requires c κs = let here = ready (c .before .before .before .before) (c .before .before .operator6 .given .1) in (here .reads, here .room, here .former)
+eventually-row-requires c κs = let here = ready (c .before .before .before .before) (c .before .before .operator5 .given .1) in (here .reads, here .room, here .former)
 
 returns : tie.Need-returns
 unfolding rowValue
@@ -81,11 +78,7 @@ returns-5 c = told (c .before .before .before .before .before .before .before) (
 
 returns-6 : tie.Need-returns-6
 unfolding rowValue
-returns-6 c = told (c .before .before .before .before .before .before .before) (c .before .before .before .before .before .operator5 .given .1) (c .before .before .since-row .ensures)
-
-returns-7 : tie.Need-returns-7
-unfolding rowValue
-returns-7 c = told (c .before .before .before .before .before .before .before) (c .before .before .before .before .before .operator6 .given .1) (c .before .before .eventually-row .ensures)
+returns-6 c = told (c .before .before .before .before .before .before .before) (c .before .before .before .before .before .operator5 .given .1) (c .before .before .eventually-row .ensures)
 
 pub value-row-spec : {M : Type 1} → statement M
 value-row-spec =
@@ -102,8 +95,6 @@ value-row-spec =
     (λ c. search needs)
     until-row-requires
     (λ c. search needs)
-    since-row-requires
-    (λ c. search needs)
     eventually-row-requires
     (λ c. search needs)
     returns
@@ -116,6 +107,4 @@ value-row-spec =
     (λ c. search needs)
     returns-5
     (λ c. search needs)
-    returns-6
-    (λ c. search needs)
-    returns-7)
+    returns-6)

@@ -1,0 +1,4 @@
+pub mod Reach
+pub mod Rows
+pub mod Groups
+pub mod Carried
