@@ -8,6 +8,7 @@ use reference::generate::random::Random;
 use reference::generate::{aim, case, valid, Case};
 use reference::page;
 use reference::print::ANSWER_WORDS;
+use reference::worked;
 
 /// Networks have at most so many places.
 const MOST_PLACES: usize = 64;
@@ -62,12 +63,14 @@ impl<'a> Comparison<'a> {
         Ok(())
     }
 
-    /// The sheets of the page for newcomers. The implementation's own tests hold
-    /// the page to what it gives, so here it is enough to be the same.
-    pub fn page(&mut self) -> Checked {
+    /// The sheets of the page for newcomers and those worked out beside it. The
+    /// implementation's own tests hold them to what they say, so here it is enough
+    /// to be the same.
+    pub fn worked(&mut self) -> Checked {
         let mut random = Random::new(0);
-        for label in page::SHEETS {
-            let case = Case::of(&page::words(label), ANSWER_WORDS);
+        let on_page = page::SHEETS.map(page::words);
+        for words in on_page.iter().map(Vec::as_slice).chain(worked::SHEETS) {
+            let case = Case::of(words, ANSWER_WORDS);
             self.judge(&mut random, &case)?;
             if let Some(printer) = self.printer {
                 printing::compare(printer, &case.sheet, &mut self.reached)?;

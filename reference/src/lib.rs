@@ -37,6 +37,7 @@ pub mod print;
 pub mod refusal;
 pub mod sheet;
 pub mod words;
+pub mod worked;
 
 pub use judge::judge;
 pub use lookup::lookup;

@@ -6,7 +6,7 @@ use common::*;
 use reference::answer::Answer;
 use reference::fast::Fast;
 use reference::generate::random::Random;
-use reference::generate::{aim, answers, case, islands, limits, rounds, valid, Case};
+use reference::generate::{aim, answers, case, islands, limits, rounds, valid, windows, Case};
 use reference::sheet::{check, Line, Operator, Reach, DISTANCE_ENTRIES};
 
 #[test]
@@ -175,6 +175,26 @@ fn islands_matter() {
     }
     let counts = [apart, verdicts_apart, same, no_rounds];
     assert!(counts.iter().all(|&count| count > 4), "{counts:?}");
+}
+
+/// Windows are read both ways, and margins of 0 often have both verdicts.
+#[test]
+fn windows_have_ties() {
+    let (mut used, mut yeses, mut noes) = ([0; 16], 0, 0);
+    for seed in 0..300 {
+        let words = windows::sheet(&mut Random::new(seed), 64);
+        let left = judged_by::<Fast>(&Case::of(&words, 2 + 10 * (1 + 8 * 3)));
+        for (line, code) in
+            left.whole_answer().expect("a whole answer").lines.iter().zip(codes(&words))
+        {
+            used[code as usize] += 1;
+            let is_window = matches!(code, 5 | 12);
+            yeses += u32::from(is_window && line.verdicts.contains(&yes(0)));
+            noes += u32::from(is_window && line.verdicts.contains(&no(0)));
+        }
+    }
+    let counts = [used[5], used[12], yeses, noes];
+    assert!(counts.iter().all(|&count| count > 50), "{counts:?}");
 }
 
 #[test]

@@ -64,12 +64,13 @@ const BOTH_WAYS: [(u32, u32); 7] =
 
 fn both_ways(engine: &dyn Engine) {
     println!("\nAhead and back: 8×8 grid, 1,024 samples, the same windows both ways");
-    heading("ahead", "back", "back/ahead");
+    heading(["ahead", "back", "back/ahead"]);
     println!();
     for (lower, upper) in BOTH_WAYS {
         let sheets = sheets::until_and_since((lower, upper));
         pair(engine, &format!("until, since {lower}..{upper}"), &sheets);
     }
+    pair(engine, "60 lines, 0..1 to 0..4", &sheets::short_windows());
     println!("Eventually and always; once and historically");
     for (lower, upper) in BOTH_WAYS {
         let sheets = sheets::windows_both_ways((lower, upper));
@@ -98,8 +99,8 @@ const BOTH_READINGS: [(u32, u32); 3] = [(0, 3), (0, 6), (2, 8)];
 
 fn both_readings(engine: &dyn Engine) {
     println!("\nWith islands (15) and without (7): 8×8 grid, 64 samples");
-    heading("15", "7", "7/15");
-    println!("{:>12}{:>12}{:>8}", "share of 15", "share of 7", "runs");
+    heading(["15", "7", "7/15"]);
+    println!("{:>8}", "runs");
     for (lower, upper) in BOTH_READINGS {
         let sheets = sheets::surrounds((lower, upper));
         readings(engine, &format!("surround {lower}..{upper}"), &sheets);
@@ -107,11 +108,12 @@ fn both_readings(engine: &dyn Engine) {
     readings(engine, "twelve codes, 3 surrounds", &sheets::grids_of_surrounds());
 }
 
-/// The columns of two sheets side by side; the row is not ended.
-fn heading(one: &str, other: &str, ratio: &str) {
-    println!("{:28}{:^36}{:^36}", "", "engine", "implementation");
-    let columns = format!("{one:>12}{other:>12}{ratio:>12}");
-    print!("{:28}{columns}{columns}", "");
+/// The columns of two sheets side by side, times, ratio and the engine's shares;
+/// the row is not ended.
+fn heading([one, other, ratio]: [&str; 3]) {
+    println!("{:28}{:^36}{:^36}{:>20}", "", "engine", "implementation", "engine's share");
+    let times = format!("{one:>12}{other:>12}");
+    print!("{:28}{times}{ratio:>12}{times}{ratio:>12}{one:>10}{other:>10}", "");
 }
 
 fn pair(engine: &dyn Engine, name: &str, sheets: &BothWays) {
@@ -119,27 +121,24 @@ fn pair(engine: &dyn Engine, name: &str, sheets: &BothWays) {
     println!("{name:28}{}", side_by_side(ahead, back));
 }
 
-/// Beside the times stand the engine's shares, and how many runs a centre has in
-/// the sheet without islands.
+/// Last stands how many runs a centre has in the sheet without islands.
 fn readings(engine: &dyn Engine, name: &str, sheets: &Readings) {
     let with = timed(engine, &sheets.with_islands);
     let without = timed(engine, &sheets.without_islands);
     let runs = sheets::runs_of_centre(&sheets.without_islands);
-    println!(
-        "{name:28}{}{:>12.2}{:>12.2}{runs:>8.1}",
-        side_by_side(with, without),
-        with.share(),
-        without.share()
-    );
+    println!("{name:28}{}{runs:>8.1}", side_by_side(with, without));
 }
 
-/// The times of two sheets and their ratio, for both engines.
+/// The times of two sheets and their ratio, for both engines, and the engine's
+/// shares.
 fn side_by_side(one: Times, other: Times) -> String {
     let columns = |one: Duration, other: Duration| {
         let ratio = other.as_secs_f64() / one.as_secs_f64();
         format!("{:>12}{:>12}{ratio:>12.2}", milliseconds(one), milliseconds(other))
     };
-    columns(one.engine, other.engine) + &columns(one.implementation, other.implementation)
+    let engine = columns(one.engine, other.engine);
+    let implementation = columns(one.implementation, other.implementation);
+    format!("{engine}{implementation}{:>10.2}{:>10.2}", one.share(), other.share())
 }
 
 fn milliseconds(time: Duration) -> String {

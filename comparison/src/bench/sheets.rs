@@ -212,7 +212,22 @@ pub struct BothWays {
 
 /// The 8×8 grid with until in the one sheet, since in the other.
 pub fn until_and_since(bounds: (u32, u32)) -> BothWays {
-    let sheet = |code: u32| conditions(SAMPLES).bounded(code, 0, 1, bounds).end();
+    until_and_since_over(&[bounds])
+}
+
+/// The same with sixty lines, whose windows have 2 to 5 samples in turn: what it
+/// costs to begin a window shows here, and hardly what it costs to read on.
+pub fn short_windows() -> BothWays {
+    const LINES: usize = 60;
+    let bounds: Vec<(u32, u32)> = [(0, 1), (0, 2), (0, 3), (0, 4)].repeat(LINES / 4);
+    until_and_since_over(&bounds)
+}
+
+fn until_and_since_over(bounds: &[(u32, u32)]) -> BothWays {
+    let sheet = |code: u32| {
+        let add = |sheet: SheetBuilder, &bounds: &(u32, u32)| sheet.bounded(code, 0, 1, bounds);
+        bounds.iter().fold(conditions(SAMPLES), add).end()
+    };
     BothWays { ahead: sheet(5), back: sheet(12) }
 }
 

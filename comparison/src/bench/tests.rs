@@ -88,6 +88,14 @@ fn windows_are_the_same_both_ways() {
     }
 }
 
+#[test]
+fn short_windows_have_sixty_lines() {
+    let sheets = sheets::short_windows();
+    assert_alike(&sheets, &[(5, 12); 60]);
+    let uppers = checked(&sheets.ahead).lines.into_iter().filter_map(|line| line.operator.bounds());
+    assert_eq!(uppers.map(|bounds| bounds.upper).collect::<BTreeSet<_>>(), (1..=4).collect());
+}
+
 /// Both sheets have the same words but for the codes of so many surrounds.
 fn assert_readings(sheets: &Readings, surrounds: usize) {
     assert_eq!(without_codes(&sheets.with_islands), without_codes(&sheets.without_islands));

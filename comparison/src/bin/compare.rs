@@ -35,8 +35,8 @@ fn main() -> ExitCode {
     }
     let printer = program.as_ref().map(|program| program as &dyn Printer);
     let mut comparison = Comparison::new(&Library, printer);
-    if let Err(difference) = comparison.page() {
-        println!("comparison: a sheet of docs/SHEETS.md");
+    if let Err(difference) = comparison.worked() {
+        println!("comparison: a worked sheet, of docs/SHEETS.md or beside it");
         tell(&difference);
         return ExitCode::FAILURE;
     }

@@ -5,8 +5,8 @@ use super::table::Table;
 use super::Pair;
 use reference::generate::random::Random;
 
-const ONCE: u32 = 13;
-const HISTORICALLY: u32 = 14;
+pub const ONCE: u32 = 13;
+pub const HISTORICALLY: u32 = 14;
 
 pub fn once_is_since(table: &mut Table, random: &mut Random) -> Option<Pair> {
     let left = table.any(random);

@@ -1,7 +1,8 @@
-//! The laws, and those of them that neither look back nor speak of surrounds.
+//! The laws, and those of them that neither look back nor speak of surrounds nor
+//! of reading on.
 
 use super::table::{Bounds, Table};
-use super::{back, surrounds};
+use super::{back, reading, surrounds};
 use super::{Law, Pair};
 use reference::generate::random::Random;
 use reference::sheet::GREATEST_WEIGHT as GREATEST;
@@ -14,7 +15,7 @@ pub const ALWAYS: u32 = 10;
 pub const EVERYWHERE: u32 = 11;
 
 /// All laws.
-pub const LAWS: [Law; 36] = [
+pub const LAWS: [Law; 40] = [
     ("not not left is left", not_not),
     ("or is not (not left and not right)", or_is_not_and),
     ("and exchanges its sides", and_exchanges),
@@ -51,6 +52,10 @@ pub const LAWS: [Law; 36] = [
     ("windows back add up", back::windows_back_add_up),
     ("looking ahead and looking back exchange", back::ahead_and_back_exchange),
     ("a step back and a step ahead lead to the present", back::one_sample_back),
+    ("until is that of one sample less, or what the last offers", reading::until_reads_on),
+    ("until of one sample is what it offers", reading::until_of_one_sample),
+    ("since is that of one sample less, or what the last offers", reading::since_reads_on),
+    ("since of one sample is what it offers", reading::since_of_one_sample),
 ];
 
 /// Two lines that have a sample in common.

@@ -3,6 +3,7 @@
 
 mod back;
 mod list;
+mod reading;
 mod surrounds;
 mod table;
 

@@ -53,6 +53,13 @@ impl Table {
         (random.field(0, upper), upper)
     }
 
+    /// Bounds of time for lines that have so many samples in common that one such
+    /// window fits.
+    pub fn window(&self, random: &mut Random, lines: &[u32]) -> Bounds {
+        let upper = random.field(0, self.common(lines).length() as u32 - 1);
+        (random.field(0, upper), upper)
+    }
+
     /// Code 0.
     pub fn truth(&mut self) -> u32 {
         self.add(0, (0, 0), None, Extent::whole(self.samples))

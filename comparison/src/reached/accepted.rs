@@ -1,6 +1,6 @@
 //! What an accepted sheet and its answer show.
 
-use super::{extents, surrounds};
+use super::{extents, reading, surrounds};
 use reference::distance::NO_DISTANCE;
 use reference::generate::Case;
 use reference::judge::BYTES_PER_DISTANCE;
@@ -52,7 +52,8 @@ const IN_ANSWER: [(&str, u32); 6] = [
 pub fn labels() -> Vec<String> {
     let codes = (0..=LAST_CODE).map(code_label);
     let rest = IN_SHEET.iter().chain(&LENT).chain(IN_ANSWER.iter().map(|(label, _)| label));
-    let of_lines = extents::labels().into_iter().chain(surrounds::labels());
+    let of_lines =
+        extents::labels().into_iter().chain(surrounds::labels()).chain(reading::labels());
     codes.chain(rest.map(|text| label(text))).chain(of_lines.map(|text| label(&text))).collect()
 }
 
@@ -78,6 +79,7 @@ pub fn shown(words: &[u32], case: &Case, left: &Left) -> Vec<String> {
         .chain(in_answer(left))
         .chain(extents::shown(&sheet).iter().map(|text| label(text)))
         .chain(surrounds::shown(&sheet, left).iter().map(|text| label(text)))
+        .chain(reading::shown(&sheet, left).iter().map(|text| label(text)))
         .collect()
 }
 

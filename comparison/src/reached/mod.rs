@@ -6,6 +6,7 @@ mod accepted;
 mod extents;
 mod looked_up;
 mod no_sample;
+mod reading;
 mod refused;
 mod runs;
 mod setting;
@@ -17,6 +18,7 @@ use crate::laws::LAWS;
 use crate::{mirror, steadiness};
 use reference::generate::Case;
 use reference::left::Left;
+use reference::sheet::Sheet;
 use reference::words;
 use std::collections::HashMap;
 
@@ -89,6 +91,15 @@ impl Reached {
         let missed = self.labels.iter().filter(|label| self.counts[*label] == 0);
         missed.map(String::as_str).collect()
     }
+}
+
+/// Larger sheets are not looked at closely: there are enough small ones.
+const MOST_PLACES: usize = 8;
+const MOST_SAMPLES: usize = 8;
+
+/// Whether all that a sheet's lines do is done once more in no time.
+fn is_small(sheet: &Sheet) -> bool {
+    sheet.head.places <= MOST_PLACES && sheet.head.samples <= MOST_SAMPLES
 }
 
 /// The texts of which it is said that they are shown.

@@ -9,10 +9,6 @@ use reference::margin::Margin;
 use reference::meaning::rounds::settled;
 use reference::sheet::{Bounds, Line, Operator, Sheet};
 
-/// Larger sheets are not looked at: there are enough small ones.
-const MOST_PLACES: usize = 8;
-const MOST_SAMPLES: usize = 8;
-
 /// The greatest rounds of each sort of run; 0 where there is none.
 #[derive(Clone, Copy, Debug, Default, PartialEq, Eq)]
 pub struct Rounds {
@@ -58,7 +54,7 @@ impl<'a> Judged<'a> {
 
     /// Whether all runs are made in no time.
     pub fn is_small(&self) -> bool {
-        self.sheet.head.places <= MOST_PLACES && self.sheet.head.samples <= MOST_SAMPLES
+        super::is_small(self.sheet)
     }
 
     /// The rounds of all surrounds.

@@ -7,13 +7,16 @@ mod extents;
 mod lookups;
 mod network;
 mod printing;
+mod reading;
 mod refusals;
 mod sizes;
 mod surrounds;
 mod traps;
 
 use crate::compare::Comparison;
-use crate::{Engine, Implementation};
+use crate::{Engine, Filled, Implementation};
+use reference::evaluation::Evaluation;
+use std::marker::PhantomData;
 
 /// Within how many seeds an engine has to be caught.
 const SEEDS: u64 = 3_000;
@@ -21,6 +24,24 @@ const SEEDS: u64 = 3_000;
 /// For how many seeds an engine has to pass that is right and is there to show
 /// that the others are caught for their fault alone.
 const SEEDS_OF_RIGHT: u64 = 600;
+
+/// An engine that evaluates wrongly, and is right in all else.
+struct Over<E>(PhantomData<E>);
+
+/// The engine over an evaluator.
+fn over<E: Evaluation>() -> Over<E> {
+    Over(PhantomData)
+}
+
+impl<E: Evaluation> Engine for Over<E> {
+    fn judge(&self, sheet: &[u8], left: Filled) -> u64 {
+        reference::judge::<E>(sheet, left.distances, left.answer, left.result)
+    }
+
+    fn lookup(&self, answer: &[u8], line: u64, sample: u64, place: u64) -> u64 {
+        Implementation.lookup(answer, line, sample, place)
+    }
+}
 
 /// The seed at which the comparison finds a difference.
 fn caught(engine: &dyn Engine) -> Option<u64> {

@@ -1,6 +1,6 @@
 //! Engines that are right on what is small or simple, and wrong beyond.
 
-use super::caught;
+use super::{caught, over};
 use crate::compare::Comparison;
 use crate::{Engine, Filled, Implementation};
 use reference::distance::Distances;
@@ -44,46 +44,30 @@ impl<const CODE: u32, const PLACES: usize, const SAMPLES: usize> Evaluation
     }
 }
 
-/// An engine over this evaluator.
-struct Circling<const CODE: u32, const PLACES: usize, const SAMPLES: usize>;
-
-impl<const CODE: u32, const PLACES: usize, const SAMPLES: usize> Engine
-    for Circling<CODE, PLACES, SAMPLES>
-{
-    fn judge(&self, sheet: &[u8], left: Filled) -> u64 {
-        let Filled { distances, answer, result } = left;
-        reference::judge::<InCircles<CODE, PLACES, SAMPLES>>(sheet, distances, answer, result)
-    }
-
-    fn lookup(&self, answer: &[u8], line: u64, sample: u64, place: u64) -> u64 {
-        Implementation.lookup(answer, line, sample, place)
-    }
-}
-
 #[test]
 fn a_wrong_surround_above_12_places_and_16_samples() {
-    assert!(caught(&Circling::<7, 12, 16>).is_some());
-    assert!(caught(&Circling::<15, 12, 16>).is_some());
+    assert!(caught(&over::<InCircles<7, 12, 16>>()).is_some());
+    assert!(caught(&over::<InCircles<15, 12, 16>>()).is_some());
 }
 
 #[test]
 fn a_wrong_surround_above_16_places_and_3_samples() {
-    assert!(caught(&Circling::<7, 16, 3>).is_some());
-    assert!(caught(&Circling::<15, 16, 3>).is_some());
+    assert!(caught(&over::<InCircles<7, 16, 3>>()).is_some());
+    assert!(caught(&over::<InCircles<15, 16, 3>>()).is_some());
 }
 
 #[test]
 fn a_wrong_surround_above_48_places_and_48_samples() {
-    assert!(caught(&Circling::<7, 48, 48>).is_some());
-    assert!(caught(&Circling::<15, 48, 48>).is_some());
+    assert!(caught(&over::<InCircles<7, 48, 48>>()).is_some());
+    assert!(caught(&over::<InCircles<15, 48, 48>>()).is_some());
 }
 
 #[test]
 fn a_wrong_surround_above_63_places_and_1_023_samples() {
     let caught =
         |engine: &dyn Engine| Comparison::new(engine, None).largest(&mut Random::new(1)).is_err();
-    assert!(caught(&Circling::<7, 63, 1023>));
-    assert!(caught(&Circling::<15, 63, 1023>));
+    assert!(caught(&over::<InCircles<7, 63, 1023>>()));
+    assert!(caught(&over::<InCircles<15, 63, 1023>>()));
 }
 
 /// An engine whose lookup finds nothing in long answers.

@@ -1,9 +1,9 @@
 //! Engines that read the surround without islands (code 7) or the one with them
 //! (code 15) wrongly.
 
-use super::caught;
 use super::evaluator::{self, Trapped};
 use super::traps::found_alone;
+use super::{caught, over};
 use crate::{laws, steadiness, Engine, Filled, Implementation};
 use reference::distance::Distances;
 use reference::evaluation::Evaluation;
@@ -176,24 +176,10 @@ impl<const CODE: u32> Evaluation for Doubled<CODE> {
     }
 }
 
-/// An engine over this evaluator.
-struct Doubling<const CODE: u32>;
-
-impl<const CODE: u32> Engine for Doubling<CODE> {
-    fn judge(&self, sheet: &[u8], left: Filled) -> u64 {
-        let Filled { distances, answer, result } = left;
-        reference::judge::<Doubled<CODE>>(sheet, distances, answer, result)
-    }
-
-    fn lookup(&self, answer: &[u8], line: u64, sample: u64, place: u64) -> u64 {
-        Implementation.lookup(answer, line, sample, place)
-    }
-}
-
 /// "Both readings are to be steady": steadiness alone finds it of either code, and
 /// tells both sheets.
 #[test]
 fn a_surround_that_is_not_steady() {
-    assert_eq!(found_alone(&Doubling::<7>, steadiness::check), Some(2));
-    assert_eq!(found_alone(&Doubling::<15>, steadiness::check), Some(2));
+    assert_eq!(found_alone(&over::<Doubled<7>>(), steadiness::check), Some(2));
+    assert_eq!(found_alone(&over::<Doubled<15>>(), steadiness::check), Some(2));
 }

@@ -1,22 +1,22 @@
 //! Operators that look ahead in time: until, eventually, always. The operands'
 //! rows go upper samples past the last t.
 
-use super::rows::{fold, offer, Rows};
+use super::carried::Carried;
+use super::rows::{fold, Rows};
 use super::scale::Scale;
 use crate::sheet::Bounds;
 
-/// Until: with t' running from t upwards, what left has held so far is folded
-/// along, and from t + lower on each t' offers the lesser of that and right.
+/// Until, for all t. Reading ends once it is known at every place what is said.
 pub fn until<S: Scale>(left: Rows<S>, right: Rows<S>, bounds: Bounds) -> Vec<S> {
     let (lower, upper) = (bounds.lower as usize, bounds.upper as usize);
     let mut values = vec![S::BOTTOM; left.values.len() - upper * left.places];
     let mut held = vec![S::TOP; left.places];
-    for (from, best) in values.chunks_exact_mut(left.places).enumerate() {
-        held.fill(S::TOP);
-        for time in from..=from + upper {
-            fold(&mut held, left.row(time), S::min);
-            if time >= from + lower {
-                offer(best, &held, right.row(time));
+    for (t, said) in values.chunks_exact_mut(left.places).enumerate() {
+        let mut carried = Carried::new(&mut held, said);
+        for far in 0..=upper {
+            carried.read(left.row(t + far), right.row(t + far), far >= lower);
+            if carried.is_known() {
+                break;
             }
         }
     }

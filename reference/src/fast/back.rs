@@ -4,7 +4,9 @@
 //! Rows are cut into blocks as long as the window. A window is then the last
 //! part of one block and the first part of the next, so two passes, one that
 //! folds each block from its end and one that folds it from its start, serve all
-//! windows, and the time taken does not depend on how long these are.
+//! windows, and the time taken does not depend on how long these are. Since is
+//! done so too, though it could be folded from t on as until is: so what looks
+//! back is found in another way than what looks ahead.
 
 use super::rows::{fold, offer, Rows};
 use super::scale::Scale;

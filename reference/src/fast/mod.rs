@@ -7,6 +7,7 @@
 
 mod ahead;
 mod back;
+mod carried;
 mod rows;
 mod scale;
 mod space;
@@ -14,7 +15,7 @@ mod surround;
 
 use crate::distance::Distances;
 use crate::evaluation::Evaluation;
-use crate::margin::{Margin, Verdict};
+use crate::margin::Verdict;
 use crate::sheet::{Extent, Line, Operator, Reach, Sheet};
 use rows::Rows;
 use scale::Scale;
@@ -42,12 +43,7 @@ impl Evaluation for Fast {
 
     fn verdict(&self, line: usize, sample: usize, place: usize) -> Verdict {
         let at = (sample - self.firsts[line]) * self.places + place;
-        let margin = match self.margins[line][at] {
-            i32::BOTTOM => Margin::MinusInfinity,
-            i32::TOP => Margin::PlusInfinity,
-            number => Margin::Finite(i64::from(number)),
-        };
-        Verdict { yes: self.verdicts[line][at], margin }
+        Verdict { yes: self.verdicts[line][at], margin: scale::margin(self.margins[line][at]) }
     }
 
     fn rounds(&self) -> u64 {

@@ -1,5 +1,7 @@
 //! The scales that formulas are read over: margins and verdicts.
 
+use crate::margin::Margin;
+
 /// A totally ordered scale with a top, a bottom and a negation that turns the
 /// order around.
 pub trait Scale: Copy + Ord {
@@ -27,6 +29,15 @@ impl Scale for i32 {
 
     fn of_difference(difference: i32) -> i32 {
         difference
+    }
+}
+
+/// The margin that a number stands for.
+pub fn margin(number: i32) -> Margin {
+    match number {
+        i32::BOTTOM => Margin::MinusInfinity,
+        i32::TOP => Margin::PlusInfinity,
+        number => Margin::Finite(number.into()),
     }
 }
 

@@ -13,7 +13,9 @@ pub mod random;
 pub mod rounds;
 mod runs;
 pub mod table;
+mod ties;
 pub mod valid;
+pub mod windows;
 
 use crate::answer;
 use crate::judge::{BYTES_PER_DISTANCE, RESULT_BYTES};
@@ -63,12 +65,17 @@ const AIMS: [u64; 22] =
     [1, 2, 3, 4, 5, 6, 7, 8, 9, 10, 11, 11, 12, 12, 12, 12, 13, 13, 13, 14, 15, 16];
 
 /// The case of a seed: of a hundred about 50 valid ones (one of them of many
-/// rounds, two with islands), 36 aimed at a certain refusal and 14 damaged without
-/// an aim, none of more than so many places (two, where a road is to be refused).
+/// rounds, two with islands, two with windows full of ties), 36 aimed at a certain
+/// refusal and 14 damaged without an aim, none of more than so many places (two,
+/// where a road is to be refused).
 pub fn case(seed: u64, most_places: usize) -> Case {
     let mut random = Random::new(seed);
     match random.below(100) {
-        0..=46 => valid_case(&mut random, most_places),
+        0..=44 => valid_case(&mut random, most_places),
+        45 | 46 => {
+            let words = windows::sheet(&mut random, most_places);
+            Case::lend(&mut random, &words)
+        }
         47 | 48 => {
             let words = islands::sheet(&mut random, most_places);
             Case::lend(&mut random, &words)

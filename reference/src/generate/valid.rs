@@ -120,7 +120,7 @@ fn readings(random: &mut Random, numbers: Numbers, count: usize) -> Vec<i32> {
 
 /// A sheet up to its table: the head of so many places, signals and samples, the
 /// roads, and the numbers sampled.
-fn recorded(sizes: (usize, usize, usize), roads: &[Triple], readings: &[i32]) -> SheetBuilder {
+pub fn recorded(sizes: (usize, usize, usize), roads: &[Triple], readings: &[i32]) -> SheetBuilder {
     let (places, signals, samples) = sizes;
     let sheet = SheetBuilder::new(places as u32, signals as u32, samples as u32);
     let add =

@@ -7,7 +7,7 @@ use crate::sheet::{Bounds, Operator};
 
 /// Whether a formula holds at a point. "Other verdicts come from the operands'
 /// verdicts, not from margins: minimum becomes 'all', maximum 'some'."
-pub fn holds(world: &World, operator: &Operator, point: &Point) -> bool {
+pub(super) fn holds(world: &World, operator: &Operator, point: &Point) -> bool {
     let &Point { sample, place, .. } = point;
     let here = |line: usize| world.yes(line, sample, place);
     let then = |line: usize| move |time: usize| world.yes(line, time, place);
@@ -42,7 +42,7 @@ pub fn holds(world: &World, operator: &Operator, point: &Point) -> bool {
 
 /// "Some t' from t + lower to t + upper has right at t' and left at every
 /// sample from t to t', t' included."
-fn until(
+pub fn until(
     from: usize,
     bounds: Bounds,
     left: impl Fn(usize) -> bool,
@@ -54,7 +54,7 @@ fn until(
 
 /// "Right holds at some t' from t - upper to t - lower and left holds from t' to
 /// t, t' included."
-fn since(
+pub fn since(
     at: usize,
     bounds: Bounds,
     left: impl Fn(usize) -> bool,

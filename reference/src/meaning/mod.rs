@@ -5,8 +5,8 @@
 //! operands' verdicts and margins alone. A surround tries all 2^n regions, so
 //! networks should not have more than about a dozen places.
 
-mod boolean;
-mod quantitative;
+pub(crate) mod boolean;
+pub(crate) mod quantitative;
 mod regions;
 pub mod rounds;
 

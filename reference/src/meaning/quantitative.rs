@@ -7,7 +7,7 @@ use crate::margin::Margin;
 use crate::sheet::{Bounds, Operator};
 
 /// The margin of a formula at a point.
-pub fn margin(world: &World, operator: &Operator, point: &Point) -> Margin {
+pub(super) fn margin(world: &World, operator: &Operator, point: &Point) -> Margin {
     let &Point { sample, place, .. } = point;
     let here = |line: usize| world.margin(line, sample, place);
     let then = |line: usize| move |time: usize| world.margin(line, time, place);
@@ -55,7 +55,7 @@ fn difference(minuend: i32, subtrahend: i32) -> Margin {
 
 /// The greatest over t' in the window of the lesser of right at t' and the
 /// least of left from t to t'.
-fn until(
+pub fn until(
     from: usize,
     bounds: Bounds,
     left: impl Fn(usize) -> Margin,
@@ -70,7 +70,7 @@ fn until(
 
 /// The greatest over t' in the window of the lesser of right at t' and the
 /// least of left from t' to t.
-fn since(
+pub fn since(
     at: usize,
     bounds: Bounds,
     left: impl Fn(usize) -> Margin,
