@@ -7,5 +7,6 @@ pub mod Accepted
 pub mod Steadiness
 pub mod Pinned
 pub mod LookingBack
+pub mod ReadingOn
 pub mod Islands
 pub mod Fitting

@@ -1,4 +1,4 @@
--- The meaning of a table of lines, codes 0 to 15 (Definitions 3.1 and 3.4, requests M-100 and M-101), once for verdicts and margins: a reading says what values
+-- The meaning of a table of lines, codes 0 to 15 (Definitions 3.1 and 3.4, requests M-100 to M-102), once for verdicts and margins: a reading says what values
 -- are, how they are negated and what an atom is worth by its margin.
 use mathlib.Core.Bool.{Bool, true, not}
 use mathlib.Core.List.{List, [], _∷_, _++_}
