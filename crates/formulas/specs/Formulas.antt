@@ -97,20 +97,28 @@ abbrev pub InBits : ℕ → ℤ → Type 0
 InBits bits (pos x) = x < 2 ^ (bits - 1)
 InBits bits (negsuc x) = x < 2 ^ (bits - 1)
 
--- what is asked of the constant of an atom
+-- What is asked of a line by what it says: of the constant of an "at least", of that of an "at most", and of a Not; nothing of any other
+abbrev pub Asked : (ℤ → Type 0) → (ℤ → Type 0) → Type 0 → Operator → Type 0
+Asked least most negation True = Unit {0}
+Asked least most negation (AtLeast s c) = least c
+Asked least most negation (AtMost s c) = most c
+Asked least most negation (Not i) = negation
+Asked least most negation (And i j) = Unit {0}
+Asked least most negation (Until side i j lower upper) = Unit {0}
+Asked least most negation (Somewhere i lower upper) = Unit {0}
+Asked least most negation (Surrounded islands i j lower upper) = Unit {0}
+Asked least most negation (Or i j) = Unit {0}
+Asked least most negation (Eventually side i lower upper) = Unit {0}
+Asked least most negation (Always side i lower upper) = Unit {0}
+Asked least most negation (Everywhere i lower upper) = Unit {0}
+
+-- the constant of an atom fits
 abbrev pub ConstantIn : (ℤ → Type 0) → Operator → Type 0
-ConstantIn Fit True = Unit {0}
-ConstantIn Fit (AtLeast s c) = Fit c
-ConstantIn Fit (AtMost s c) = Fit c
-ConstantIn Fit (Not i) = Unit {0}
-ConstantIn Fit (And i j) = Unit {0}
-ConstantIn Fit (Until side i j lower upper) = Unit {0}
-ConstantIn Fit (Somewhere i lower upper) = Unit {0}
-ConstantIn Fit (Surrounded islands i j lower upper) = Unit {0}
-ConstantIn Fit (Or i j) = Unit {0}
-ConstantIn Fit (Eventually side i lower upper) = Unit {0}
-ConstantIn Fit (Always side i lower upper) = Unit {0}
-ConstantIn Fit (Everywhere i lower upper) = Unit {0}
+ConstantIn Fit = Asked Fit Fit (Unit {0})
+
+-- what is asked of every line of a table
+abbrev pub LinesFit : (Operator → Type 0) → List Line → Type 0
+LinesFit Fits lines = All (λ (line : Line). Fits (line .operator)) lines
 
 abbrev pub ConstantsIn : (ℤ → Type 0) → List Line → Type 0
-ConstantsIn Fit lines = All (λ (line : Line). ConstantIn Fit (line .operator)) lines
+ConstantsIn Fit = LinesFit (ConstantIn Fit)

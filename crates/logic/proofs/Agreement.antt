@@ -19,7 +19,7 @@ use Rattle.logic.specs.Steadiness.{Near, Above, SteadyVerdicts, Agree}
 use Rattle.logic.proofs.Keeps.{Keeps}
 use Rattle.logic.proofs.Order.{Up, le→up, up→le, up-negate, atMost-trans, atMost-total, near}
 use Rattle.logic.proofs.TotalOrder.{meet-by, join-by}
-use Rattle.formulas.proofs.Constants.{any-constants}
+use Rattle.counting.proofs.Lists.{all-any}
 use Rattle.logic.proofs.TableKeeps.{valueAt-kept}
 
 abbrev zeroMargin : Margin
@@ -58,7 +58,7 @@ agree-atom z = go (leZ (pos 0) z) refl
 
 pub agreement : (N : Network) (x : Recording) (lines : List Line) (i t l : ℕ) → l < N.places → Agree (valueAt margins N x lines i t l) (valueAt verdicts N x lines i t l)
 agreement N x lines = valueAt-kept margins verdicts N Agree agree-kept agree-negate (λ _. Unit {0}) x x
-    (λ s t l c _. agree-atom (x s t l -ℤ c)) (λ s t l c _. agree-atom (c -ℤ x s t l)) lines (any-constants lines)
+    (λ s t l c _. agree-atom (x s t l -ℤ c)) (λ s t l c _. agree-atom (c -ℤ x s t l)) lines (all-any lines)
 
 -- ---- both verdicts where the margin is beyond d
 -- a margin above 0 is a yes

@@ -25,6 +25,15 @@ same-kept L = record {
   keeps-join = λ a b c d h k. ap₂ (L .join) h k;
 }
 
+-- the other way round
+pub flipped : (L M : Lattice) (R : L.Value → M.Value → Type 0) → Keeps L M R → Keeps M L (λ a b. R b a)
+flipped L M R K = record {
+  keeps-top = K.keeps-top;
+  keeps-bottom = K.keeps-bottom;
+  keeps-meet = λ a b c d. K.keeps-meet c d a b;
+  keeps-join = λ a b c d. K.keeps-join c d a b;
+}
+
 -- the greatest over tests and values that are the same below n
 pub greatest-same : (L : Lattice) {t t′ : ℕ → Bool} {f f′ : ℕ → L.Value} (n : ℕ) → ((k : ℕ) → k < n → t k ≡ t′ k) → ((k : ℕ) → k < n → f k ≡ f′ k)
     → greatestOver L t f n ≡ greatestOver L t′ f′ n

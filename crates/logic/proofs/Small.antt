@@ -5,12 +5,11 @@ use native.Mathlib.Omega.{arith}
 use lib.IntN.{ℤ, pos, negsuc, natAbs, _-ℤ_}
 use Rattle.logic.specs.Margin.{Margin, minusInfinity, finite, plusInfinity, atMost, negate, marginLattice}
 use Rattle.network.specs.Network.{Network}
-use Rattle.formulas.specs.Formulas.{Line, Recording, InBits}
+use Rattle.formulas.specs.Formulas.{Line, Recording, InBits, ConstantIn, ConstantsIn}
 use Rattle.logic.specs.Table.{margins, valueAt}
 use Rattle.logic.proofs.Keeps.{Keeps}
 use Rattle.logic.proofs.Order.{UpZ, nearZ, atMost-trans, atMost-total}
 use Rattle.logic.proofs.TotalOrder.{each-kept}
-use Rattle.formulas.specs.Formulas.{ConstantsIn}
 use Rattle.logic.proofs.TableKeeps.{valueAt-kept}
 
 abbrev pub Small : Margin → Type 0
@@ -41,5 +40,5 @@ difference-small a b h k =
 
 pub margins-small : (N : Network) (x : Recording) → ((s t l : ℕ) → InBits 27 (x s t l)) → (lines : List Line) → ConstantsIn (InBits 27) lines
     → (i t l : ℕ) → l < N.places → Small (valueAt margins N x lines i t l)
-margins-small N x h = valueAt-kept margins margins N (λ a _. Small a) small-kept (λ a _. small-negate a) (InBits 27) x x
+margins-small N x h = valueAt-kept margins margins N (λ a _. Small a) small-kept (λ a _. small-negate a) (ConstantIn (InBits 27)) x x
     (λ s t l c fit. difference-small (x s t l) c (h s t l) fit) (λ s t l c fit. difference-small c (x s t l) fit (h s t l))

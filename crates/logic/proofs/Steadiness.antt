@@ -10,7 +10,7 @@ use Rattle.formulas.specs.Formulas.{Line, Recording}
 use Rattle.logic.specs.Table.{verdicts, margins, valueAt}
 use Rattle.logic.specs.Steadiness.{Near, SteadyVerdicts}
 use Rattle.logic.proofs.Margins.{near-kept, near-negate}
-use Rattle.formulas.proofs.Constants.{any-constants}
+use Rattle.counting.proofs.Lists.{all-any}
 use Rattle.logic.proofs.TableKeeps.{valueAt-kept}
 use Rattle.logic.proofs.Agreement.{agreement, steady-verdicts}
 
@@ -18,7 +18,7 @@ use Rattle.logic.proofs.Agreement.{agreement, steady-verdicts}
 difference-turned : (x c : ℤ) → c -ℤ x ≡ negℤ (x -ℤ c)
 difference-turned x c = rw (negℤ-+ℤ, negℤ-negℤ, +ℤ-comm c (negℤ x))
 
-same-shift : (x y c : ℤ) → (x -ℤ c) -ℤ (y -ℤ c) ≡ x -ℤ y
+pub same-shift : (x y c : ℤ) → (x -ℤ c) -ℤ (y -ℤ c) ≡ x -ℤ y
 same-shift x y c = simp (negℤ-+ℤ, negℤ-negℤ, +ℤ-assoc, +ℤ-comm (negℤ y) c) (rw (← +ℤ-assoc (negℤ c) c (negℤ y), +ℤ-invl, +ℤ-idl))
 
 atLeast-near : (d : ℕ) (x y c : ℤ) → natAbs (x -ℤ y) ≤ d → natAbs ((x -ℤ c) -ℤ (y -ℤ c)) ≤ d
@@ -30,7 +30,7 @@ atMost-near d x y c h = rw (difference-turned x c, difference-turned y c) (near-
 pub steady : (d : ℕ) (N : Network) (x y : Recording) → ((s t l : ℕ) → natAbs (x s t l -ℤ y s t l) ≤ d) → (lines : List Line)
     → (i t l : ℕ) → l < N.places → Near d (valueAt margins N x lines i t l) (valueAt margins N y lines i t l)
 steady d N x y h lines = valueAt-kept margins margins N (Near d) (near-kept d) (near-negate d) (λ _. Unit {0}) x y
-    (λ s t l c _. atLeast-near d (x s t l) (y s t l) c (h s t l)) (λ s t l c _. atMost-near d (x s t l) (y s t l) c (h s t l)) lines (any-constants lines)
+    (λ s t l c _. atLeast-near d (x s t l) (y s t l) c (h s t l)) (λ s t l c _. atMost-near d (x s t l) (y s t l) c (h s t l)) lines (all-any lines)
 
 -- with their verdicts
 pub values-steady : (d : ℕ) (N : Network) (x y : Recording) → ((s t l : ℕ) → natAbs (x s t l -ℤ y s t l) ≤ d) → (lines : List Line) (i t l : ℕ) → l < N.places
