@@ -1,8 +1,8 @@
--- The test of a word's kind: how it follows from what the code read, and what it tells.
+-- The test of a word's kind: how it follows from what the code read, and what it tells; what tests that are joined tell of each.
 use Prim.Native.Nat.{ℕ, _<_}
-use mathlib.Core.Bool.{Bool, true, false, _&&_, false≢true}
+use mathlib.Core.Bool.{Bool, true, false, _&&_, _||_, false≢true}
 use mathlib.Core.List.{List}
-use mathlib.Core.Path.{_≡_, refl}
+use mathlib.Core.Path.{_≡_, refl, sym}
 use native.Mathlib.Omega.{arith}
 use lib.Dec.{ltb, eqb}
 use lib.ListN.{length, List·getD-eq-default}
@@ -13,6 +13,14 @@ use Rattle.checks.specs.Checked.{wordAt, isKind}
 pub and-true : (a b : Bool) → (a && b) ≡ true → (a ≡ true) × (b ≡ true)
 and-true true b e = (refl, e)
 and-true false b e = absurd (false≢true e)
+
+pub and-rest : (a b : Bool) → (a && b) ≡ false → a ≡ true → b ≡ false
+and-rest true b e h = e
+and-rest false b e h = absurd (false≢true h)
+
+pub or-false : (a b : Bool) → (a || b) ≡ false → (a ≡ false) × (b ≡ false)
+or-false true b e = absurd (false≢true (sym e))
+or-false false b e = (refl, e)
 
 pub kind-told : (k : ℕ) (s : List ℕ) (at : ℕ) → isKind k s at ≡ true → (at < length s) × (kindOf (wordAt s at) ≡ k)
 unfolding isKind

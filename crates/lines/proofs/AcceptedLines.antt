@@ -1,29 +1,33 @@
--- What the lines of an accepted sheet are: 1 to 64 of them, each with a sample and none beyond T, with constants of 27 bits.
+-- What the lines of an accepted sheet are: 1 to 64 of them, each with a sample and none beyond T, with constants of 27 bits; and each says what the code
+-- of a line word says.
 use mathlib.Core.Path.{_≡_, refl, sym, ap, ap₂, subst, _∙_}
 use mathlib.Core.Logic.{⊎-elim}
 use mathlib.Core.Bool.{Bool, true, false, not, cond, _&&_}
 use mathlib.Core.List.{List, [], _∷_, _++_}
-use Prim.Native.Nat.{ℕ, zero, suc, _+_, _-_, _%_, _^_, _<_, _≤_, zero-le, suc-le-suc}
-use native.Mathlib.Nat.{not-suc-le-zero, zero-add, le-trans, le-of-lt}
+use Prim.Native.Nat.{ℕ, zero, suc, _+_, _-_, _%_, _^_, _<_, _≤_, zero-le}
+use native.Mathlib.Nat.{not-suc-le-zero, le-trans, le-of-lt}
 use native.Mathlib.Decide.{decLt}
 use native.Mathlib.Omega.{arith}
 use lib.Dec.{T, leb, eqb, ltb, leb→le, ltb→lt, nltb→le}
 use lib.ListN.{length, length-append, List·getD-append, List·getD-eq-default}
 use lib.Seq.{getD-at}
 use lib.IntN.{ℤ, pos, negsuc}
-use Rattle.words.specs.Word.{bits, payloadOf, sampleOf}
+use borrow.Author.Tests.{eq-eqb}
+use Rattle.words.specs.Word.{kindOf, bits, payloadOf, sampleOf}
 use Rattle.formulas.specs.Formulas.{forward, backward, Operator, True, AtLeast, AtMost, Not, And, Until, Somewhere, Surrounded, Or, Eventually, Always, Everywhere, Extent, endOf, common, looking, Line, noLine, lineIn, extentOf, InBits}
 use Rattle.formulas.proofs.Extents.{extent-end}
 use Rattle.counting.proofs.Tests.{and-l, and-r, below}
 use Rattle.counting.specs.Lists.{All, none, more}
-use Rattle.counting.proofs.Lists.{each-at}
-use Rattle.formulas.specs.Formulas.{ConstantIn, ConstantsIn}
+use Rattle.counting.proofs.Lists.{each-append, each-at, all-from}
+use Rattle.formulas.specs.Formulas.{ConstantIn, LinesFit, ConstantsIn}
 use Rattle.checks.specs.Limits.{mostLines}
-use Rattle.checks.specs.Checked.{Checked, accepted, _>>=_, require, wordAt, isKind}
+use Rattle.checks.specs.Checked.{Checked, accepted, require, wordAt, isKind}
 use Rattle.lines.specs.Codes.{Code, constant, atom, unary, binary, unaryBounded, binaryBounded, unknown, codes, codeOf}
-use Rattle.lines.specs.Lines.{codeField, leftField, rightField, unused, plain, constantAt, boundsAt, withConstant, withBounds, operatorBy, operatorAt, lineAt, linesFrom}
+use Rattle.lines.specs.Lines.{codeField, leftField, rightField, unused, plain, constantAt, boundsAt, withConstant, withBounds, operatorBy, operatorAt, lineAt, linesFrom, lineOf, hasCode}
 use Rattle.lines.specs.GoodLines.{Bounds, Sound, extentsOf, GoodLine, GoodTable, GoodLines}
 use Rattle.checks.proofs.Checks.{never, require-e, bind-accepted, same-accepted}
+use Rattle.checks.proofs.Tests.{and-rest, or-false, kind-told}
+use Rattle.lines.proofs.Reading.{lines-kept}
 
 -- ---- a constant is a number of 27 bits
 pub sample-bits : (w : ℕ) → InBits 27 (sampleOf w)
@@ -36,17 +40,17 @@ sample-bits w = go (ltb (w % 2 ^ 27) (2 ^ 26)) refl
         omega arith
 
 module _ (v k : ℕ) where
-  -- what a code says is sound where its fields and parameters are
-  abbrev Fits : Code → Type 0
-  Fits (constant o) = Sound v k o
-  Fits (atom o) = (signal : ℕ) (c : ℤ) → signal < v → InBits 27 c → Sound v k (o signal c)
-  Fits (unary o) = (i : ℕ) → i < k → Sound v k (o i)
-  Fits (binary o) = (i j : ℕ) → i < k → j < k → Sound v k (o i j)
-  Fits (unaryBounded o) = (i lower upper : ℕ) → i < k → Bounds lower upper → Sound v k (o i lower upper)
-  Fits (binaryBounded o) = (i j lower upper : ℕ) → i < k → j < k → Bounds lower upper → Sound v k (o i j lower upper)
-  Fits unknown = Unit {0}
+  -- what a code says has the property where its fields and parameters are in their limits
+  abbrev pub Fits : (Operator → Type 0) → Code → Type 0
+  Fits P (constant o) = P o
+  Fits P (atom o) = (signal : ℕ) (c : ℤ) → signal < v → InBits 27 c → P (o signal c)
+  Fits P (unary o) = (i : ℕ) → i < k → P (o i)
+  Fits P (binary o) = (i j : ℕ) → i < k → j < k → P (o i j)
+  Fits P (unaryBounded o) = (i lower upper : ℕ) → i < k → Bounds lower upper → P (o i lower upper)
+  Fits P (binaryBounded o) = (i j lower upper : ℕ) → i < k → j < k → Bounds lower upper → P (o i j lower upper)
+  Fits P unknown = Unit {0}
 
-  codes-fit : All Fits codes
+  codes-fit : All (Fits (Sound v k)) codes
   unfolding codes
   codes-fit =
       more {a = constant True} tt
@@ -86,41 +90,42 @@ bounds-fit s at b e =
     subst (λ (c : ℕ × ℕ). Bounds (c .0) (c .1)) (same-accepted same) (record { order = leb→le lower upper order; small = omega arith })
 
 -- what an accepted operator was made of
-module _ (s : List ℕ) (v k : ℕ) where
-  abbrev SoundRead : Operator × ℕ → Type 0
-  SoundRead read = Sound v k (read .0)
+module _ (s : List ℕ) (v k : ℕ) (P : Operator → Type 0) where
+  abbrev Says : Operator × ℕ → Type 0
+  Says read = P (read .0)
 
-  by-code : (code : Code) → Fits v k code → (at left right : ℕ) (read : Operator × ℕ) → operatorBy s code at left right v k ≡ accepted read → SoundRead read
+  by-code : (code : Code) → Fits v k P code → (at left right : ℕ) (read : Operator × ℕ) → operatorBy s code at left right v k ≡ accepted read → Says read
   by-code (constant o) fit at left right read e =
       let same = require-e (ltb left unused && ltb right unused) 11 at (plain at o) read e .1 in
-      subst SoundRead (same-accepted same) fit
+      subst Says (same-accepted same) fit
   by-code (atom o) fit at left right read e =
       let (fields, rest) = require-e (ltb left v && ltb right unused) 11 at (withConstant s at (o left)) read e in
       let (c, hc, same) = bind-accepted (constantAt s (at + 1)) (λ c. accepted (o left c, at + 2)) rest in
-      subst SoundRead (same-accepted same) (fit left c (ltb→lt left v (and-l (ltb left v) _ fields)) (constant-fits s (at + 1) c hc))
+      subst Says (same-accepted same) (fit left c (ltb→lt left v (and-l (ltb left v) _ fields)) (constant-fits s (at + 1) c hc))
   by-code (unary o) fit at left right read e =
       let (fields, same) = require-e (ltb left k && ltb right unused) 11 at (plain at (o left)) read e in
-      subst SoundRead (same-accepted same) (fit left (ltb→lt left k (and-l (ltb left k) _ fields)))
+      subst Says (same-accepted same) (fit left (ltb→lt left k (and-l (ltb left k) _ fields)))
   by-code (binary o) fit at left right read e =
       let (fields, same) = require-e (ltb left k && ltb right k) 11 at (plain at (o left right)) read e in
-      subst SoundRead (same-accepted same) (fit left right (ltb→lt left k (and-l (ltb left k) _ fields)) (ltb→lt right k (and-r (ltb left k) _ fields)))
+      subst Says (same-accepted same) (fit left right (ltb→lt left k (and-l (ltb left k) _ fields)) (ltb→lt right k (and-r (ltb left k) _ fields)))
   by-code (unaryBounded o) fit at left right read e =
       let (fields, rest) = require-e (ltb left k && ltb right unused) 11 at (withBounds s at (o left)) read e in
       let (b, hb, same) = bind-accepted (boundsAt s (at + 1)) (λ b. accepted (o left (b .0) (b .1), at + 3)) rest in
-      subst SoundRead (same-accepted same)
+      subst Says (same-accepted same)
       (fit left (b .0) (b .1) (ltb→lt left k (and-l (ltb left k) _ fields)) (bounds-fit s (at + 1) b hb))
   by-code (binaryBounded o) fit at left right read e =
       let (fields, rest) = require-e (ltb left k && ltb right k) 11 at (withBounds s at (o left right)) read e in
       let (b, hb, same) = bind-accepted (boundsAt s (at + 1)) (λ b. accepted (o left right (b .0) (b .1), at + 3)) rest in
-      subst SoundRead (same-accepted same)
+      subst Says (same-accepted same)
       (fit left right (b .0) (b .1) (ltb→lt left k (and-l (ltb left k) _ fields)) (ltb→lt right k (and-r (ltb left k) _ fields)) (bounds-fit s (at + 1) b hb))
   by-code unknown fit at left right read e = absurd (never e)
 
-  pub operator-sound : (at : ℕ) (read : Operator × ℕ) → operatorAt s v k at ≡ accepted read → SoundRead read
+  operator-says : (at : ℕ) (read : Operator × ℕ) → Fits v k P (codeOf (codeField (wordAt s at))) → operatorAt s v k at ≡ accepted read → P (read .0)
   unfolding operatorAt
-  operator-sound at read e =
-      let w : ℕ = wordAt s at in
-      by-code (codeOf (codeField w)) (each-at (codes-fit v k) (codeField w) unknown unknown tt) at (leftField w) (rightField w) read e
+  operator-says at read fit e = let w : ℕ = wordAt s at in by-code (codeOf (codeField w)) fit at (leftField w) (rightField w) read e
+
+pub operator-sound : (s : List ℕ) (v k at : ℕ) (read : Operator × ℕ) → operatorAt s v k at ≡ accepted read → Sound v k (read .0)
+operator-sound s v k at read = operator-says s v k (Sound v k) at read (each-at (codes-fit v k) (codeField (wordAt s at)) unknown unknown tt)
 
 -- ---- the extent of a sound line depends on the lines before it alone
 pub extent-same : (T v k : ℕ) (f g : ℕ → Extent) → ((i : ℕ) → i < k → f i ≡ g i) → (o : Operator) → Sound v k o → extentOf T f o ≡ extentOf T g o
@@ -146,19 +151,30 @@ good-end v T lines good i = go (decLt i (length lines))
     go (yes h) = good i h .ends
     go (no h) = rw (List·getD-eq-default lines noLine {n = i} (omega arith)) zero-le
 
+-- a line that is read has the operator at its word, and a sample
+record LineMade (s : List ℕ) (v T k : ℕ) (extents : ℕ → Extent) (at : ℕ) (line : Line) : Type 0 where
+  operator : Operator × ℕ
+  reads : operatorAt s v k at ≡ accepted operator
+  some : 1 ≤ extentOf T extents (operator .0) .length
+  same : record { operator = operator .0; extent = extentOf T extents (operator .0) } ≡ line
+
+line-made : (s : List ℕ) (v T k : ℕ) (extents : ℕ → Extent) (at : ℕ) (read : Line × ℕ) → lineAt s v T k extents at ≡ accepted read → LineMade s v T k extents at (read .0)
+unfolding lineAt
+line-made s v T k extents at read e =
+    let (o, ho, rest) = bind-accepted (operatorAt s v k at) _ e in
+    let extent : Extent = extentOf T extents (o .0) in
+    let (some, same) = require-e (leb 1 (extent .length)) 13 at (accepted (record { operator = o .0; extent = extent }, o .1)) read rest in
+    record { operator = o; reads = ho; some = leb→le 1 (extent .length) some; same = ap (λ (r : Line × ℕ). r .0) (same-accepted same) }
+
 pub line-good : (s : List ℕ) (v T : ℕ) (lines : List Line) (at : ℕ) (read : Line × ℕ) → GoodTable v T lines
     → lineAt s v T (length lines) (extentsOf lines) at ≡ accepted read → GoodLine v T (extentsOf lines) (length lines) (read .0)
-unfolding lineAt
 line-good s v T lines at read good e =
-    let (o, ho, rest) = bind-accepted (operatorAt s v (length lines) at) _ e in
-    let extent : Extent = extentOf T (extentsOf lines) (o .0) in
-    let (some, same) = require-e (leb 1 (extent .length)) 13 at (accepted (record { operator = o .0; extent = extent }, o .1)) read rest in
-    let samples : 1 ≤ extent .length = leb→le 1 (extent .length) some in
-    subst (λ (r : Line × ℕ). GoodLine v T (extentsOf lines) (length lines) (r .0)) (same-accepted same) (record {
-      some = samples;
-      ends = extent-end T (extentsOf lines) (good-end v T lines good) (o .0) samples;
+    let made = line-made s v T (length lines) (extentsOf lines) at read e in
+    subst (GoodLine v T (extentsOf lines) (length lines)) (made .same) (record {
+      some = made .some;
+      ends = extent-end T (extentsOf lines) (good-end v T lines good) (made .operator .0) (made .some);
       extent = refl;
-      sound = operator-sound s v (length lines) at o ho;
+      sound = operator-sound s v (length lines) at (made .operator) (made .reads);
     })
 
 -- what is good with some extents is good with others that are the same for the lines before
@@ -183,35 +199,32 @@ good-more v T lines line good last k h =
     (good-same v T (extentsOf lines) (extentsOf longer) k (lineIn lines k) (λ i a. kept i (le-trans a (le-of-lt b))) (good k b)))
     (below (omega arith))
 
--- the lines that are read are good, at least one and at most as many as there was room for
-lines-good : (s : List ℕ) (v T room : ℕ) (lines : List Line) (at : ℕ) (found : List Line × ℕ) → GoodTable v T lines → 1 ≤ room + length lines
-    → linesFrom s v T room lines at ≡ accepted found → GoodLines v T (room + length lines) (found .0)
-unfolding linesFrom
-lines-good s v T zero lines at found good some e =
-    let same = require-e (not (isKind 5 s at)) 10 at (accepted (lines, at)) found e .1 in
-    subst (λ (f : List Line × ℕ). GoodLines v T (0 + length lines) (f .0)) (same-accepted same) (record { good = good; some = omega arith; bound = omega arith })
-lines-good s v T (suc room) lines at found good some e =
-    go (isKind 5 s at) (λ longer next goods more. lines-good s v T room longer next found goods more) e
-  where
-    go : (t : Bool)
-        → ((longer : List Line) (next : ℕ) → GoodTable v T longer → 1 ≤ room + length longer → linesFrom s v T room longer next ≡ accepted found → GoodLines v T (room + length longer) (found .0))
-        → elim t as (λ _. Checked (List Line × ℕ)) [
-          | true ↦ lineAt s v T (length lines) (extentsOf lines) at >>= (λ read. linesFrom s v T room (lines ++ (read .0 ∷ [])) (read .1))
-          | false ↦ require (ltb 0 (length lines)) 10 at (accepted (lines, at))
-        ] ≡ accepted found → GoodLines v T (suc room + length lines) (found .0)
-    go true onward e =
-        let (read, hr, rest) = bind-accepted (lineAt s v T (length lines) (extentsOf lines) at) _ e in
-        let l : length (lines ++ (read .0 ∷ [])) ≡ length lines + 1 = length-append lines (read .0 ∷ []) in
-        let count : room + length (lines ++ (read .0 ∷ [])) ≡ suc room + length lines = omega arith in
-        subst (λ m. GoodLines v T m (found .0)) count
-        (onward (lines ++ (read .0 ∷ [])) (read .1) (good-more v T lines (read .0) good (line-good s v T lines at read good hr)) (omega arith) rest)
-    go false onward e =
-        let (first, same) = require-e (ltb 0 (length lines)) 10 at (accepted (lines, at)) found e in
-        subst (λ (f : List Line × ℕ). GoodLines v T (suc room + length lines) (f .0)) (same-accepted same)
-        (record { good = good; some = ltb→lt 0 (length lines) first; bound = omega arith })
-
+-- ---- all lines
+-- they are good
 pub table-good : (s : List ℕ) (v T at : ℕ) (found : List Line × ℕ) → linesFrom s v T mostLines [] at ≡ accepted found → GoodLines v T mostLines (found .0)
-table-good s v T at found e = lines-good s v T mostLines [] at found (λ k h. absurd (not-suc-le-zero h)) (omega arith) e
+table-good s v T at found e =
+    let all = lines-kept s v T (GoodTable v T) (λ lines next read good _ reads. good-more v T lines (read .0) good (line-good s v T lines next read good reads))
+    mostLines [] at (λ k h. absurd (not-suc-le-zero h)) (omega arith) e in
+    record { good = all .kept; some = all .some; bound = all .bound }
+
+-- what everything has that the codes of the line words say, all lines have
+pub table-says : (s : List ℕ) (v T at : ℕ) (found : List Line × ℕ) (P : Operator → Type 0)
+    → ((k i : ℕ) → isKind 5 s i ≡ true → Fits v k P (codeOf (codeField (wordAt s i)))) → linesFrom s v T mostLines [] at ≡ accepted found → LinesFit P (found .0)
+table-says s v T at found P fits e =
+    lines-kept s v T (LinesFit P) (λ lines next read all kind-5 reads.
+    let made = line-made s v T (length lines) (extentsOf lines) next read reads in
+    each-append all (more (subst (λ (line : Line). P (line .operator)) (made .same)
+    (operator-says s v (length lines) P next (made .operator) (fits (length lines) next kind-5) (made .reads))) none))
+    mostLines [] at none (omega arith) e .kept
+
+-- a line word does not have the code that none has
+pub without-code : (code : ℕ) (s : List ℕ) → hasCode code s ≡ false → (i : ℕ) → isKind 5 s i ≡ true → eqb (codeField (wordAt s i)) code ≡ false
+without-code code s absent i kind-5 = go s absent i (kind-told 5 s i kind-5 .1)
+  where
+    go : (s : List ℕ) → hasCode code s ≡ false → (i : ℕ) → kindOf (wordAt s i) ≡ 5 → eqb (codeField (wordAt s i)) code ≡ false
+    go [] absent i five = absurd (omega arith)
+    go (w ∷ s) absent zero five = and-rest (eqb (kindOf w) 5) (eqb (codeField w) code) (or-false (lineOf code w) (hasCode code s) absent .0) (eq-eqb (kindOf w) 5 five)
+    go (w ∷ s) absent (suc i) five = go s (or-false (lineOf code w) (hasCode code s) absent .1) i five
 
 -- the constants of a good table are of 27 bits
 sound-constant : (v k : ℕ) (o : Operator) → Sound v k o → ConstantIn (InBits 27) o
@@ -228,11 +241,5 @@ sound-constant v k (Eventually side i lower upper) h = tt
 sound-constant v k (Always side i lower upper) h = tt
 sound-constant v k (Everywhere i lower upper) h = tt
 
-constants-from : (v : ℕ) (lines : List Line) (n : ℕ) → ((k : ℕ) → k < length lines → Sound v (n + k) (lineIn lines k .operator)) → ConstantsIn (InBits 27) lines
-constants-from v [] n sound = none
-constants-from v (line ∷ lines) n sound =
-    more (sound-constant v (n + 0) (line .operator) (sound 0 (omega arith)))
-    (constants-from v lines (suc n) (λ k h. subst (λ m. Sound v m (lineIn lines k .operator)) (omega arith) (sound (suc k) (suc-le-suc h))))
-
 pub good-constants : (v T : ℕ) (lines : List Line) → GoodTable v T lines → ConstantsIn (InBits 27) lines
-good-constants v T lines good = constants-from v lines 0 (λ k h. subst (λ m. Sound v m (lineIn lines k .operator)) (sym (zero-add k)) (good k h .sound))
+good-constants v T lines good = all-from (λ (line : Line). ConstantIn (InBits 27) (line .operator)) noLine lines (λ k h. sound-constant v k (lineIn lines k .operator) (good k h .sound))

@@ -1,4 +1,5 @@
 pub mod Operators
+pub mod Reading
 pub mod Lines
 pub mod AcceptedLines
 pub mod Walk

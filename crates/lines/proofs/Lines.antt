@@ -5,16 +5,15 @@ use mathlib.Core.List.{List, [], _∷_, _++_}
 use mathlib.Core.Path.{_≡_, refl, sym, _∙_, ap, ap₂, fun-ext, subst}
 use native.Mathlib.Nat.{le-of-suc-le-suc, not-suc-le-zero}
 use native.Mathlib.Omega.{arith}
-use lib.Dec.{ltb}
 use lib.ListN.{length, set, replicate, length-append, length-set, length-replicate}
-use borrow.Author.Tests.{lt-ltb}
 use Rattle.words.proofs.Zeros.{zero-at}
 use Rattle.formulas.specs.Formulas.{Extent, span, endOf, Line, lineIn}
 use Rattle.checks.specs.Limits.{mostLines}
-use Rattle.checks.specs.Checked.{accepted, refused, _>>=_, require, isKind}
+use Rattle.checks.specs.Checked.{accepted, refused, _>>=_, isKind}
 use Rattle.lines.specs.Lines.{lineAt, linesFrom}
 use Rattle.lines.specs.GoodLines.{GoodTable, extentsOf}
 use Rattle.lines.specs.Decoding.{extentIn, ExtentsWithin}
+use Rattle.lines.proofs.Reading.{lines-over, lines-stop, lines-end, line-more}
 use Rattle.lines.proofs.AcceptedLines.{good-end, line-good, good-more}
 
 -- ---- the extents of the lines that were read, in arrays that are zero beyond them
@@ -37,29 +36,7 @@ extents-more (e ∷ found) line (f ∷ firsts) (l ∷ lengths) short fits known 
 extents-more (e ∷ found) line (f ∷ firsts) (l ∷ lengths) short fits known (suc i) =
     extents-more found line firsts lengths (le-of-suc-le-suc short) (le-of-suc-le-suc fits) (λ k. known (suc k)) i
 
--- ---- the lines of a sheet
-
-module _ (s : List ℕ) (v T : ℕ) where
-  pub lines-over : (found : List Line) (at : ℕ) → isKind 5 s at ≡ true → linesFrom s v T 0 found at ≡ refused 10 at
-  unfolding linesFrom
-  lines-over found at kind-5 = simp kind-5
-
-  pub lines-stop : (room : ℕ) (found : List Line) (at : ℕ) → isKind 5 s at ≡ false
-      → linesFrom s v T (suc room) found at ≡ require {A = List Line × ℕ} (ltb 0 (length found)) 10 at (accepted (found, at))
-  unfolding linesFrom
-  lines-stop room found at other = rw (other, linesFrom)
-
-  pub lines-end : (room : ℕ) (found : List Line) (at : ℕ) → isKind 5 s at ≡ false → 0 < length found
-      → linesFrom s v T room found at ≡ accepted (found, at)
-  unfolding linesFrom
-  lines-end zero found at other some = simp other
-  lines-end (suc room) found at other some = lines-stop room found at other ∙ simp (lt-ltb 0 (length found) some)
-
-  pub line-more : (room : ℕ) (found : List Line) (at : ℕ) → isKind 5 s at ≡ true
-      → linesFrom s v T (suc room) found at
-      ≡ (lineAt s v T (length found) (extentsOf found) at >>= λ read. linesFrom s v T room (found ++ (read .0 ∷ [])) (read .1))
-  unfolding linesFrom
-  line-more room found at kind-5 = rw (kind-5, linesFrom)
+-- ---- the loop
 
 -- the loop after so many lines: which they are, their extents, and that what is left decides the whole
 pub record Lines (s : List ℕ) (v T start : ℕ) (firsts lengths : List ℕ) (lines at : ℕ) : Type 0 where

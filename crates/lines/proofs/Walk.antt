@@ -1,53 +1,26 @@
 -- A walk over the lines of an accepted sheet: line k is read at an index, from the extents of the lines before it, and leads to line k + 1.
 use Prim.Native.Nat.{ℕ, zero, suc, _+_, _-_, _<_, _≤_, zero-le}
 use native.Mathlib.Decide.{decLt}
-use mathlib.Core.Bool.{Bool, true, false, not}
+use mathlib.Core.Bool.{not}
 use mathlib.Core.List.{List, [], _∷_, _++_}
-use mathlib.Core.Logic.{_⊎_, inl, inr, ⊎-elim}
-use mathlib.Core.Path.{_≡_, refl, sym, _∙_, ap, fun-ext, subst}
+use mathlib.Core.Logic.{⊎-elim}
+use mathlib.Core.Path.{_≡_, sym, _∙_, ap, fun-ext, subst}
 use native.Mathlib.Omega.{arith}
-use lib.Dec.{ltb}
 use lib.ListN.{length, getD, set, take, replicate, length-append, length-set, length-replicate, List·getD-eq-default}
 use lib.Seq.{length-take-le, take-length, take-take, take-append-seam, getD-take, getD-at}
-use borrow.Author.Tests.{ltb-true}
 use Rattle.formulas.specs.Formulas.{Extent, endOf, Line, noLine, lineIn}
 use Rattle.checks.specs.Limits.{mostLines}
 use Rattle.checks.specs.Checked.{accepted, isKind}
 use Rattle.lines.specs.Lines.{lineAt, linesFrom}
 use Rattle.lines.specs.GoodLines.{GoodTable, extentsOf}
 use Rattle.lines.specs.Decoding.{extentIn, ExtentsWithin}
-use Rattle.checks.proofs.Checks.{same-accepted, require-accepted, bind-accepted}
+use Rattle.checks.proofs.Checks.{same-accepted, require-accepted}
 use Rattle.checks.proofs.Tests.{kind-told}
+use Rattle.lines.proofs.Reading.{Stopped, LineRead, stop-or-read}
 use Rattle.lines.proofs.AcceptedLines.{good-end, table-good}
-use Rattle.lines.proofs.Lines.{Extents, extents-none, extents-more, lines-stop, line-more}
+use Rattle.lines.proofs.Lines.{Extents, extents-none, extents-more}
 
 module _ (s : List ℕ) (v T : ℕ) where
-  -- ---- one step: the lines end here, or one more is read
-
-  record Stopped (found lines : List Line) : Type 0 where
-    same : found ≡ lines
-    some : 0 < length lines
-
-  record LineRead (room : ℕ) (found : List Line) (at : ℕ) (lines : List Line) (end : ℕ) : Type 0 where
-    line : Line
-    next : ℕ
-    there : at < length s
-    reads : lineAt s v T (length found) (extentsOf found) at ≡ accepted (line, next)
-    rest : linesFrom s v T room (found ++ (line ∷ [])) next ≡ accepted (lines, end)
-
-  stop-or-read : (room : ℕ) (found : List Line) (at : ℕ) {lines : List Line} {end : ℕ} → linesFrom s v T (suc room) found at ≡ accepted (lines, end)
-      → Stopped found lines ⊎ LineRead room found at lines end
-  stop-or-read room found at {lines} {end} e = by (isKind 5 s at) refl
-    where
-      by : (kind-5 : Bool) → isKind 5 s at ≡ kind-5 → Stopped found lines ⊎ LineRead room found at lines end
-      by false other =
-          let told = require-accepted (ltb 0 (length found)) 10 at _ (sym (lines-stop s v T room found at other) ∙ e) in
-          let same : found ≡ lines = ap (λ (read : List Line × ℕ). read .0) (same-accepted (told .1)) in
-          inl (record { same = same; some = subst (λ (l : List Line). 0 < length l) same (ltb-true _ _ (told .0)) })
-      by true kind-5 =
-          let read = bind-accepted (lineAt s v T (length found) (extentsOf found) at) _ (sym (line-more s v T room found at kind-5) ∙ e) in
-          inr (record { line = read .0 .0; next = read .0 .1; there = kind-told 5 s at kind-5 .0; reads = read .1; rest = read .2 })
-
   -- ---- what was found stands in front of what will be
 
   record Front (room : ℕ) (found lines : List Line) : Type 0 where
@@ -69,7 +42,7 @@ module _ (s : List ℕ) (v T : ℕ) where
   lines-front (suc room) found at {lines} e =
       ⊎-elim (λ stop. found-front (suc room) found lines (stop .same))
       (λ read. one-less (read .line) (lines-front room (found ++ (read .line ∷ [])) (read .next) (read .rest)))
-      (stop-or-read room found at e)
+      (stop-or-read s v T room found at e)
     where
       one-less : (line : Line) → Front room (found ++ (line ∷ [])) lines → Front (suc room) found lines
       one-less line front =
@@ -86,7 +59,7 @@ module _ (s : List ℕ) (v T : ℕ) where
 -- ---- there is a first line
 
 pub first-inside : (s : List ℕ) (v T at : ℕ) {lines : List Line} {end : ℕ} → linesFrom s v T mostLines [] at ≡ accepted (lines, end) → at < length s
-first-inside s v T at {lines} e = ⊎-elim (λ stop. absurd (none stop)) (λ read. read .there) (stop-or-read s v T 63 [] at e)
+first-inside s v T at {lines} e = ⊎-elim (λ stop. absurd (none stop)) (λ read. kind-told 5 s at (read .kind-5) .0) (stop-or-read s v T 63 [] at e)
   where
     none : Stopped s v T [] lines → ⊥
     none stop = let same = ap length (stop .same) in let some = stop .some in omega arith
@@ -143,7 +116,7 @@ module _ (s : List ℕ) (v T : ℕ) (lines : List Line) (k at : ℕ) (firsts len
   step-read : LineRead s v T (mostLines - (k + 1)) (take k lines) at lines (walk .end) → Step s v T lines k at firsts lengths
   step-read read = record {
     next = read .next;
-    there = read .there;
+    there = kind-told 5 s at (read .kind-5) .0;
     reads = rw is-line reads;
     walk = rw is-line (record {
       good = walk .good;

@@ -1,11 +1,11 @@
 -- The lines of the table ("The sheet"; refusals 10 to 13): kind 5, bits 27..20 the code, 19..10 left, 9..0 right, then the code's parameters.
 use Prim.Native.Nat.{ℕ, zero, suc, _+_}
-use mathlib.Core.Bool.{true, false, not, _&&_}
+use mathlib.Core.Bool.{Bool, true, false, not, _&&_, _||_}
 use mathlib.Core.List.{List, [], _∷_, _++_}
 use lib.Dec.{ltb, leb, eqb}
 use lib.ListN.{length}
 use lib.IntN.{ℤ}
-use Rattle.words.specs.Word.{bits, payloadOf, sampleOf}
+use Rattle.words.specs.Word.{kindOf, bits, payloadOf, sampleOf}
 use Rattle.formulas.specs.Formulas.{Operator, Extent, Line, lineIn, extentOf}
 use Rattle.checks.specs.Checked.{Checked, accepted, refused, _>>=_, require, wordAt, isKind}
 use Rattle.lines.specs.Codes.{Code, constant, atom, unary, binary, unaryBounded, binaryBounded, unknown, codeOf}
@@ -87,3 +87,11 @@ module _ (s : List ℕ) where
     | true ↦ lineAt v T (length lines) (λ i. lineIn lines i .extent) at >>= (λ read. linesFrom v T room (lines ++ (read .0 ∷ [])) (read .1))
     | false ↦ require (ltb 0 (length lines)) 10 at (accepted (lines, at))
   ]
+
+-- a line word with this code, and whether there is one, by the words alone: in an accepted sheet the words of kind 5 are the line words (M-103)
+abbrev pub lineOf : ℕ → ℕ → Bool
+lineOf code w = eqb (kindOf w) 5 && eqb (codeField w) code
+
+abbrev pub hasCode : ℕ → List ℕ → Bool
+hasCode code [] = false
+hasCode code (w ∷ s) = lineOf code w || hasCode code s
