@@ -19,6 +19,7 @@ pub mod TableKeeps
 pub mod ValueSame
 pub mod Steadiness
 pub mod Agreement
+pub mod Raising
 pub mod Small
 pub mod Examples
 pub mod Counts

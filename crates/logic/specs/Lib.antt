@@ -5,3 +5,4 @@ pub mod Iteration
 pub mod Table
 pub mod Counts
 pub mod Steadiness
+pub mod Raising
