@@ -4,9 +4,12 @@ pub mod AnswerWords
 pub mod AnswerSays
 pub mod WholeAnswer
 pub mod Accepted
+pub mod Compared
 pub mod Steadiness
+pub mod Raising
 pub mod Pinned
 pub mod LookingBack
 pub mod ReadingOn
 pub mod Islands
+pub mod Forecasts
 pub mod Fitting

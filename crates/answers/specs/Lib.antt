@@ -1,4 +1,4 @@
 pub mod Meant
 pub mod Answer
 pub mod Judged
-pub mod Steady
+pub mod Compared

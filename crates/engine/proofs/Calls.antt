@@ -1,23 +1,28 @@
 -- Calls of the engine, by its contract alone, whatever was lent: what a call leaves is what is judged; so the starred examples hold of calls, the
--- rounds are at most the places, the lookup in what a call left gives the verdicts that are meant, and demand 3 holds of any two calls.
+-- rounds are at most the places, the lookup in what a call left gives the verdicts that are meant, and demand 3 and request M-103 hold of any two calls.
 use mathlib.Core.Path.{_≡_, sym, ap, subst, subst₂, _∙_}
+use mathlib.Core.Bool.{false}
 use mathlib.Core.List.{List}
 use Prim.Native.Nat.{ℕ, _≤_}
 use lib.ListN.{length}
+use lib.IntN.{ℤ}
 use contract.Lifetimes
 use borrow.Fn.Kinds.{Dens, endedOf}
 use denote.Triple.Clauses.{AtExit}
 use Rattle.words.specs.Bytes.{wordsOf, numbersOf}
+use Rattle.lines.specs.Lines.{hasCode}
 use Rattle.sheet.specs.Layout.{Layout}
 use Rattle.sheet.specs.Recording.{network, recording}
-use Rattle.sheet.specs.Apart.{SamplesApart}
+use Rattle.sheet.specs.Alike.{AlikeButSamples, SamplesApart, SamplesRaised}
 use Rattle.lookup.specs.Lookup.{verdictNumber, saidAt, lookedUp}
 use Rattle.answers.specs.Meant.{meantAt}
 use Rattle.answers.specs.Judged.{Judged, judged}
-use Rattle.answers.specs.Steady.{Steady}
+use Rattle.answers.specs.Compared.{decision, Steady, Raised}
 use Rattle.answers.proofs.Accepted.{layoutFound, judged-rounds, judged-lookup}
 use Rattle.answers.proofs.Examples.{StarredExamples, examples-of}
+use Rattle.answers.proofs.Compared.{decided-alike}
 use Rattle.answers.proofs.Steadiness.{steadiness}
+use Rattle.answers.proofs.Raising.{raising, yes-no-fewer}
 use Rattle.engine.specs.declared.Result.{Result}
 use Rattle.engine.specs.Lent.{judgedIn}
 use Rattle.engine.specs.Result.{resultSaid}
@@ -95,10 +100,32 @@ call-lookup c z κ asked r left learnt same =
     ∙ ap (λ (j : Judged). lookedUp (j .answer) (asked .1 .0) (asked .1 .1 .0) (asked .1 .1 .1 .0)) (left-judged c)
     ∙ judged-lookup (sheetOf c) (distancesLent c) (answerLent c) (accepts c z) (asked .1 .0) (asked .1 .1 .0) (asked .1 .1 .1 .0)
 
--- ---- demand 3, about two calls: sheets alike in every word but their samples, these at most d apart. At every line, sample and place the margins are
--- at most d apart or the same infinity, and where that of x is beyond d, both verdicts are yes if it is positive and both are no if it is negative
+-- ---- two calls
+-- what is shown of what is to be left holds of what they left
+both-left : (x y : Call) (P : Judged → Judged → Type 0) → P (judgedOf x) (judgedOf y) → P (leftBy x) (leftBy y)
+both-left x y P = subst₂ P (sym (left-judged x)) (sym (left-judged y))
+
+-- Demand 3: sheets alike in every word but their samples, these at most d apart. At every line, sample and place the margins are at most d apart or the
+-- same infinity, and where that of x is beyond d, both verdicts are yes if it is positive and both are no if it is negative
 pub calls-steady : (d : ℕ) (x y : Call) → SamplesApart d (sheetOf x) (sheetOf y) → x .result .number ≡ 0 → y .result .number ≡ 0
     → (i t l : ℕ) → Steady d (saidAt (leftBy x .answer) i t l) (saidAt (leftBy y .answer) i t l)
-calls-steady d x y apart zx zy i t l =
-    subst₂ (λ (j k : Judged). Steady d (saidAt (j .answer) i t l) (saidAt (k .answer) i t l)) (sym (left-judged x)) (sym (left-judged y))
+calls-steady d x y apart zx zy i t l = both-left x y (λ j k. Steady d (saidAt (j .answer) i t l) (saidAt (k .answer) i t l))
     (steadiness d (sheetOf x) (sheetOf y) apart (distancesLent x) (answerLent x) (distancesLent y) (answerLent y) (accepts x zx) (accepts y zy) i t l)
+
+-- Sheets alike in every word but their samples are decided alike where as much is lent: accepted both, or refused both with the same number and place
+pub calls-decided : (Related : ℤ → ℤ → Type 0) (x y : Call) → AlikeButSamples Related (sheetOf x) (sheetOf y)
+    → distancesLent x ≡ distancesLent y → answerLent x ≡ answerLent y → decision (leftBy x) ≡ decision (leftBy y)
+calls-decided Related x y alike distances answer = both-left x y (λ j k. decision j ≡ decision k)
+    (decided-alike Related (sheetOf x) (sheetOf y) alike (distancesLent x) (answerLent x) ∙ (λ i. decision (judged (sheetOf y) (distances i) (answer i))))
+
+-- M-103: sheets alike in every word but their samples, each of y at least that of x, no line with code 2 or 3. At every line, sample and place a yes of x
+-- is a yes of y, and no margin of y is lower; nor is its yes count
+module _ (x y : Call) (raised : SamplesRaised (sheetOf x) (sheetOf y)) (without-2 : hasCode 2 (sheetOf x) ≡ false) (without-3 : hasCode 3 (sheetOf x) ≡ false)
+    (zx : x .result .number ≡ 0) (zy : y .result .number ≡ 0) where
+  pub calls-raised : (i t l : ℕ) → Raised (saidAt (leftBy x .answer) i t l) (saidAt (leftBy y .answer) i t l)
+  calls-raised i t l = both-left x y (λ j k. Raised (saidAt (j .answer) i t l) (saidAt (k .answer) i t l))
+      (raising (sheetOf x) (sheetOf y) raised without-2 without-3 (distancesLent x) (answerLent x) (distancesLent y) (answerLent y) (accepts x zx) (accepts y zy) i t l)
+
+  pub calls-yes : leftBy x .result .yes ≤ leftBy y .result .yes
+  calls-yes = both-left x y (λ j k. j .result .yes ≤ k .result .yes)
+      (yes-no-fewer (sheetOf x) (sheetOf y) raised without-2 without-3 (distancesLent x) (answerLent x) (distancesLent y) (answerLent y) (accepts x zx) (accepts y zy))

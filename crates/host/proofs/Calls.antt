@@ -1,29 +1,33 @@
 -- Calls of the functions that C calls, by their contracts alone, over bytes: where `judge` returned 0, the bytes that it left, read as words and numbers,
 -- are what is judged. So the starred examples hold of calls, the rounds are at most the places, `lookup` in the bytes that a call left gives the
--- verdicts that are meant, and demand 3 holds of any two calls, whatever was lent to either.
+-- verdicts that are meant, and demand 3 and request M-103 hold of any two calls, whatever was lent to either.
 use mathlib.Core.Path.{_≡_, refl, sym, ap, subst, subst₂, _∙_}
 use mathlib.Core.Bool.{Bool, true, false}
 use mathlib.Core.List.{List}
 use Prim.Native.Nat.{ℕ, _≤_, _%_}
 use native.Mathlib.Omega.{arith}
 use lib.ListN.{length, getD}
+use lib.IntN.{ℤ}
 use contract.Lifetimes
 use borrow.Author.Tests.{eq-eqb}
 use borrow.Fn.Kinds.{Dens, endedOf}
 use denote.Triple.Clauses.{AtExit}
 use Rattle.words.specs.Bytes.{wordsOf, numbersOf, bytesOf}
 use Rattle.words.proofs.RoundTrips.{length-bytes, bytes-words, bytes-numbers}
+use Rattle.lines.specs.Lines.{hasCode}
 use Rattle.sheet.specs.Layout.{Layout}
 use Rattle.sheet.specs.Recording.{network, recording}
-use Rattle.sheet.specs.Apart.{SamplesApart}
+use Rattle.sheet.specs.Alike.{AlikeButSamples, SamplesApart, SamplesRaised}
 use Rattle.lookup.specs.Lookup.{verdictNumber, saidAt, lookedUp}
 use Rattle.answers.specs.Meant.{meantAt}
 use Rattle.answers.specs.Judged.{Result, resultNumbers, Judged, judged}
-use Rattle.answers.specs.Steady.{Steady}
+use Rattle.answers.specs.Compared.{Steady, Raised}
 use Rattle.answers.proofs.Accepted.{layoutFound, judged-rounds, judged-lookup}
 use Rattle.answers.proofs.Fitting.{Fits, judged-fits}
 use Rattle.answers.proofs.Examples.{StarredExamples, examples-of}
+use Rattle.answers.proofs.Compared.{decided-alike}
 use Rattle.answers.proofs.Steadiness.{steadiness}
+use Rattle.answers.proofs.Raising.{raising, yes-no-fewer}
 use Rattle.engine.specs.Lent.{judgedIn}
 use Rattle.host.specs.Host.{lentWhole, HostJudged, inBytes, hostJudged, hostLookedUp}
 use Rattle.host.proofs.Lent.{judged-whole, refused-lengths}
@@ -154,10 +158,35 @@ call-lookup c z κ asked r left learnt same =
     ∙ ap (λ (j : Judged). lookedUp (j .answer) i t l) (left-says c z)
     ∙ judged-lookup (sheetOf c) (distancesLent c) (answerLent c) (accepts c z) i t l
 
--- ---- demand 3, about two calls: sheets alike in every word but their samples, these at most d apart. At every line, sample and place the margins are
--- at most d apart or the same infinity, and where that of x is beyond d, both verdicts are yes if it is positive and both are no if it is negative
+-- ---- two calls
+-- what is shown of what is to be left holds of what they left
+both-left : (x y : Call) → x .result ≡ 0 → y .result ≡ 0 → (P : Judged → Judged → Type 0) → P (judgedOf x) (judgedOf y) → P (leftBy x) (leftBy y)
+both-left x y zx zy P = subst₂ P (sym (left-says x zx)) (sym (left-says y zy))
+
+-- Demand 3: sheets alike in every word but their samples, these at most d apart. At every line, sample and place the margins are at most d apart or the
+-- same infinity, and where that of x is beyond d, both verdicts are yes if it is positive and both are no if it is negative
 pub calls-steady : (d : ℕ) (x y : Call) → SamplesApart d (sheetOf x) (sheetOf y) → x .result ≡ 0 → y .result ≡ 0
     → (i t l : ℕ) → Steady d (saidAt (leftBy x .answer) i t l) (saidAt (leftBy y .answer) i t l)
-calls-steady d x y apart zx zy i t l =
-    subst₂ (λ (j k : Judged). Steady d (saidAt (j .answer) i t l) (saidAt (k .answer) i t l)) (sym (left-says x zx)) (sym (left-says y zy))
+calls-steady d x y apart zx zy i t l = both-left x y zx zy (λ j k. Steady d (saidAt (j .answer) i t l) (saidAt (k .answer) i t l))
     (steadiness d (sheetOf x) (sheetOf y) apart (distancesLent x) (answerLent x) (distancesLent y) (answerLent y) (accepts x zx) (accepts y zy) i t l)
+
+-- Sheets alike in every word but their samples, in whole bytes, are decided alike where as much is lent: the same number is returned
+pub calls-decided : (Related : ℤ → ℤ → Type 0) (x y : Call) → AlikeButSamples Related (sheetOf x) (sheetOf y) → whole x ≡ true → whole y ≡ true
+    → distancesLent x ≡ distancesLent y → answerLent x ≡ answerLent y → x .result ≡ y .result
+calls-decided Related x y alike wholeX wholeY distances answer =
+    ap (λ (h : HostJudged). h .number) (whole-left x wholeX)
+    ∙ ap (λ (told : ℕ × ℕ). told .0) (decided-alike Related (sheetOf x) (sheetOf y) alike (distancesLent x) (answerLent x))
+    ∙ (λ i. judged (sheetOf y) (distances i) (answer i) .result .number)
+    ∙ sym (ap (λ (h : HostJudged). h .number) (whole-left y wholeY))
+
+-- M-103: sheets alike in every word but their samples, each of y at least that of x, no line with code 2 or 3. At every line, sample and place a yes of x
+-- is a yes of y, and no margin of y is lower; nor is its yes count
+module _ (x y : Call) (raised : SamplesRaised (sheetOf x) (sheetOf y)) (without-2 : hasCode 2 (sheetOf x) ≡ false) (without-3 : hasCode 3 (sheetOf x) ≡ false)
+    (zx : x .result ≡ 0) (zy : y .result ≡ 0) where
+  pub calls-raised : (i t l : ℕ) → Raised (saidAt (leftBy x .answer) i t l) (saidAt (leftBy y .answer) i t l)
+  calls-raised i t l = both-left x y zx zy (λ j k. Raised (saidAt (j .answer) i t l) (saidAt (k .answer) i t l))
+      (raising (sheetOf x) (sheetOf y) raised without-2 without-3 (distancesLent x) (answerLent x) (distancesLent y) (answerLent y) (accepts x zx) (accepts y zy) i t l)
+
+  pub calls-yes : leftBy x .result .yes ≤ leftBy y .result .yes
+  calls-yes = both-left x y zx zy (λ j k. j .result .yes ≤ k .result .yes)
+      (yes-no-fewer (sheetOf x) (sheetOf y) raised without-2 without-3 (distancesLent x) (answerLent x) (distancesLent y) (answerLent y) (accepts x zx) (accepts y zy))

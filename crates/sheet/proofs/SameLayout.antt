@@ -1,22 +1,24 @@
--- Two accepted sheets alike in every word but their samples have the same layout: the check reads every other word alike, and of the samples
--- it keeps only their count.
+-- Two sheets alike in every word but their samples are checked alike: accepted both, with the same layout, or refused both with the same number and place.
+-- The check reads every other word alike, and of the samples it keeps only their count.
 use mathlib.Core.Path.{_≡_, refl, sym, ap, ap₂, subst, _∙_}
-use mathlib.Core.Logic.{⊎-elim}
+use mathlib.Core.Logic.{_⊎_, inl, ⊎-elim}
 use mathlib.Core.Bool.{Bool, true, false, not, _&&_, and-false}
 use mathlib.Core.List.{List, [], _∷_, _++_}
 use Prim.Native.Nat.{ℕ, zero, suc, _+_}
-use lib.Dec.{T, eqb, ltb}
+use lib.Dec.{T, eqb, ltb, leb}
 use lib.ListN.{length}
-use Rattle.words.specs.Word.{kindOf, payloadOf}
+use lib.IntN.{ℤ}
+use Rattle.words.specs.Word.{kindOf, payloadOf, bits}
 use Rattle.formulas.specs.Formulas.{Operator, Extent, Line, lineIn}
-use Rattle.checks.specs.Limits.{mostLines}
+use Rattle.checks.specs.Limits.{mostLines, leastDistances}
 use Rattle.checks.specs.Checked.{Checked, accepted, _>>=_, require, wordAt, isKind}
 use Rattle.lines.specs.Codes.{Code, constant, atom, unary, binary, unaryBounded, binaryBounded, unknown, codeOf}
 use Rattle.lines.specs.Lines.{codeField, leftField, rightField, constantAt, boundsAt, operatorBy, operatorAt, lineAt, linesFrom}
-use Rattle.sheet.specs.Layout.{Sizes, Layout, headChecked, sampleCount}
+use Rattle.sheet.specs.Layout.{Sizes, Layout, headChecked, sampleCount, samplesFrom, endChecked, checked}
 use Rattle.roads.specs.Roads.{roadAt, roadChecked, roadsFrom}
-use Rattle.sheet.specs.Apart.{SamplesApart}
+use Rattle.sheet.specs.Alike.{BothSamples, AlikeButSamples}
 use Rattle.counting.proofs.Tests.{fails}
+use Rattle.counting.proofs.Lists.{each-at, each-length}
 use Rattle.checks.proofs.Checks.{same-accepted}
 use Rattle.sheet.specs.Checking.{layoutOf}
 use Rattle.sheet.proofs.Whole.{AcceptedSheet}
@@ -46,28 +48,40 @@ abbrev lineThen : List ℕ → ℕ → ℕ → ℕ → List Line → ℕ → Che
 lineThen s v T room lines at =
     lineAt s v T (length lines) (λ i. lineIn lines i .extent) at >>= (λ read. linesFrom s v T room (lines ++ (read .0 ∷ [])) (read .1))
 
-module _ (d : ℕ) (X Y : List ℕ) (apart : SamplesApart d X Y) where
-  -- ---- words of a kind other than a sample's
+module _ (Related : ℤ → ℤ → Type 0) (X Y : List ℕ) (alike : AlikeButSamples Related X Y) where
+  same-length : length X ≡ length Y
+  same-length = each-length alike
+
+  -- past the end no word stands in either
+  pub words-alike : (i : ℕ) → (wordAt X i ≡ wordAt Y i) ⊎ BothSamples Related (wordAt X i) (wordAt Y i)
+  words-alike i = each-at alike i 0 0 (inl refl)
+
+  -- ---- words: their kinds are the same, and the words themselves where they are no samples
+  kind-same : (k i : ℕ) → isKind k X i ≡ isKind k Y i
+  unfolding isKind
+  kind-same k i = ⊎-elim
+      (λ e. ap₂ (λ w n. ltb i n && eqb (kindOf w) k) e same-length)
+      (λ n. ap₂ (λ m l. ltb i l && eqb m k) (n .first-sample .kind ∙ sym (n .second-sample .kind)) same-length)
+      (words-alike i)
+
+  spare-same : (i : ℕ) → eqb (bits 27 1 (wordAt X i)) 0 ≡ eqb (bits 27 1 (wordAt Y i)) 0
+  spare-same i = ⊎-elim
+      (λ e. ap (λ w. eqb (bits 27 1 w) 0) e)
+      (λ n. ap (λ b. eqb b 0) (n .first-sample .spare ∙ sym (n .second-sample .spare)))
+      (words-alike i)
+
   not-sample : (k i w n : ℕ) → T (not (eqb 4 k)) → kindOf w ≡ 4 → (ltb i n && eqb (kindOf w) k) ≡ false
   not-sample k i w n other e = rw (e, fails (eqb 4 k) other) (and-false (ltb i n))
-
-  -- the test of a kind, with a further test of the word, comes out alike; where it passes, the words are the same
-  kind-same : (k i : ℕ) → T (not (eqb 4 k)) → isKind k X i ≡ isKind k Y i
-  unfolding isKind
-  kind-same k i other = ⊎-elim
-      (λ e. ap₂ (λ w n. ltb i n && eqb (kindOf w) k) e apart.same-length)
-      (λ n. not-sample k i (wordAt X i) (length X) other (n .first-sample) ∙ sym (not-sample k i (wordAt Y i) (length Y) other (n .second-sample)))
-      (apart.words-alike i)
 
   pub word-same : (k i : ℕ) → T (not (eqb 4 k)) → T (isKind k Y i) → wordAt X i ≡ wordAt Y i
   unfolding isKind
   word-same k i other h = ⊎-elim
       (λ e. e)
-      (λ n. absurd (subst T (not-sample k i (wordAt Y i) (length Y) other (n .second-sample)) h))
-      (apart.words-alike i)
+      (λ n. absurd (subst T (not-sample k i (wordAt Y i) (length Y) other (n .second-sample .kind)) h))
+      (words-alike i)
 
   test-same : (k i : ℕ) (f : ℕ → Bool) → T (not (eqb 4 k)) → (isKind k X i && f (wordAt X i)) ≡ (isKind k Y i && f (wordAt Y i))
-  test-same k i f other = go (isKind k Y i) (kind-same k i other) (word-same k i other)
+  test-same k i f other = go (isKind k Y i) (kind-same k i) (word-same k i other)
     where
       go : (t : Bool) → isKind k X i ≡ t → (T t → wordAt X i ≡ wordAt Y i) → (isKind k X i && f (wordAt X i)) ≡ (t && f (wordAt Y i))
       go true e h = rw (e, h tt) refl
@@ -76,7 +90,7 @@ module _ (d : ℕ) (X Y : List ℕ) (apart : SamplesApart d X Y) where
   -- ---- the stages
   head-same : headChecked X ≡ headChecked Y
   unfolding headChecked
-  head-same = require-same (isKind 1 X 0) (isKind 1 Y 0) 2 0 _ _ (kind-same 1 0 tt) (λ h. rw (word-same 1 0 tt h) refl)
+  head-same = require-same (isKind 1 X 0) (isKind 1 Y 0) 2 0 _ _ (kind-same 1 0) (λ h. rw (word-same 1 0 tt h) refl)
 
   road-same : (n at last : ℕ) → wordAt X at ≡ wordAt Y at → roadChecked X n at last ≡ roadChecked Y n at last
   unfolding roadChecked
@@ -86,17 +100,17 @@ module _ (d : ℕ) (X Y : List ℕ) (apart : SamplesApart d X Y) where
   unfolding roadsFrom
   roads-same n zero r last = refl
   roads-same n (suc words) r last = choice-same (isKind 2 X (roadAt r)) (isKind 2 Y (roadAt r)) (roadThen X n words r last) (roadThen Y n words r last) (accepted r)
-      (kind-same 2 (roadAt r) tt)
+      (kind-same 2 (roadAt r))
       (λ h. bind-same _ _ _ _ (road-same n (roadAt r) last (word-same 2 (roadAt r) tt h)) (λ payload. roads-same n words (suc r) payload))
 
   constant-same : (at : ℕ) → constantAt X at ≡ constantAt Y at
   unfolding constantAt
-  constant-same at = require-same (isKind 8 X at) (isKind 8 Y at) 12 at _ _ (kind-same 8 at tt) (λ h. rw (word-same 8 at tt h) refl)
+  constant-same at = require-same (isKind 8 X at) (isKind 8 Y at) 12 at _ _ (kind-same 8 at) (λ h. rw (word-same 8 at tt h) refl)
 
   bounds-same : (at : ℕ) → boundsAt X at ≡ boundsAt Y at
   unfolding boundsAt
-  bounds-same at = require-same (isKind 6 X at) (isKind 6 Y at) 12 at _ _ (kind-same 6 at tt)
-      (λ h. require-same (isKind 7 X (at + 1)) (isKind 7 Y (at + 1)) 12 (at + 1) _ _ (kind-same 7 (at + 1) tt)
+  bounds-same at = require-same (isKind 6 X at) (isKind 6 Y at) 12 at _ _ (kind-same 6 at)
+      (λ h. require-same (isKind 7 X (at + 1)) (isKind 7 Y (at + 1)) 12 (at + 1) _ _ (kind-same 7 (at + 1))
       (λ k. rw (word-same 6 at tt h, word-same 7 (at + 1) tt k) refl))
 
   operator-same : (code : Code) (at left right v lines : ℕ) → operatorBy X code at left right v lines ≡ operatorBy Y code at left right v lines
@@ -118,16 +132,35 @@ module _ (d : ℕ) (X Y : List ℕ) (apart : SamplesApart d X Y) where
 
   lines-same : (v T room : ℕ) (lines : List Line) (at : ℕ) → linesFrom X v T room lines at ≡ linesFrom Y v T room lines at
   unfolding linesFrom
-  lines-same v T zero lines at = rw (kind-same 5 at tt) refl
-  lines-same v T (suc room) lines at = choice-same (isKind 5 X at) (isKind 5 Y at) (lineThen X v T room lines at) (lineThen Y v T room lines at) _ (kind-same 5 at tt)
+  lines-same v T zero lines at = rw (kind-same 5 at) refl
+  lines-same v T (suc room) lines at = choice-same (isKind 5 X at) (isKind 5 Y at) (lineThen X v T room lines at) (lineThen Y v T room lines at) _ (kind-same 5 at)
       (λ h. bind-same _ _ _ _ (line-same v T (length lines) (λ i. lineIn lines i .extent) at (word-same 5 at tt h)) (λ read. lines-same v T room (lines ++ (read .0 ∷ [])) (read .1)))
 
+  samples-same : (count at : ℕ) → samplesFrom X count at ≡ samplesFrom Y count at
+  unfolding samplesFrom
+  samples-same zero at = refl
+  samples-same (suc count) at = require-same (isKind 4 X at) (isKind 4 Y at) 8 at _ _ (kind-same 4 at)
+      (λ _. require-same (eqb (bits 27 1 (wordAt X at)) 0) (eqb (bits 27 1 (wordAt Y at)) 0) 9 at _ _ (spare-same at) (λ _. samples-same count (at + 1)))
+
+  end-same : {A : Type 0} (at : ℕ) (found : A) → endChecked X at found ≡ endChecked Y at found
+  unfolding endChecked
+  end-same at found = rw (test-same 15 at (λ w. eqb (payloadOf w) at) tt, same-length) refl
+
   -- ---- the whole
+  pub checked-alike : (d : ℕ) → checked X d ≡ checked Y d
+  unfolding checked
+  checked-alike d = require-same (leb leastDistances d) (leb leastDistances d) 1 0 _ _ refl (λ _.
+      bind-same _ _ _ _ head-same (λ sizes.
+      bind-same _ _ _ _ (roads-same (sizes .places) (length X) 0 0 ∙ ap (λ n. roadsFrom Y (sizes .places) n 0 0) same-length) (λ roads.
+      bind-same _ _ _ _ (samples-same (sampleCount sizes) (roadAt roads)) (λ begins.
+      bind-same _ _ _ _ (lines-same (sizes .signals) (sizes .samples) mostLines [] begins) (λ found. end-same (found .1) _)))))
+
+  -- whatever was lent to either
   pub same-layout : (dx dy : ℕ) (L M : Layout) → AcceptedSheet X dx L → AcceptedSheet Y dy M → L ≡ M
   same-layout dx dy L M x y =
       let sizes = same-accepted (sym (x .head) ∙ head-same ∙ y .head) in
       let roads = same-accepted (sym (x .roads) ∙ roads-same (L.sizes.places) (length X) 0 0
-      ∙ ap₂ (λ (z : Sizes) (n : ℕ). roadsFrom Y (z .places) n 0 0) sizes apart.same-length ∙ y .roads) in
+      ∙ ap₂ (λ (z : Sizes) (n : ℕ). roadsFrom Y (z .places) n 0 0) sizes same-length ∙ y .roads) in
       let begins : layoutOf L .table ≡ layoutOf M .table = ap₂ (λ (r : ℕ) (z : Sizes). roadAt r + sampleCount z) roads sizes in
       let found = same-accepted (sym (x .table) ∙ lines-same (L.sizes.signals) (L.sizes.samples) mostLines [] (layoutOf L .table)
       ∙ ap₂ (λ (z : Sizes) (at : ℕ). linesFrom Y (z .signals) (z .samples) mostLines [] at) sizes begins ∙ y .table) in

@@ -1,5 +1,5 @@
 pub mod Layout
 pub mod Recording
-pub mod Apart
+pub mod Alike
 pub mod Checking
 pub mod Survey
