@@ -95,6 +95,11 @@ pub fn line_codes(words: &[u32]) -> Vec<u32> {
     lines.map(|&word| field(word, 27, 20)).collect()
 }
 
+/// A line word with another code.
+pub fn with_code(word: u32, code: u32) -> u32 {
+    word & !(0xFF << 20) | code << 20
+}
+
 /// The words that bytes hold, "each word four bytes, lowest byte first", or
 /// nothing where the length is no multiple of four.
 pub fn from_bytes(bytes: &[u8]) -> Option<Vec<u32>> {
@@ -141,6 +146,12 @@ mod tests {
         assert_eq!(field(0x1020_1002, 11, 0), 2);
         assert_eq!(field(0xFFFF_FFFF, 9, 0), 1023);
         assert_eq!(field(0xFFFF_FFFF, 31, 0), u32::MAX);
+    }
+
+    #[test]
+    fn codes_are_replaced_alone() {
+        assert_eq!(with_code(0x50F0_0801, 7), 0x5070_0801);
+        assert_eq!(with_code(0x5000_03FF, 0xFF), 0x5FF0_03FF);
     }
 
     #[test]

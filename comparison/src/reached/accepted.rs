@@ -6,7 +6,7 @@ use reference::generate::Case;
 use reference::judge::BYTES_PER_DISTANCE;
 use reference::left::Left;
 use reference::print::MOST_BYTES;
-use reference::sheet::{self, Line, Sheet, DISTANCE_ENTRIES, GREATEST_WEIGHT, LAST_CODE};
+use reference::sheet::{self, Sheet, DISTANCE_ENTRIES, GREATEST_WEIGHT, LAST_CODE};
 use reference::sheet::{MOST_LINES, MOST_PLACES, MOST_SAMPLES, MOST_SIGNALS};
 use reference::words::{self, kinds, BYTES_PER_WORD};
 
@@ -103,22 +103,11 @@ fn in_sheet(sheet: &Sheet, words: &[u32], left: &Left) -> [bool; 14] {
         bounds(|lower, upper| lower == 0 && upper == 0),
         bounds(|lower, upper| lower > 0 && lower == upper),
         bounds(|_, upper| upper == GREATEST_WEIGHT),
-        deepest(&sheet.lines) >= 8,
+        sheet.depths().into_iter().any(|depth| depth >= 8),
         left.outcome().is_some_and(|outcome| outcome.rounds == 64),
         words.len() * BYTES_PER_WORD > MOST_BYTES,
         (places, sheet.head.signals, samples) == (MOST_PLACES, MOST_SIGNALS, MOST_SAMPLES),
     ]
-}
-
-/// The greatest number of lines on top of one another.
-fn deepest(lines: &[Line]) -> usize {
-    let mut depths: Vec<usize> = Vec::new();
-    for line in lines {
-        let operands = line.operator.operands();
-        let below = operands.map(|operand| operand.map_or(0, |line| depths[line]));
-        depths.push(1 + below[0].max(below[1]));
-    }
-    depths.into_iter().max().unwrap_or(0)
 }
 
 fn lent(case: &Case, left: &Left) -> impl Iterator<Item = &'static str> {

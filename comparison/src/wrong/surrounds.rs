@@ -86,7 +86,7 @@ struct Recoded(fn(u32) -> u32);
 impl Engine for Recoded {
     fn judge(&self, sheet: &[u8], left: Filled) -> u64 {
         let recoded = |&word: &u32| match words::kind(word) {
-            kinds::LINE => word & !(0xFF << 20) | (self.0)(words::field(word, 27, 20)) << 20,
+            kinds::LINE => words::with_code(word, (self.0)(words::field(word, 27, 20))),
             _ => word,
         };
         match words::from_bytes(sheet) {

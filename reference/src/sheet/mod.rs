@@ -97,4 +97,15 @@ impl Sheet {
         }
         neighbours
     }
+
+    /// For each line how many lines stand on top of one another, itself the top.
+    pub fn depths(&self) -> Vec<usize> {
+        let mut depths: Vec<usize> = Vec::new();
+        for line in &self.lines {
+            let operands = line.operator.operands();
+            let below = operands.map(|operand| operand.map_or(0, |line| depths[line]));
+            depths.push(1 + below[0].max(below[1]));
+        }
+        depths
+    }
 }

@@ -51,7 +51,7 @@ pub fn line_word(random: &mut Random, mut words: Vec<u32>) -> Option<Vec<u32>> {
     let unknown = random.field(LAST_CODE + 1, 255);
     let unknown = random.pick(&[LAST_CODE + 1, unknown]);
     words[at] = match random.below(5) {
-        0 => (words[at] & !(0xFF << 20)) | (unknown << 20),
+        0 => words::with_code(words[at], unknown),
         1 => set(words[at], 10, left_from),
         2 => set(words[at], 0, right_from),
         3 => set(words[at], 10, random.field(left_from, 1023)),
