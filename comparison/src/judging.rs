@@ -6,7 +6,7 @@ use crate::{Definitions, Engine, Filled, Implementation};
 use reference::answer::Answer;
 use reference::generate::random::Random;
 use reference::generate::Case;
-use reference::judge::BYTES_PER_DISTANCE;
+use reference::judge::{Outcome, BYTES_PER_DISTANCE};
 use reference::left::Left;
 use reference::words::{self, BYTES_PER_WORD};
 
@@ -74,11 +74,7 @@ fn same(left: &Left, right: &Left) -> Checked {
 }
 
 /// Judges the words of a valid sheet with enough lent; gives what is left.
-pub fn accepted(
-    engine: &dyn Engine,
-    random: &mut Random,
-    words: &[u32],
-) -> Result<Left, Difference> {
+fn accepted(engine: &dyn Engine, random: &mut Random, words: &[u32]) -> Result<Left, Difference> {
     let case = Case::lend(random, words);
     let left = judged(engine, random, &case).and_then(|left| {
         demand(left.number == 0, || format!("a valid sheet was refused with {}", left.number))?;
@@ -87,14 +83,26 @@ pub fn accepted(
     left.map_err(|difference| difference.on_case(&case))
 }
 
-/// Judges the words of a valid sheet with enough lent; gives the whole answer.
+/// What is said to a valid sheet: the result and the whole answer.
+pub struct Answered {
+    /// The result.
+    pub outcome: Outcome,
+    /// The answer.
+    pub answer: Answer,
+}
+
+/// Judges the words of a valid sheet with enough lent; gives what is said to it.
 pub fn answered(
     engine: &dyn Engine,
     random: &mut Random,
     words: &[u32],
-) -> Result<Answer, Difference> {
-    let whole = accepted(engine, random, words)?.whole_answer();
-    whole.ok_or_else(|| {
-        Difference::new("the answer is not a whole one").on("sheet", &words::to_bytes(words))
-    })
+) -> Result<Answered, Difference> {
+    let left = accepted(engine, random, words)?;
+    match (left.outcome(), left.whole_answer()) {
+        (Some(outcome), Some(answer)) => Ok(Answered { outcome, answer }),
+        _ => {
+            let broken = Difference::new("the answer is not a whole one");
+            Err(broken.on("sheet", &words::to_bytes(words)))
+        }
+    }
 }

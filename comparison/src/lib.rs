@@ -8,6 +8,7 @@
 #![forbid(unsafe_code)]
 #![warn(missing_docs)]
 
+pub mod alike;
 pub mod bench;
 pub mod compare;
 pub mod difference;

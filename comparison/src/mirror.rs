@@ -3,13 +3,12 @@
 //! read backwards.
 
 use crate::difference::{demand, Checked, Difference};
-use crate::judging::accepted;
+use crate::judging::{answered, Answered};
 use crate::reached::Reached;
 use crate::Engine;
 use reference::answer::{Answer, AnswerLine};
 use reference::generate::random::Random;
 use reference::generate::valid;
-use reference::left::Left;
 use reference::words::{self, kinds};
 
 /// The codes that look ahead, each with the one that looks back as far.
@@ -28,8 +27,8 @@ fn label(code: u32) -> String {
 pub fn check(engine: &dyn Engine, random: &mut Random, reached: &mut Reached) -> Checked {
     let words = valid::sheet(random, 16);
     let turned = turned(&words);
-    let one = accepted(engine, random, &words)?;
-    let other = accepted(engine, random, &turned)?;
+    let one = answered(engine, random, &words)?;
+    let other = answered(engine, random, &turned)?;
     mirrored(words::field(words[0], 11, 0) as usize, &one, &other).map_err(|difference| {
         let difference = difference.on("one sheet", &words::to_bytes(&words));
         difference.on("the sheet turned round", &words::to_bytes(&turned))
@@ -60,21 +59,18 @@ fn exchanged(word: u32) -> u32 {
     let code = words::field(word, 27, 20);
     let other = both_ways.into_iter().find(|pair| pair.0 == code);
     match other {
-        Some((_, other)) if words::kind(word) == kinds::LINE => word & !(0xFF << 20) | other << 20,
+        Some((_, other)) if words::kind(word) == kinds::LINE => words::with_code(word, other),
         _ => word,
     }
 }
 
-/// Demands that what one leaves is what the other leaves, read backwards: words,
+/// Demands that what is said to one is what is said to the other, read backwards: words,
 /// rounds and yes count are the same.
-fn mirrored(samples: usize, one: &Left, other: &Left) -> Checked {
-    let outcomes = (one.outcome(), other.outcome());
+fn mirrored(samples: usize, one: &Answered, other: &Answered) -> Checked {
+    let outcomes = (one.outcome, other.outcome);
     demand(outcomes.0 == outcomes.1, || format!("unlike results: {outcomes:?}"))?;
-    let whole = |left: &Left| {
-        left.whole_answer().ok_or_else(|| Difference::new("the answer is not a whole one"))
-    };
-    let (one, other) = (whole(one)?, whole(other)?);
-    let backwards = one.lines.iter().map(|line| backwards(samples, &one, line));
+    let (one, other) = (&one.answer, &other.answer);
+    let backwards = one.lines.iter().map(|line| backwards(samples, one, line));
     match backwards.zip(&other.lines).position(|(line, other)| line != *other) {
         Some(line) => Err(Difference::new(format!("line {line} is not the same read backwards"))),
         None => Ok(()),

@@ -1,17 +1,17 @@
 //! Demand 3 on the engine: two sheets alike in every word but their samples,
-//! which are at most d apart, have margins at most d apart or the same infinity,
-//! and the same verdict where a margin is beyond d.
+//! which are at most d apart, have margins at most d apart or the same infinity.
+//! Where a margin is infinite or beyond d, both verdicts are yes if it is positive
+//! and both are no if it is negative.
 
-use crate::difference::{demand, Checked};
-use crate::judging::answered;
+use crate::alike::{with_samples, Alike, Point};
+use crate::difference::Checked;
 use crate::reached::Reached;
 use crate::Engine;
-use reference::answer::{Answer, AnswerLine};
 use reference::generate::random::Random;
-use reference::generate::valid::{self, LEAST, MOST};
-use reference::margin::{Margin, Verdict};
+use reference::generate::valid;
+use reference::margin::Margin;
 use reference::sheet::LAST_CODE;
-use reference::words::{self, kinds};
+use reference::words;
 
 /// What a run must have reached: pairs of sheets, and a line of every code in
 /// them.
@@ -25,65 +25,96 @@ fn code_label(code: u32) -> String {
     format!("steadiness: code {code}")
 }
 
-/// Judges a random sheet and another whose samples are at most d away.
+/// Judges a random sheet and another whose samples are not far away.
 pub fn check(engine: &dyn Engine, random: &mut Random, reached: &mut Reached) -> Checked {
     let first = valid::sheet(random, 16);
     let any = random.between(0, 1 << 27);
     let far = random.pick(&[0, 1, 1, 2, 3, 10, any]);
-    let second = moved(random, &first, far);
-    let one = answered(engine, random, &first)?;
-    let other = answered(engine, random, &second)?;
-    all_steady(&one, &other, far).map_err(|difference| {
-        let difference = difference.on("one sheet", &words::to_bytes(&first));
-        difference.on("the other sheet", &words::to_bytes(&second))
-    })?;
+    let second = with_samples(&first, |_, number| {
+        let any = random.between(-far, far);
+        number + random.pick(&[-far, far, 0, any])
+    });
+    let alike = Alike::judged(engine, random, [first, second])?;
+    demanded(&alike)?;
     reached.count(PAIR);
-    for code in words::line_codes(&first) {
+    for code in words::line_codes(&alike.sheets[0]) {
         reached.count(&code_label(code));
     }
     Ok(())
 }
 
-/// Demands that two whole answers are as near as samples so far apart allow.
-fn all_steady(one: &Answer, other: &Answer, far: i64) -> Checked {
-    let size = |line: &AnswerLine| (line.first, line.verdicts.len());
-    let shape = |answer: &Answer| answer.lines.iter().map(size).collect::<Vec<_>>();
-    demand(shape(one) == shape(other), || "answers of unlike shape".into())?;
-    for (line, (one, other)) in one.lines.iter().zip(&other.lines).enumerate() {
-        let mut pairs = one.verdicts.iter().zip(&other.verdicts);
-        let unsteady = pairs.find(|(x, y)| !steady(x, y, far));
-        demand(unsteady.is_none(), || {
-            format!("line {line} is not steady for samples {far} apart: {unsteady:?}")
-        })?;
-    }
-    Ok(())
+/// Demands that what is said to two sheets is as near as their samples allow.
+pub fn demanded(alike: &Alike) -> Checked {
+    let far = alike.apart();
+    let what = format!("not steady for samples {far} apart");
+    alike.demand_at_all(&what, |point| is_steady(point, far))
 }
 
-/// The sheet with every sample moved by at most so much. In a valid sheet the
-/// words of kind 4 are its samples.
-fn moved(random: &mut Random, words: &[u32], far: i64) -> Vec<u32> {
-    let move_word = |&word: &u32| {
-        if words::kind(word) != kinds::SAMPLE {
-            return word;
-        }
-        let any = random.between(-far, far);
-        let by = random.pick(&[-far, far, 0, any]);
-        let number = i64::from(words::signed27(word)) + by;
-        let number = number.clamp(LEAST.into(), MOST.into()) as i32;
-        words::word(kinds::SAMPLE, words::sample_payload(number))
-    };
-    words.iter().map(move_word).collect()
-}
-
-/// Whether two verdicts are as near as samples so far apart allow.
-fn steady(x: &Verdict, y: &Verdict, far: i64) -> bool {
+/// Whether two verdicts are as near as samples so far apart allow. X and Y may be
+/// exchanged, so what a margin says of both verdicts is asked of either margin.
+fn is_steady(point: &Point, far: i64) -> bool {
+    let Point { x, y, .. } = point;
     let near = match (x.margin, y.margin) {
         (Margin::Finite(x), Margin::Finite(y)) => (x - y).abs() <= far,
         (x, y) => x == y,
     };
-    let beyond = |margin: Margin| match margin {
-        Margin::Finite(number) => number.abs() > far,
-        _ => true,
+    let agree = |margin: Margin| match settled(margin, far) {
+        Some(yes) => x.yes == yes && y.yes == yes,
+        None => true,
     };
-    near && (x.yes == y.yes || !(beyond(x.margin) || beyond(y.margin)))
+    near && agree(x.margin) && agree(y.margin)
+}
+
+/// What a margin settles for both verdicts: yes where it is beyond so much above 0
+/// or plus infinity, no where it is as far below or minus infinity.
+fn settled(margin: Margin, far: i64) -> Option<bool> {
+    match margin {
+        Margin::MinusInfinity => Some(false),
+        Margin::PlusInfinity => Some(true),
+        Margin::Finite(number) if number.abs() > far => Some(number > 0),
+        Margin::Finite(_) => None,
+    }
+}
+
+#[cfg(test)]
+mod tests {
+    use super::*;
+    use reference::margin::Margin::{Finite, MinusInfinity, PlusInfinity};
+    use reference::margin::Verdict;
+
+    fn is_steady_for_3(x: (bool, Margin), y: (bool, Margin)) -> bool {
+        let [x, y] = [x, y].map(|(yes, margin)| Verdict { yes, margin });
+        let steady = is_steady(&Point { line: 0, sample: 0, place: 0, x, y }, 3);
+        assert_eq!(steady, is_steady(&Point { line: 0, sample: 0, place: 0, x: y, y: x }, 3));
+        steady
+    }
+
+    #[test]
+    fn margins_are_near_or_the_same_infinity() {
+        assert!(is_steady_for_3((true, Finite(9)), (true, Finite(6))));
+        assert!(!is_steady_for_3((true, Finite(9)), (true, Finite(5))));
+        assert!(is_steady_for_3((true, PlusInfinity), (true, PlusInfinity)));
+        assert!(is_steady_for_3((false, MinusInfinity), (false, MinusInfinity)));
+        assert!(!is_steady_for_3((true, PlusInfinity), (true, Finite(9))));
+        assert!(!is_steady_for_3((true, PlusInfinity), (false, MinusInfinity)));
+    }
+
+    /// Within d of 0 verdicts may differ.
+    #[test]
+    fn verdicts_are_settled_beyond_d() {
+        assert!(is_steady_for_3((true, Finite(3)), (false, Finite(0))));
+        assert!(is_steady_for_3((false, Finite(-3)), (true, Finite(0))));
+        assert!(!is_steady_for_3((true, Finite(4)), (false, Finite(1))));
+        assert!(!is_steady_for_3((false, Finite(-4)), (true, Finite(-1))));
+    }
+
+    /// Two verdicts that are the same are not enough: they have to be those that
+    /// the margin's sign says.
+    #[test]
+    fn verdicts_are_those_of_the_sign() {
+        assert!(!is_steady_for_3((false, Finite(4)), (false, Finite(4))));
+        assert!(!is_steady_for_3((true, Finite(-4)), (true, Finite(-4))));
+        assert!(!is_steady_for_3((false, PlusInfinity), (false, PlusInfinity)));
+        assert!(!is_steady_for_3((true, MinusInfinity), (true, MinusInfinity)));
+    }
 }

@@ -37,7 +37,7 @@ pub fn check(engine: &dyn Engine, random: &mut Random, reached: &mut Reached) ->
     let mut table = Table::resume(&words);
     let pairs = written(&mut table, random);
     let words = table.words();
-    let answer = answered(engine, random, &words)?;
+    let answer = answered(engine, random, &words)?.answer;
     let line = |number: u32| answer.lines.get(number as usize);
     for (name, (one, other)) in pairs {
         let broken = || format!("lines {one} and {other} break: {name}");
