@@ -18,6 +18,7 @@ pub mod lent;
 pub mod lookups;
 pub mod mirror;
 pub mod printing;
+pub mod raising;
 pub mod reached;
 pub mod steadiness;
 

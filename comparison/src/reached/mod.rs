@@ -15,7 +15,7 @@ mod surrounds;
 pub use looked_up::LookedUp;
 
 use crate::laws::LAWS;
-use crate::{mirror, steadiness};
+use crate::{mirror, raising, steadiness};
 use reference::generate::Case;
 use reference::left::Left;
 use reference::sheet::Sheet;
@@ -39,7 +39,8 @@ impl Default for Reached {
             .chain(looked_up::labels())
             .chain(laws)
             .chain(mirror::labels())
-            .chain(steadiness::labels());
+            .chain(steadiness::labels())
+            .chain(raising::labels());
         Reached::of(labels.collect())
     }
 }
@@ -103,7 +104,7 @@ fn is_small(sheet: &Sheet) -> bool {
 }
 
 /// The texts of which it is said that they are shown.
-fn chosen<const N: usize>(
+pub fn chosen<const N: usize>(
     texts: &'static [&'static str; N],
     shown: [bool; N],
 ) -> impl Iterator<Item = &'static str> {
