@@ -73,16 +73,20 @@ impl Alike {
     /// Demands something at every line, sample and place; tells the first point at
     /// which it is not so, and both sheets.
     pub fn demand_at_all(&self, what: &str, is_so: impl Fn(&Point) -> bool) -> Checked {
-        let broken = self.points().find(|point| !is_so(point));
-        self.demand(broken.is_none(), || format!("{what}: {broken:?}"))
+        match self.points().find(|point| !is_so(point)) {
+            None => Ok(()),
+            Some(point) => Err(self.on_both(Difference::new(format!("{what}: {point:?}")))),
+        }
     }
 
     /// Demands something of both, or tells what was not so, and both sheets.
     pub fn demand(&self, condition: bool, otherwise: impl FnOnce() -> String) -> Checked {
-        demand(condition, otherwise).map_err(|difference| {
-            let [x, y] = self.sheets.each_ref().map(|sheet| words::to_bytes(sheet));
-            difference.on("one sheet", &x).on("the other sheet", &y)
-        })
+        demand(condition, otherwise).map_err(|difference| self.on_both(difference))
+    }
+
+    fn on_both(&self, difference: Difference) -> Difference {
+        let [x, y] = self.sheets.each_ref().map(|sheet| words::to_bytes(sheet));
+        difference.on("one sheet", &x).on("the other sheet", &y)
     }
 }
 

@@ -1,9 +1,8 @@
 //! Engines that do the right thing and then spoil what they leave.
 
 use super::caught;
-use crate::reached::Reached;
-use crate::{steadiness, Engine, Filled, Implementation};
-use reference::generate::random::Random;
+use super::traps::{difference_alone, found_alone};
+use crate::{raising, steadiness, Engine, Filled, Implementation};
 use reference::judge::Outcome;
 use reference::words::{self, kinds};
 
@@ -72,10 +71,16 @@ fn margins_doubled_are_not_steady() {
     let engine = Spoilt(|_, answer, _| {
         change_words(answer, kinds::YES, |word| words::word(kinds::YES, word << 1 & 0x7FF_FFFF))
     });
-    let (mut random, mut reached) = (Random::new(1), Reached::default());
-    let found =
-        (0..1_000).find_map(|_| steadiness::check(&engine, &mut random, &mut reached).err());
-    assert_eq!(found.map(|difference| difference.found_on.len()), Some(2));
+    assert_eq!(found_alone(&engine, steadiness::check), Some(2));
+}
+
+/// Raised samples alone find a yes count that runs over, and tell the two sheets.
+#[test]
+fn a_yes_count_of_four_bits_falls() {
+    let engine = Spoilt(|_, _, result| change_outcome(result, |outcome| outcome.yes &= 0xF));
+    let difference = difference_alone(&engine, raising::check).expect("a difference");
+    assert!(difference.what.starts_with("the yes count fell"));
+    assert_eq!(difference.found_on.len(), 2);
 }
 
 #[test]

@@ -34,6 +34,7 @@ pub const LEAST_OF_RUNS: u32 = 20;
 pub const LAST_OF_RUNS: u32 = 21;
 pub const RIGHT_CUT_OUT: u32 = 22;
 pub const BOTH_CUT_OUT: u32 = 23;
+pub const BOUNDARY_WITHOUT_LEFT: u32 = 24;
 
 /// A row of verdicts, one for each place.
 pub type Row = Vec<Verdict>;
@@ -89,7 +90,7 @@ pub fn lesser(a: Verdict, b: Verdict) -> Verdict {
     Verdict { yes: a.yes && b.yes, margin: a.margin.min(b.margin) }
 }
 
-fn not(a: Verdict) -> Verdict {
+pub fn not(a: Verdict) -> Verdict {
     Verdict { yes: !a.yes, margin: a.margin.negate() }
 }
 
@@ -101,7 +102,7 @@ fn of_difference(difference: i32) -> Verdict {
     Verdict { yes: difference >= 0, margin: Margin::Finite(difference.into()) }
 }
 
-fn each(left: &Row, right: &Row, join: fn(Verdict, Verdict) -> Verdict) -> Row {
+pub fn each(left: &Row, right: &Row, join: fn(Verdict, Verdict) -> Verdict) -> Row {
     left.iter().zip(right).map(|(&left, &right)| join(left, right)).collect()
 }
 

@@ -4,6 +4,7 @@
 mod bytes;
 mod evaluator;
 mod extents;
+mod falling;
 mod lookups;
 mod network;
 mod printing;

@@ -33,9 +33,13 @@ impl Network<'_> {
         let bounds = operator.bounds().unwrap_or(Bounds { lower: 0, upper: 0 });
         let ball = Bounds { lower: 0, ..bounds };
         let ring = if FAULT == UPPER_MASK { ball } else { bounds };
+        let around = match FAULT {
+            BOUNDARY_WITHOUT_LEFT => each(right, left, |right, left| lesser(right, not(left))),
+            _ => right.clone(),
+        };
         let settled = (0..left.len()).map(|place| {
             let left = masked(self.distances, place, left, ball);
-            let right = masked(self.distances, place, right, ring);
+            let right = masked(self.distances, place, &around, ring);
             let centre = Centre { place, ball, left, right };
             match operator {
                 Operator::Surround { .. } => self.without_islands::<FAULT>(&centre),

@@ -4,7 +4,7 @@
 use super::evaluator::{self, Trapped};
 use super::traps::found_alone;
 use super::{caught, over};
-use crate::{laws, steadiness, Engine, Filled, Implementation};
+use crate::{laws, raising, steadiness, Engine, Filled, Implementation};
 use reference::distance::Distances;
 use reference::evaluation::Evaluation;
 use reference::fast::Fast;
@@ -176,10 +176,12 @@ impl<const CODE: u32> Evaluation for Doubled<CODE> {
     }
 }
 
-/// "Both readings are to be steady": steadiness alone finds it of either code, and
-/// tells both sheets.
+/// "Both readings are to be steady": steadiness alone finds it of either code, raised
+/// samples do too, and both tell the two sheets.
 #[test]
 fn a_surround_that_is_not_steady() {
     assert_eq!(found_alone(&over::<Doubled<7>>(), steadiness::check), Some(2));
     assert_eq!(found_alone(&over::<Doubled<15>>(), steadiness::check), Some(2));
+    assert_eq!(found_alone(&over::<Doubled<7>>(), raising::check), Some(2));
+    assert_eq!(found_alone(&over::<Doubled<15>>(), raising::check), Some(2));
 }

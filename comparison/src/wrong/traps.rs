@@ -2,7 +2,7 @@
 
 use super::caught;
 use super::evaluator::{self, Trapped};
-use crate::difference::Difference;
+use crate::difference::{Checked, Difference};
 use crate::reached::Reached;
 use crate::{laws, mirror, Engine};
 use reference::generate::random::Random;
@@ -62,14 +62,18 @@ fn operands_read_from_their_own_first_sample() {
     assert!(caught(&Trapped::<{ evaluator::OWN_FIRST }>).is_some());
 }
 
-/// What a check finds that has nothing to compare an engine with.
-pub fn found_alone(
-    engine: &dyn Engine,
-    check: fn(&dyn Engine, &mut Random, &mut Reached) -> Result<(), Difference>,
-) -> Option<usize> {
+/// A check that has nothing to compare an engine with.
+pub type Alone = fn(&dyn Engine, &mut Random, &mut Reached) -> Checked;
+
+/// What such a check finds.
+pub fn difference_alone(engine: &dyn Engine, check: Alone) -> Option<Difference> {
     let (mut random, mut reached) = (Random::new(1), Reached::default());
-    let found = (0..1_000).find_map(|_| check(engine, &mut random, &mut reached).err());
-    found.map(|difference| difference.found_on.len())
+    (0..1_000).find_map(|_| check(engine, &mut random, &mut reached).err())
+}
+
+/// On how many sheets it finds it.
+pub fn found_alone(engine: &dyn Engine, check: Alone) -> Option<usize> {
+    difference_alone(engine, check).map(|difference| difference.found_on.len())
 }
 
 /// The laws alone find them too, and tell the sheet.
