@@ -21,5 +21,25 @@ pub const SINCE: [u32; 17] = [
     0xF0000010,
 ];
 
+/// Two places joined by a road of weight 1, one signal, two samples. Line 0 is at
+/// least 0, line 1 is always, line 2 everywhere, and line 3 line 0 surrounded by line
+/// 0, each of line 0 from 0 to 1. The samples are 1 and -2, then 0 and 3: 8 yeses.
+///
+/// The only region of a place that has a boundary is the place alone, so that line 3
+/// is the lesser of both places, as line 2 is.
+pub const BEFORE_RAISING: [u32; 19] = [
+    0x10201002, 0x20000001, 0x30000001, 0x40000001, 0x47FFFFFE, 0x40000000, 0x40000003, 0x50100000,
+    0x80000000, 0x50A00000, 0x60000000, 0x70000001, 0x50B00000, 0x60000000, 0x70000001, 0x50700000,
+    0x60000000, 0x70000001, 0xF0000012,
+];
+
+/// The same with two samples raised by 2: 1 and 0, then 2 and 3. No yes is lost, no
+/// margin is lower, and all 14 verdicts are yes.
+pub const AFTER_RAISING: [u32; 19] = [
+    0x10201002, 0x20000001, 0x30000001, 0x40000001, 0x40000000, 0x40000002, 0x40000003, 0x50100000,
+    0x80000000, 0x50A00000, 0x60000000, 0x70000001, 0x50B00000, 0x60000000, 0x70000001, 0x50700000,
+    0x60000000, 0x70000001, 0xF0000012,
+];
+
 /// All of them.
-pub const SHEETS: [&[u32]; 2] = [&UNTIL, &SINCE];
+pub const SHEETS: [&[u32]; 4] = [&UNTIL, &SINCE, &BEFORE_RAISING, &AFTER_RAISING];

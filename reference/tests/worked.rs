@@ -1,10 +1,12 @@
-//! The worked sheets of until and since leave what was worked out by hand.
+//! The worked sheets leave what was worked out by hand: until and since, and two
+//! sheets of which the second has samples raised.
 
 mod common;
 
 use common::*;
 use reference::judge::Outcome;
-use reference::worked::{SINCE, UNTIL};
+use reference::words::{self, kinds};
+use reference::worked::{AFTER_RAISING, BEFORE_RAISING, SINCE, UNTIL};
 
 /// Line 2 begins with sample 0.
 const ANSWER_OF_UNTIL: [u32; 14] = [
@@ -18,21 +20,35 @@ const ANSWER_OF_SINCE: [u32; 14] = [
     0x90000001, 0x90000006, 0xAFFFFFFD, 0xE0003001, 0x90000004, 0xF000000D,
 ];
 
-fn assert_leaves(sheet: &[u32], answer: &[u32]) {
+/// Line 0 has two samples, line 1 one, lines 2 and 3 two, at two places each.
+const ANSWER_BEFORE_RAISING: [u32; 20] = [
+    0xD0204002, 0xE0000002, 0x90000001, 0xAFFFFFFE, 0x90000000, 0x90000003, 0xE0000001, 0x90000000,
+    0xAFFFFFFE, 0xE0000002, 0xAFFFFFFE, 0xAFFFFFFE, 0x90000000, 0x90000000, 0xE0000002, 0xAFFFFFFE,
+    0xAFFFFFFE, 0x90000000, 0x90000000, 0xF0000013,
+];
+
+const ANSWER_AFTER_RAISING: [u32; 20] = [
+    0xD0204002, 0xE0000002, 0x90000001, 0x90000000, 0x90000002, 0x90000003, 0xE0000001, 0x90000001,
+    0x90000000, 0xE0000002, 0x90000000, 0x90000000, 0x90000002, 0x90000002, 0xE0000002, 0x90000000,
+    0x90000000, 0x90000002, 0x90000002, 0xF0000013,
+];
+
+fn assert_leaves(sheet: &[u32], answer: &[u32], rounds: u64, yes: u64) {
     let left = judged_words(sheet);
     assert_eq!(answer_words(&left)[..answer.len()], *answer);
     assert!(answer_words(&left)[answer.len()..].iter().all(|&word| word == 0));
-    assert_eq!(outcome(&left), Outcome { words: 14, yes: 8, ..Outcome::default() });
+    let words = answer.len() as u64;
+    assert_eq!(outcome(&left), Outcome { words, rounds, yes, ..Outcome::default() });
 }
 
 #[test]
 fn until_says_yes_4_at_its_first_sample() {
-    assert_leaves(&UNTIL, &ANSWER_OF_UNTIL);
+    assert_leaves(&UNTIL, &ANSWER_OF_UNTIL, 0, 8);
 }
 
 #[test]
 fn since_says_yes_4_at_its_last_sample() {
-    assert_leaves(&SINCE, &ANSWER_OF_SINCE);
+    assert_leaves(&SINCE, &ANSWER_OF_SINCE, 0, 8);
 }
 
 /// The sheet with the lower and the upper bound of its last line replaced.
@@ -57,5 +73,24 @@ fn windows_that_are_cut_sooner() {
     // From the third sample on left is 2; alone the third offers 1 and the last 2.
     for (at, offered) in [(0, no(-3)), (2, yes(1)), (3, yes(2))] {
         assert_eq!([ahead(at, at), back(at, at)], [offered; 2]);
+    }
+}
+
+#[test]
+fn before_raising_8_of_14_are_yes() {
+    assert_leaves(&BEFORE_RAISING, &ANSWER_BEFORE_RAISING, 2, 8);
+}
+
+#[test]
+fn after_raising_all_14_are_yes() {
+    assert_leaves(&AFTER_RAISING, &ANSWER_AFTER_RAISING, 2, 14);
+}
+
+/// Samples alone differ, and none is lower.
+#[test]
+fn raising_raises_samples_and_nothing_else() {
+    for (&before, &after) in BEFORE_RAISING.iter().zip(&AFTER_RAISING) {
+        let is_sample = [before, after].map(words::kind) == [kinds::SAMPLE; 2];
+        assert!(before == after || is_sample && words::signed27(before) < words::signed27(after));
     }
 }
