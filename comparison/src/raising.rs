@@ -56,6 +56,7 @@ mod tests {
     use crate::{Definitions, Implementation};
     use reference::margin::Margin::Finite;
     use reference::margin::Verdict;
+    use reference::worked::{AFTER_RAISING, BEFORE_RAISING};
 
     /// One place, one sample of 0: line 0 is at most 0.
     const AT_MOST: [u32; 5] = [0x10101001, 0x40000000, 0x50200000, 0x80000000, 0xF0000004];
@@ -115,6 +116,16 @@ mod tests {
         let alike = raised_by_1(&Implementation, &AT_LEAST);
         assert_eq!(said(&alike), [[no(-1), yes(0)]]);
         assert!(demanded(&alike).is_ok());
+    }
+
+    /// Six verdicts turn, and margins rise by as much as the two samples at the most.
+    #[test]
+    fn the_worked_pair_rises() {
+        let sheets = [BEFORE_RAISING.to_vec(), AFTER_RAISING.to_vec()];
+        let alike = Alike::judged(&Implementation, &mut Random::new(1), sheets).expect("answers");
+        assert!(demanded(&alike).is_ok() && steadiness::demanded(&alike).is_ok());
+        assert_eq!(alike.points().filter(|point| !point.x.yes && point.y.yes).count(), 6);
+        assert_eq!(alike.apart(), 2);
     }
 
     /// Each part of the demand is broken alone.

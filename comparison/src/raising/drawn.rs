@@ -11,19 +11,19 @@ use reference::words::{self, kinds};
 /// that keeps those of code 3. All others have neither.
 const KEEP_EVERY: usize = 8;
 
-/// By how much a sample is raised, from and to: by little, by anything, and as far
-/// as samples go, which is less than the greatest of these.
+/// By how much a sample is raised, from and to: by little, by anything, and to the
+/// greatest sample, since what would be beyond is cut to that.
 const RAISES: [(i64, i64); 7] = [(0, 1), (0, 2), (1, 1), (1, 2), (2, 2), (0, FAR), (FAR, FAR)];
 
-/// From the least sample to beyond the greatest.
+/// From every sample to beyond the greatest.
 const FAR: i64 = 1 << 27;
 
 /// Which samples are raised.
 #[derive(Clone, Copy)]
 enum Which {
-    None,
+    Nothing,
     One,
-    Some,
+    Many,
     All,
 }
 
@@ -45,14 +45,18 @@ pub fn sheets(random: &mut Random) -> [Vec<u32>; 2] {
 /// stays valid and keeps its samples, since line 0 is an earlier line and, having no
 /// operands, has verdicts for the whole recording.
 fn keeping(random: &mut Random, words: &[u32], kept: Option<u32>) -> Vec<u32> {
-    let mut replaced = |&word: &u32| match words::field(word, 27, 20) {
-        _ if words::kind(word) != kinds::LINE => word,
-        code if Some(code) == kept => word,
-        2 => words::with_code(word, 1),
-        3 => words::with_code(word, random.pick(&[4, 8])),
-        _ => word,
+    let replaced = |&word: &u32| {
+        let code = words::field(word, 27, 20);
+        if words::kind(word) != kinds::LINE || kept == Some(code) {
+            return word;
+        }
+        match code {
+            2 => words::with_code(word, 1),
+            3 => words::with_code(word, random.pick(&[4, 8])),
+            _ => word,
+        }
     };
-    words.iter().map(&mut replaced).collect()
+    words.iter().map(replaced).collect()
 }
 
 /// A valid sheet whose samples lie just below constants that they are compared
@@ -81,14 +85,14 @@ fn constants(sheet: &Sheet) -> Vec<Vec<i64>> {
 
 /// A valid sheet with samples raised: none of them, one, some or all.
 fn raised(random: &mut Random, words: &[u32]) -> Vec<u32> {
-    let which = random.pick(&[Which::None, Which::One, Which::Some, Which::Some, Which::All]);
+    let which = random.pick(&[Which::Nothing, Which::One, Which::Many, Which::Many, Which::All]);
     let (from, to) = random.pick(&RAISES);
     let one = random.below(samples(words).count());
     with_samples(words, |at, number| {
         let is_raised = match which {
-            Which::None => false,
+            Which::Nothing => false,
             Which::One => at == one,
-            Which::Some => random.chance(40),
+            Which::Many => random.chance(40),
             Which::All => true,
         };
         if is_raised {
@@ -102,7 +106,6 @@ fn raised(random: &mut Random, words: &[u32]) -> Vec<u32> {
 #[cfg(test)]
 mod tests {
     use super::*;
-    use crate::alike::samples;
     use reference::builder::SheetBuilder;
 
     fn recorded(numbers: [i32; 4]) -> SheetBuilder {

@@ -81,10 +81,8 @@ fn fall_label(code: u32, text: &str) -> String {
 pub fn count(alike: &Alike, reached: &mut Reached) {
     reached.count(PAIR);
     let of_samples = chosen(&OF_SAMPLES, of_samples(alike));
-    for text in of_samples.chain(chosen(&OF_ANSWERS, of_answers(alike))) {
-        reached.count(&label(text));
-    }
-    for label in of_lines(alike) {
+    let of_answers = chosen(&OF_ANSWERS, of_answers(alike));
+    for label in of_samples.chain(of_answers).map(label).chain(of_lines(alike)) {
         reached.count(&label);
     }
 }
