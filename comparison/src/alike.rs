@@ -177,6 +177,21 @@ mod tests {
         assert_eq!(alike.points().map(told).collect::<Vec<_>>(), expected);
     }
 
+    /// Line 1 is missing, or begins sooner.
+    #[test]
+    fn answers_of_unlike_shape_are_told() {
+        let recorded = || SheetBuilder::new(2, 1, 2).road(0, 1, 5).samples(&[1, 2, 3, 4]);
+        let shorter = recorded().at_least(0, 3).end();
+        let sooner = recorded().at_least(0, 3).bounded(9, 0, 0, (0, 1)).end();
+        for other in [shorter, sooner] {
+            let sheets = [sheet([1, 2, 3, 4]), other];
+            let unlike = Alike::judged(&Implementation, &mut Random::new(1), sheets).err();
+            let unlike = unlike.expect("unlike shapes");
+            assert_eq!(unlike.what, "answers of unlike shape");
+            assert_eq!(unlike.found_on.len(), 2);
+        }
+    }
+
     /// The fault is told with the point and both sheets.
     #[test]
     fn the_first_point_that_breaks_a_demand_is_told() {

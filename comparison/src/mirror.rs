@@ -64,8 +64,8 @@ fn exchanged(word: u32) -> u32 {
     }
 }
 
-/// Demands that what is said to one is what is said to the other, read backwards: words,
-/// rounds and yes count are the same.
+/// Demands that what is said to one is what is said to the other, read backwards:
+/// words, rounds and yes count are the same.
 fn mirrored(samples: usize, one: &Answered, other: &Answered) -> Checked {
     let outcomes = (one.outcome, other.outcome);
     demand(outcomes.0 == outcomes.1, || format!("unlike results: {outcomes:?}"))?;

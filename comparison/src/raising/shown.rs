@@ -158,3 +158,74 @@ fn of_turned(line: &Line, depth: usize) -> impl Iterator<Item = String> {
     let deep = (depth >= LINES_OF_DEEP).then(|| label(DEEP));
     [Some(turned_label(code)), late, deep].into_iter().flatten()
 }
+
+#[cfg(test)]
+mod tests {
+    use super::*;
+    use crate::Implementation;
+    use reference::builder::SheetBuilder;
+    use reference::generate::random::Random;
+    use reference::worked::{AFTER_RAISING, BEFORE_RAISING};
+
+    fn judged(x: &[u32], y: &[u32]) -> Alike {
+        let sheets = [x.to_vec(), y.to_vec()];
+        Alike::judged(&Implementation, &mut Random::new(1), sheets).expect("answers")
+    }
+
+    /// Two sheets of one place, with these numbers of so many signals.
+    fn pair(
+        signals: u32,
+        numbers: [[i32; 2]; 2],
+        lines: fn(SheetBuilder) -> SheetBuilder,
+    ) -> Alike {
+        let [x, y] = numbers.map(|numbers| {
+            lines(SheetBuilder::new(1, signals, 2 / signals).samples(&numbers)).end()
+        });
+        judged(&x, &y)
+    }
+
+    fn texts(alike: &Alike) -> Vec<&'static str> {
+        let of_samples = chosen(&OF_SAMPLES, of_samples(alike));
+        of_samples.chain(chosen(&OF_ANSWERS, of_answers(alike))).collect()
+    }
+
+    /// Two of four samples rise by 2, and so do some margins.
+    #[test]
+    fn the_worked_pair() {
+        let alike = judged(&BEFORE_RAISING, &AFTER_RAISING);
+        let expected = [OF_SAMPLES[2], OF_SAMPLES[4], OF_ANSWERS[0], OF_ANSWERS[1], OF_ANSWERS[2]];
+        assert_eq!(texts(&alike), expected);
+        let codes = [1, 10, 11, 7];
+        let expected = codes.into_iter().flat_map(|code| [code_label(code), turned_label(code)]);
+        assert_eq!(of_lines(&alike), expected.collect());
+    }
+
+    /// Somewhere away from a lone place is nowhere, whatever the samples are.
+    #[test]
+    fn infinities_stay() {
+        let lines = |sheet: SheetBuilder| sheet.truth().bounded(6, 0, 0, (1, 2));
+        let expected = [OF_SAMPLES[1], OF_SAMPLES[5], OF_ANSWERS[3], OF_ANSWERS[4], OF_ANSWERS[5]];
+        assert_eq!(texts(&pair(1, [[0, 5], [MOST, 5]], lines)), expected);
+        assert_eq!(texts(&pair(1, [[0, 5], [0, 5]], lines)), [OF_SAMPLES[0]]);
+    }
+
+    /// Signal 1, which rises by 4, is in no line.
+    #[test]
+    fn a_margin_may_rise_by_less_than_a_sample() {
+        let alike = pair(2, [[0, 0], [1, 4]], |sheet| sheet.at_least(0, 5));
+        assert_eq!(texts(&alike), [OF_SAMPLES[3], OF_ANSWERS[1]]);
+    }
+
+    /// Line 1 begins late and line 2 does not; line 5 is on top of 4, 3, 2 and 0.
+    #[test]
+    fn lines_that_begin_late_and_deep_ones() {
+        let alike = pair(1, [[0, 0], [0, 1]], |sheet| {
+            let sheet = sheet.at_least(0, 1).bounded(13, 0, 0, (0, 1)).bounded(14, 0, 0, (0, 0));
+            sheet.line(4, 2, 2).line(8, 3, 3).line(4, 4, 4)
+        });
+        let codes = [1, 13, 14, 4, 8];
+        let of_codes = codes.into_iter().flat_map(|code| [code_label(code), turned_label(code)]);
+        let expected = of_codes.chain([late_label(13), label(DEEP)]);
+        assert_eq!(of_lines(&alike), expected.collect());
+    }
+}
