@@ -1,22 +1,24 @@
-//! The blocks of the page for newcomers, `docs/SHEETS.md`, which tests hold to
-//! what they say.
+//! The blocks of the pages for newcomers and for planners, `docs/SHEETS.md` and
+//! `docs/FORECASTS.md`, which tests hold to what they say.
 
-const PAGE: &str = include_str!("../../docs/SHEETS.md");
+const PAGES: [&str; 2] =
+    [include_str!("../../docs/SHEETS.md"), include_str!("../../docs/FORECASTS.md")];
 
-/// The labels of the page's sheets.
+/// The labels of the newcomers' sheets. Those of the planners' page are among the
+/// worked ones.
 pub const SHEETS: [&str; 4] =
     ["words a-sheet", "words network-sheet", "words islands-sheet", "words back-sheet"];
 
-/// The page's rows.
+/// The rows of both pages.
 pub fn rows() -> impl Iterator<Item = &'static str> {
-    PAGE.lines()
+    PAGES.into_iter().flat_map(str::lines)
 }
 
 /// The rows of the block that is fenced off with this label.
 ///
 /// # Panics
 ///
-/// If the page has no such block.
+/// If neither page has such a block.
 pub fn block(label: &str) -> Vec<&'static str> {
     let rows = rows().skip_while(|row| *row != format!("```{label}")).skip(1);
     let block: Vec<&str> = rows.take_while(|row| *row != "```").collect();

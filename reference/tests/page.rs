@@ -1,4 +1,4 @@
-//! The newcomer's page shows what the implementation gives.
+//! The pages for newcomers and for planners show what the implementation gives.
 
 mod common;
 
@@ -8,6 +8,7 @@ use reference::page;
 use reference::print::print;
 use reference::sheet::LAST_CODE;
 use reference::words;
+use reference::worked::{AFTER_RAISING, BEFORE_RAISING};
 
 fn printed(words: &[u32]) -> String {
     print::<Fast>(&words::to_bytes(words))
@@ -64,6 +65,27 @@ fn looking_back() {
     assert_eq!(answer_words(&judged_words(&sheet))[..answer.len()], answer);
     assert_eq!(outcome(&judged_words(&sheet)).words, answer.len() as u64);
     assert_eq!(printed(&sheet), page::block("rows back-printed").join("\n") + "\n");
+}
+
+/// Two words of the forecast are replaced by those that the page names.
+#[test]
+fn a_better_forecast() {
+    let sheet = page::words("words forecast");
+    assert_eq!(sheet, BEFORE_RAISING);
+    assert_eq!(printed(&sheet), page::block("rows forecast-printed").join("\n") + "\n");
+    let raised = [&sheet[..4], &[0x40000000, 0x40000002], &sheet[6..]].concat();
+    assert_eq!(raised, AFTER_RAISING);
+    assert_eq!(printed(&raised), page::block("rows raised-printed").join("\n") + "\n");
+}
+
+/// What the planners' page says of the newcomers' network: with three bikes more at
+/// station 0 it is no longer short of them, and line 2 loses its yes there.
+#[test]
+fn bikes_for_a_station_that_is_to_be_short_of_them() {
+    let mut sheet = page::words("words network-sheet");
+    assert_eq!(sheet[9], 0x40000001);
+    sheet[9] = 0x40000004;
+    assert!(printed(&sheet).contains("\n2 0 no -1 no -3 no -2 no -inf no -inf\n"));
 }
 
 /// The page's table of codes has a row for each that there is, and no other.
