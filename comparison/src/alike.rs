@@ -107,21 +107,22 @@ fn row<'a>(
     places.map(move |(place, (&x, &y))| Point { line, sample, place, x, y })
 }
 
-/// The samples of a valid sheet, which are its words of kind 4.
+/// The samples of a sheet: of a valid one its words of kind 4, of a faulty one
+/// every word that would be a sample where one belongs, wherever it stands.
 pub fn samples(words: &[u32]) -> impl Iterator<Item = i64> + '_ {
-    let samples = words.iter().filter(|&&word| words::kind(word) == kinds::SAMPLE);
+    let samples = words.iter().filter(|&&word| words::is_sample(word));
     samples.map(|&word| words::signed27(word).into())
 }
 
-/// A valid sheet with other samples: each by its index among them and its number,
-/// and no farther than samples go.
+/// A sheet, valid or faulty, with other samples: each by its index among them and
+/// its number, and no farther than samples go.
 pub fn with_samples(words: &[u32], mut other: impl FnMut(usize, i64) -> i64) -> Vec<u32> {
     let mut words = words.to_vec();
-    let samples = words::indices(&words, |kind| kind == kinds::SAMPLE);
-    for (at, index) in samples.into_iter().enumerate() {
-        let number = other(at, words::signed27(words[index]).into());
+    let samples = words.iter_mut().filter(|word| words::is_sample(**word));
+    for (at, word) in samples.enumerate() {
+        let number = other(at, words::signed27(*word).into());
         let number = number.clamp(LEAST.into(), MOST.into()) as i32;
-        words[index] = words::word(kinds::SAMPLE, words::sample_payload(number));
+        *word = words::word(kinds::SAMPLE, words::sample_payload(number));
     }
     words
 }
@@ -150,6 +151,17 @@ mod tests {
         });
         assert_eq!(other, sheet([-1, MOST, LEAST, 4]));
         assert_eq!(samples(&other).collect::<Vec<_>>(), [-1, most, LEAST.into(), 4]);
+    }
+
+    /// A sample stands where a head, a constant or nothing belongs; a word of kind 4
+    /// with bit 27 set is no sample.
+    #[test]
+    fn samples_of_a_faulty_sheet_are_replaced_wherever_they_stand() {
+        let words = [0x40000001, 0x48000005, 0x50100000, 0x47FFFFFF, 0xF0000004, 0x4FFFFFFF];
+        let other = with_samples(&words, |at, number| number + 2 + at as i64);
+        let expected = [0x40000003, 0x48000005, 0x50100000, 0x40000002, 0xF0000004, 0x4FFFFFFF];
+        assert_eq!(other, expected);
+        assert_eq!(samples(&words).collect::<Vec<_>>(), [1, -1]);
     }
 
     #[test]

@@ -69,6 +69,11 @@ pub fn signed27(word: u32) -> i32 {
     (word << 5) as i32 >> 5
 }
 
+/// Whether a word is a sample wherever one belongs: "kind 4", "bit 27 zero".
+pub fn is_sample(word: u32) -> bool {
+    kind(word) == kinds::SAMPLE && word & BIT_27 == 0
+}
+
 /// A margin "in 28-bit two's complement": the whole payload.
 pub fn signed28(word: u32) -> i32 {
     (word << 4) as i32 >> 4
@@ -162,6 +167,17 @@ mod tests {
         for number in [-67_108_864, -1, 0, 1, 67_108_863] {
             assert_eq!(signed27(sample_payload(number)), number);
             assert_eq!(sample_payload(number) & BIT_27, 0);
+        }
+    }
+
+    #[test]
+    fn samples_are_of_kind_4_without_bit_27() {
+        for sample in [0x4000_0000, 0x47FF_FFFF] {
+            assert!(is_sample(sample));
+        }
+        for other in [0x4800_0000, 0x4FFF_FFFF, 0x3000_0000, 0x5000_0000, 0x8000_0000, 0xC000_0000]
+        {
+            assert!(!is_sample(other));
         }
     }
 
