@@ -3,7 +3,7 @@
 use crate::difference::Checked;
 use crate::printing::{self, Printer};
 use crate::reached::Reached;
-use crate::{judging, laws, lookups, mirror, raising, steadiness, Engine};
+use crate::{deciding, judging, laws, lookups, mirror, raising, steadiness, Engine};
 use reference::generate::random::Random;
 use reference::generate::{aim, case, valid, Case};
 use reference::page;
@@ -13,8 +13,8 @@ use reference::worked;
 /// Networks have at most so many places.
 const MOST_PLACES: usize = 64;
 
-/// One seed in so many also tries steadiness, raised samples, laws, and time turned
-/// round.
+/// One seed in so many also tries steadiness, raised samples, laws, time turned
+/// round, and decisions that do not depend on samples.
 const PAIRS_EVERY: u64 = 8;
 
 /// One seed in so many is also given to the printing program.
@@ -55,6 +55,7 @@ impl<'a> Comparison<'a> {
             raising::check(self.engine, &mut random, &mut self.reached)?;
             laws::check(self.engine, &mut random, &mut self.reached)?;
             mirror::check(self.engine, &mut random, &mut self.reached)?;
+            deciding::check(self.engine, &mut random, &mut self.reached)?;
         }
         if seed.is_multiple_of(PRINTS_EVERY) {
             self.print(&mut random, &case)?;

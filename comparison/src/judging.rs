@@ -15,7 +15,7 @@ const MOST_TO_ENUMERATE: u32 = 6;
 
 /// What an engine leaves of a case in dirty buffers. It must write nothing
 /// beside what is lent, and nothing into the sheet.
-fn judged(engine: &dyn Engine, random: &mut Random, case: &Case) -> Result<Left, Difference> {
+pub fn judged(engine: &dyn Engine, random: &mut Random, case: &Case) -> Result<Left, Difference> {
     let sheet = Lent::holding(random, &case.sheet);
     let mut distances = Lent::dirty(random, case.distances);
     let mut answer = Lent::dirty(random, case.answer);

@@ -11,6 +11,7 @@
 pub mod alike;
 pub mod bench;
 pub mod compare;
+pub mod deciding;
 pub mod difference;
 pub mod judging;
 pub mod laws;

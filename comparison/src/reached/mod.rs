@@ -15,7 +15,7 @@ mod surrounds;
 pub use looked_up::LookedUp;
 
 use crate::laws::LAWS;
-use crate::{mirror, raising, steadiness};
+use crate::{deciding, mirror, raising, steadiness};
 use reference::generate::Case;
 use reference::left::Left;
 use reference::sheet::Sheet;
@@ -40,7 +40,8 @@ impl Default for Reached {
             .chain(laws)
             .chain(mirror::labels())
             .chain(steadiness::labels())
-            .chain(raising::labels());
+            .chain(raising::labels())
+            .chain(deciding::labels());
         Reached::of(labels.collect())
     }
 }
