@@ -6,12 +6,14 @@ mod evaluator;
 mod extents;
 mod falling;
 mod lookups;
+mod mistaken;
 mod network;
 mod printing;
 mod reading;
 mod refusals;
 mod sizes;
 mod surrounds;
+mod swayed;
 mod traps;
 
 use crate::compare::Comparison;

@@ -2,86 +2,13 @@
 //! large ones, far behind, or where several things are wrong at once.
 
 use super::caught;
+use super::mistaken::{mistaken, Given};
 use crate::compare::Comparison;
 use crate::{Engine, Filled, Implementation};
 use reference::generate::random::Random;
-use reference::judge::{Outcome, BYTES_PER_DISTANCE};
-use reference::sheet::{check, DISTANCE_ENTRIES, GREATEST_WEIGHT as GREATEST};
-use reference::words::{self, kinds, BYTES_PER_WORD};
-
-/// What such an engine is given.
-struct Given {
-    words: Vec<u32>,
-    entries: usize,
-    answer_words: usize,
-}
-
-impl Given {
-    fn places(&self) -> u32 {
-        self.words.first().map_or(0, |&head| words::field(head, 27, 20))
-    }
-
-    fn samples(&self) -> u32 {
-        self.words.first().map_or(0, |&head| words::field(head, 11, 0))
-    }
-
-    fn lines_up_to(&self, place: u64) -> usize {
-        let before = self.words.iter().take(place as usize + 1);
-        before.filter(|&&word| words::kind(word) == kinds::LINE).count()
-    }
-
-    /// The code of the line word at a place.
-    fn code_at(&self, place: u64) -> Option<u32> {
-        let word = self.words.get(place as usize).filter(|&&word| words::kind(word) == kinds::LINE);
-        word.map(|&word| words::field(word, 27, 20))
-    }
-
-    /// The upper bound of the line at a place.
-    fn upper_at(&self, place: u64) -> Option<u32> {
-        self.words.get(place as usize + 2).map(|&word| words::payload(word))
-    }
-
-    /// Whether the sheet is valid and its answer needs more words than are lent.
-    fn is_short(&self) -> bool {
-        let sheet = check(&self.words, DISTANCE_ENTRIES);
-        sheet.is_ok_and(|sheet| self.answer_words < reference::answer::needed(&sheet))
-    }
-}
-
-/// Right, but for the number and place of a refusal, which it changes.
-struct Mistaken<F>(F);
-
-/// As the engine of a mistake.
-fn mistaken(mistake: impl Fn(&Given, &mut Outcome)) -> impl Engine {
-    Mistaken(mistake)
-}
-
-impl<F: Fn(&Given, &mut Outcome)> Engine for Mistaken<F> {
-    fn judge(&self, sheet: &[u8], left: Filled) -> u64 {
-        let Filled { distances, answer, result } = left;
-        let given = Given {
-            words: words::from_bytes(sheet).unwrap_or_default(),
-            entries: distances.len() / BYTES_PER_DISTANCE,
-            answer_words: answer.len() / BYTES_PER_WORD,
-        };
-        let lent = Filled { distances, answer, result: &mut *result };
-        let number = Implementation.judge(sheet, lent);
-        if number == 0 {
-            return 0;
-        }
-        let is_lent = Outcome::from_bytes(result);
-        let mut outcome = is_lent.unwrap_or(Outcome { number, ..Outcome::default() });
-        (self.0)(&given, &mut outcome);
-        if is_lent.is_some() {
-            result.copy_from_slice(&outcome.to_bytes());
-        }
-        outcome.number
-    }
-
-    fn lookup(&self, answer: &[u8], line: u64, sample: u64, place: u64) -> u64 {
-        Implementation.lookup(answer, line, sample, place)
-    }
-}
+use reference::judge::Outcome;
+use reference::sheet::{DISTANCE_ENTRIES, GREATEST_WEIGHT as GREATEST};
+use reference::words::{self, kinds};
 
 #[track_caller]
 fn assert_caught(mistake: impl Fn(&Given, &mut Outcome)) {
