@@ -32,6 +32,11 @@
  * infinity. For a line of code 15 such an island counts as well, by its left
  * alone. Code 7 takes about as many times as long as code 15 as places lie within
  * the upper bound, which should therefore be no greater than the condition needs.
+ *
+ * Forecasts. Of two accepted sheets that differ in samples alone, none of the
+ * second lower, without a line of code 2 or 3, every yes of the first is a yes of
+ * the second, and no margin of the second is lower. FORECASTS.md, installed beside
+ * SHEETS.md, tells what else is known of a sheet without a call.
  */
 #ifndef TECUHUALMA_H
 #define TECUHUALMA_H
