@@ -73,7 +73,7 @@ module _ (Related : ℤ → ℤ → Type 0) (X Y : List ℕ) (alike : AlikeButSa
       let y : Answered Y dy ay = accepted-answered Y dy ay zy in
       let inX : AcceptedSheet X dx (x .layout) = accepted-sheet X dx (x .layout) (x .found) in
       let inY : AcceptedSheet Y dy (y .layout) = accepted-sheet Y dy (y .layout) (y .found) in
-      let same : x .layout ≡ y .layout = same-layout Related X Y alike dx dy (x .layout) (y .layout) inX inY in
+      let same : x .layout ≡ y .layout = same-layout Related X Y alike dx dy (x .found) (y .found) in
       subst₂ P (sym (x .left)) (sym (y .left ∙ ap (answered Y dy ay) (sym same))) (holds (x .layout) inX (subst (AcceptedSheet Y dy) (sym same) inY))
 
   module _ (Stand : Bool → Bool → Margin → Margin → Type 0)

@@ -4,24 +4,24 @@ use mathlib.Core.Path.{_≡_, refl, sym, ap, ap₂, subst, _∙_}
 use mathlib.Core.Logic.{_⊎_, inl, ⊎-elim}
 use mathlib.Core.Bool.{Bool, true, false, not, _&&_, and-false}
 use mathlib.Core.List.{List, [], _∷_, _++_}
-use Prim.Native.Nat.{ℕ, zero, suc, _+_}
+use Prim.Native.Nat.{ℕ, zero, suc, _+_, _≤_}
 use lib.Dec.{T, eqb, ltb, leb}
 use lib.ListN.{length}
 use lib.IntN.{ℤ}
+use borrow.Author.Tests.{le-leb}
 use Rattle.words.specs.Word.{kindOf, payloadOf, bits}
 use Rattle.formulas.specs.Formulas.{Operator, Extent, Line, lineIn}
 use Rattle.checks.specs.Limits.{mostLines, leastDistances}
 use Rattle.checks.specs.Checked.{Checked, accepted, _>>=_, require, wordAt, isKind}
 use Rattle.lines.specs.Codes.{Code, constant, atom, unary, binary, unaryBounded, binaryBounded, unknown, codeOf}
 use Rattle.lines.specs.Lines.{codeField, leftField, rightField, constantAt, boundsAt, operatorBy, operatorAt, lineAt, linesFrom}
-use Rattle.sheet.specs.Layout.{Sizes, Layout, headChecked, sampleCount, samplesFrom, endChecked, checked}
+use Rattle.sheet.specs.Layout.{Layout, headChecked, sampleCount, samplesFrom, endChecked, checked}
 use Rattle.roads.specs.Roads.{roadAt, roadChecked, roadsFrom}
 use Rattle.sheet.specs.Alike.{BothSamples, AlikeButSamples}
 use Rattle.counting.proofs.Tests.{fails}
 use Rattle.counting.proofs.Lists.{each-at, each-length}
 use Rattle.checks.proofs.Checks.{same-accepted}
-use Rattle.sheet.specs.Checking.{layoutOf}
-use Rattle.sheet.proofs.Whole.{AcceptedSheet}
+use Rattle.sheet.proofs.Whole.{accepted-sheet}
 
 -- ---- the same checks from the same parts
 bind-same : {A B : Type 0} (c d : Checked A) (f g : A → Checked B) → c ≡ d → ((a : A) → f a ≡ g a) → (c >>= f) ≡ (d >>= g)
@@ -155,13 +155,13 @@ module _ (Related : ℤ → ℤ → Type 0) (X Y : List ℕ) (alike : AlikeButSa
       bind-same _ _ _ _ (samples-same (sampleCount sizes) (roadAt roads)) (λ begins.
       bind-same _ _ _ _ (lines-same (sizes .signals) (sizes .samples) mostLines [] begins) (λ found. end-same (found .1) _)))))
 
-  -- whatever was lent to either
-  pub same-layout : (dx dy : ℕ) (L M : Layout) → AcceptedSheet X dx L → AcceptedSheet Y dy M → L ≡ M
-  same-layout dx dy L M x y =
-      let sizes = same-accepted (sym (x .head) ∙ head-same ∙ y .head) in
-      let roads = same-accepted (sym (x .roads) ∙ roads-same (L.sizes.places) (length X) 0 0
-      ∙ ap₂ (λ (z : Sizes) (n : ℕ). roadsFrom Y (z .places) n 0 0) sizes same-length ∙ y .roads) in
-      let begins : layoutOf L .table ≡ layoutOf M .table = ap₂ (λ (r : ℕ) (z : Sizes). roadAt r + sampleCount z) roads sizes in
-      let found = same-accepted (sym (x .table) ∙ lines-same (L.sizes.signals) (L.sizes.samples) mostLines [] (layoutOf L .table)
-      ∙ ap₂ (λ (z : Sizes) (at : ℕ). linesFrom Y (z .signals) (z .samples) mostLines [] at) sizes begins ∙ y .table) in
-      λ i. record { sizes = sizes i; roads = roads i; lines = found i .0 }
+-- so where both are accepted they have the same layout, whatever was lent to either: what is lent is tested against the least that is asked for alone
+checked-enough : (s : List ℕ) (d e : ℕ) → leastDistances ≤ d → leastDistances ≤ e → checked s d ≡ checked s e
+unfolding checked
+checked-enough s d e enough enough′ = rw (le-leb _ _ enough, le-leb _ _ enough′) refl
+
+pub same-layout : (Related : ℤ → ℤ → Type 0) (X Y : List ℕ) → AlikeButSamples Related X Y → (dx dy : ℕ) {L M : Layout}
+    → checked X dx ≡ accepted L → checked Y dy ≡ accepted M → L ≡ M
+same-layout Related X Y alike dx dy x y = same-accepted
+    (sym x ∙ checked-alike Related X Y alike dx
+    ∙ checked-enough Y dx dy (accepted-sheet X dx _ x .distances) (accepted-sheet Y dy _ y .distances) ∙ y)
