@@ -1,6 +1,8 @@
 //! Distances of places. This part knows nothing of formulas.
 
 use crate::sheet::{Bounds, Road};
+use std::cmp::Reverse;
+use std::collections::BinaryHeap;
 
 /// The entry of the lent distance table for places that are not connected:
 /// 2^64 - 1.
@@ -10,20 +12,23 @@ pub const NO_DISTANCE: u64 = u64::MAX;
 #[derive(Clone, Debug, PartialEq, Eq)]
 pub struct Distances {
     places: usize,
-    table: Vec<Option<u64>>,
+    /// Row by row, [`NO_DISTANCE`] for unconnected places.
+    table: Vec<u64>,
 }
 
 impl Distances {
     /// The distances that roads make between so many places.
     pub fn new(places: usize, roads: &[Road]) -> Self {
-        let rows = (0..places).flat_map(|from| distances_from(from, places, roads));
+        let network = Network::new(places, roads);
+        let rows = (0..places).flat_map(|from| network.distances_from(from));
         Distances { places, table: rows.collect() }
     }
 
     /// "The distance of two places is the least sum of weights on a path",
     /// nothing for unconnected places.
     pub fn between(&self, from: usize, to: usize) -> Option<u64> {
-        self.table[from * self.places + to]
+        let entry = self.table[from * self.places + to];
+        (entry != NO_DISTANCE).then_some(entry)
     }
 
     /// Whether `to` lies within the bounds of `from`; "unconnected places have
@@ -36,38 +41,59 @@ impl Distances {
     /// The entries of the lent table: "n·n distances row by row, 2^64 - 1 for
     /// none".
     pub fn entries(&self) -> impl Iterator<Item = u64> + '_ {
-        self.table.iter().map(|distance| distance.unwrap_or(NO_DISTANCE))
+        self.table.iter().copied()
     }
 }
 
-/// The distances from one place, by Bellman and Ford: every road is relaxed in
-/// both directions until none shortens anything. "A place is at distance 0 from
-/// itself by the empty path."
-fn distances_from(from: usize, places: usize, roads: &[Road]) -> Vec<Option<u64>> {
-    let mut row = vec![None; places];
-    row[from] = Some(0);
-    let mut changed = true;
-    while changed {
-        changed = false;
+/// A way from a place along one road.
+struct Way {
+    to: usize,
+    weight: u64,
+}
+
+/// For each place the ways from it.
+struct Network {
+    ways: Vec<Vec<Way>>,
+}
+
+impl Network {
+    /// "Roads run both ways."
+    fn new(places: usize, roads: &[Road]) -> Self {
+        let mut ways: Vec<Vec<Way>> = (0..places).map(|_| Vec::new()).collect();
         for road in roads {
-            changed |= relax(&mut row, road.first, road.second, road.weight);
-            changed |= relax(&mut row, road.second, road.first, road.weight);
+            let weight = road.weight.into();
+            ways[road.first].push(Way { to: road.second, weight });
+            ways[road.second].push(Way { to: road.first, weight });
+        }
+        Network { ways }
+    }
+
+    /// The distances from one place, by Dijkstra: of the places found so far the
+    /// nearest is left next. "A place is at distance 0 from itself by the empty
+    /// path."
+    fn distances_from(&self, from: usize) -> Vec<u64> {
+        let mut row = vec![NO_DISTANCE; self.ways.len()];
+        let mut found = BinaryHeap::from([Reverse((0, from))]);
+        row[from] = 0;
+        while let Some(Reverse((distance, place))) = found.pop() {
+            // A place may have been found anew by a shorter path since.
+            if distance == row[place] {
+                self.leave(place, &mut row, &mut found);
+            }
+        }
+        row
+    }
+
+    /// Goes every way from a place, whose distance is settled.
+    fn leave(&self, place: usize, row: &mut [u64], found: &mut BinaryHeap<Reverse<(u64, usize)>>) {
+        for way in &self.ways[place] {
+            let distance = row[place] + way.weight;
+            if distance < row[way.to] {
+                row[way.to] = distance;
+                found.push(Reverse((distance, way.to)));
+            }
         }
     }
-    row
-}
-
-/// Shortens the distance of `to` by the way over `over`, if that is shorter.
-fn relax(row: &mut [Option<u64>], over: usize, to: usize, weight: u32) -> bool {
-    let Some(distance) = row[over] else {
-        return false;
-    };
-    let candidate = distance + u64::from(weight);
-    let shorter = row[to].is_none_or(|present| candidate < present);
-    if shorter {
-        row[to] = Some(candidate);
-    }
-    shorter
 }
 
 #[cfg(test)]
@@ -102,5 +128,13 @@ mod tests {
         let roads: Vec<Road> = (1..64).map(|place| road(place - 1, place, weight)).collect();
         let distances = Distances::new(64, &roads);
         assert_eq!(distances.between(63, 0), Some(63 * u64::from(weight)));
+    }
+
+    #[test]
+    fn a_path_of_1024_places() {
+        let weight = (1 << 28) - 1;
+        let roads: Vec<Road> = (1..1024).map(|place| road(place - 1, place, weight)).collect();
+        let distances = Distances::new(1024, &roads);
+        assert_eq!(distances.between(0, 1023), Some(274_609_470_465));
     }
 }
