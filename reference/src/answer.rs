@@ -1,16 +1,17 @@
 //! The answer: its size, its words, and the reading of one.
 
 use crate::evaluation::Evaluation;
+use crate::layout::{Front, Layout};
 use crate::margin::Verdict;
-use crate::sheet::{Extent, Sheet, MOST_LINES, MOST_PLACES, MOST_SAMPLES};
+use crate::sheet::{Extent, Head, Sheet, MOST_LINES, MOST_SAMPLES};
 use crate::words::{self, kinds};
 
-/// How many words the answer to a sheet needs: the head, for each line its
+/// How many words the answer to a sheet needs: its front, for each line its
 /// word and its verdicts, and the end.
 pub fn needed(sheet: &Sheet) -> usize {
     let line = |extent: Extent| 1 + extent.length() * sheet.head.places;
     let lines: usize = sheet.lines.iter().map(|held| line(held.extent)).sum();
-    1 + lines + 1
+    sheet.head.layout.front_words() + lines + 1
 }
 
 /// Writes the answer at the front of the lent bytes, which have room for it,
@@ -18,7 +19,7 @@ pub fn needed(sheet: &Sheet) -> usize {
 pub fn write<E: Evaluation>(sheet: &Sheet, evaluation: &E, bytes: &mut [u8]) -> u64 {
     let mut writer = Writer { bytes, words: 0 };
     let mut yes_count = 0;
-    writer.push(head(sheet));
+    front(sheet).words(kinds::ANSWER_HEAD).into_iter().for_each(|word| writer.push(word));
     for (number, line) in sheet.lines.iter().enumerate() {
         writer.push(line_word(line.extent));
         for sample in line.extent.samples() {
@@ -33,10 +34,11 @@ pub fn write<E: Evaluation>(sheet: &Sheet, evaluation: &E, bytes: &mut [u8]) -> 
     yes_count
 }
 
-/// "Kind 13: bits 27..20 n, 19..12 line count, 11..0 T."
-fn head(sheet: &Sheet) -> u32 {
-    let sizes = sheet.head.places << 20 | sheet.lines.len() << 12 | sheet.head.samples;
-    words::word(kinds::ANSWER_HEAD, sizes as u32)
+/// "Kind 13: bits 27..20 n, 19..12 line count, 11..0 T." That of a wide sheet
+/// "starts with the same kind 10 word, then kind 13 with places 0".
+fn front(sheet: &Sheet) -> Front {
+    let Head { layout, places, samples, .. } = sheet.head;
+    Front { layout, places, middle: sheet.lines.len(), samples }
 }
 
 /// "For each line kind 14": the first sample in bits 23..12, the length in bits
@@ -60,6 +62,8 @@ impl Writer<'_> {
 /// A whole answer, read back.
 #[derive(Clone, Debug, PartialEq, Eq)]
 pub struct Answer {
+    /// How it is laid out, as its sheet is.
+    pub layout: Layout,
     /// The number of places, n.
     pub places: usize,
     /// The lines.
@@ -81,21 +85,20 @@ impl Answer {
     /// not negative, kind 10 not positive, payload never -2^27; only zeros
     /// after the end)", and "first plus length is at most T".
     pub fn read(words: &[u32]) -> Option<Answer> {
-        let (&head, mut rest) = words.split_first()?;
-        let places = words::field(head, 27, 20) as usize;
-        let lines = words::field(head, 19, 12) as usize;
-        let samples = words::field(head, 11, 0) as usize;
-        let laid_out = words::kind(head) == kinds::ANSWER_HEAD
-            && (1..=MOST_PLACES).contains(&places)
+        let front = Front::told(words);
+        let Front { layout, places, middle: lines, samples } = front;
+        let laid_out = front.is_laid_out(words, kinds::ANSWER_HEAD)
+            && front.has_places_in_limits()
             && (1..=MOST_LINES).contains(&lines)
             && (1..=MOST_SAMPLES).contains(&samples);
         if !laid_out {
             return None;
         }
+        let mut rest = &words[layout.front_words()..];
         let lines =
             (0..lines).map(|_| read_line(&mut rest, places, samples)).collect::<Option<_>>()?;
         read_end(rest, words.len() - rest.len())?;
-        Some(Answer { places, lines })
+        Some(Answer { layout, places, lines })
     }
 
     /// The verdict of a line at a sample of the recording and a place, if the

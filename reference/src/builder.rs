@@ -1,25 +1,42 @@
 //! The words of a sheet, laid out front to back.
 
+use crate::layout::{Front, Layout};
 use crate::words::{self, kinds};
 
 /// The words of a sheet as they grow, front to back. Nothing is checked, so
 /// that sheets with faults can be built as well.
 #[derive(Clone, Debug, Default)]
 pub struct SheetBuilder {
+    layout: Layout,
     words: Vec<u32>,
 }
 
 impl SheetBuilder {
-    /// A sheet that begins with a head of so many places, signals and samples.
+    /// A narrow sheet of so many places, signals and samples.
     pub fn new(places: u32, signals: u32, samples: u32) -> Self {
-        let payload = places << 20 | signals << 12 | samples;
-        SheetBuilder::default().word(kinds::HEAD, payload)
+        SheetBuilder::laid_out(Layout::Narrow, places, signals, samples)
+    }
+
+    /// A wide sheet of so many places, signals and samples.
+    pub fn wide(places: u32, signals: u32, samples: u32) -> Self {
+        SheetBuilder::laid_out(Layout::Wide, places, signals, samples)
+    }
+
+    /// A sheet of a layout, of so many places, signals and samples.
+    pub fn laid_out(layout: Layout, places: u32, signals: u32, samples: u32) -> Self {
+        let [places, middle, samples] = [places, signals, samples].map(|size| size as usize);
+        SheetBuilder::of(&Front { layout, places, middle, samples })
+    }
+
+    /// A sheet that begins with this front.
+    pub fn of(front: &Front) -> Self {
+        SheetBuilder { layout: front.layout, words: front.words(kinds::HEAD) }
     }
 
     /// A sheet to be continued: the words of a complete one without its end.
     pub fn resume(words: &[u32]) -> Self {
         let before_end = words.len().saturating_sub(1);
-        SheetBuilder { words: words[..before_end].to_vec() }
+        SheetBuilder { layout: Layout::of(words), words: words[..before_end].to_vec() }
     }
 
     /// Adds any word.
@@ -29,8 +46,9 @@ impl SheetBuilder {
     }
 
     /// Adds a road's two words.
-    pub fn road(self, first: u32, second: u32, weight: u32) -> Self {
-        self.word(kinds::ROAD_PLACES, first << 8 | second).word(kinds::ROAD_WEIGHT, weight)
+    pub fn road(mut self, first: u32, second: u32, weight: u32) -> Self {
+        self.words.push(self.layout.pair_word(first, second));
+        self.word(kinds::ROAD_WEIGHT, weight)
     }
 
     /// Adds samples.

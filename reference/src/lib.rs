@@ -13,7 +13,7 @@
 //! * [`meaning::Meaning`] follows the definitions to the letter and
 //!   enumerates every region of a surround: slow, made to be trusted;
 //! * [`fast::Fast`] iterates Definition 4.4 to its fixed point, as Algorithm 2
-//!   of the paper does: made for networks of any size up to 64 places.
+//!   of the paper does: made for networks of any size.
 //!
 //! [`judge()`], [`lookup()`] and [`print()`] are what a host and the printing
 //! program see.
@@ -28,6 +28,7 @@ pub mod evaluation;
 pub mod fast;
 pub mod generate;
 pub mod judge;
+pub mod layout;
 pub mod left;
 pub mod lookup;
 pub mod margin;

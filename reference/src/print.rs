@@ -3,9 +3,9 @@
 use crate::answer::Answer;
 use crate::evaluation::Evaluation;
 use crate::judge::{judge, Outcome, BYTES_PER_DISTANCE, RESULT_BYTES};
+use crate::layout::DISTANCE_ENTRIES;
 use crate::margin::{Margin, Verdict};
 use crate::refusal::{Fault, Refusal};
-use crate::sheet::DISTANCE_ENTRIES;
 use crate::words::{self, BYTES_PER_WORD};
 use std::fmt::Write;
 

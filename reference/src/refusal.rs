@@ -4,11 +4,12 @@
 #[derive(Clone, Copy, Debug, PartialEq, Eq)]
 #[repr(u64)]
 pub enum Fault {
-    /// The lent distance table has under 4,096 entries.
+    /// The lent distance table has under 4,096 entries, or for a wide sheet fewer
+    /// than places squared.
     DistanceTable = 1,
     /// The head is absent or not kind 1.
     HeadKind = 2,
-    /// n, v or T is outside its limits.
+    /// n, v or T is outside its limits, of a wide sheet v or T.
     HeadLimits = 3,
     /// Spare bits of a road's first word are set.
     RoadSpareBits = 4,
@@ -38,6 +39,9 @@ pub enum Fault {
     AnswerTable = 15,
     /// The lent bytes do not have the lengths they must have.
     Bytes = 16,
+    /// A wide head has a count outside its limits, spare bits set, or no kind 1
+    /// word with places 0 after it.
+    WideHead = 17,
 }
 
 /// "The place is the index of the faulty word, the sheet's length if it is

@@ -36,6 +36,9 @@ pub mod kinds {
     pub const YES_PLUS_INFINITY: u32 = 11;
     /// The verdict no at minus infinity.
     pub const NO_MINUS_INFINITY: u32 = 12;
+    /// The word before the head of a wide sheet or a wide answer: the places. A
+    /// verdict of this kind stands in lines alone.
+    pub const WIDE: u32 = 10;
     /// An answer's head.
     pub const ANSWER_HEAD: u32 = 13;
     /// The head of a line's verdicts in an answer.

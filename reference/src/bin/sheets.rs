@@ -8,7 +8,7 @@
 use reference::fast::Fast;
 use reference::generate::case;
 use reference::judge::{judge, Outcome, BYTES_PER_DISTANCE, RESULT_BYTES};
-use reference::sheet::DISTANCE_ENTRIES;
+use reference::layout::DISTANCE_ENTRIES;
 use std::fs;
 use std::io;
 use std::path::PathBuf;

@@ -21,7 +21,7 @@ fn main() {
     };
     let first = next(0);
     let count = next(10_000);
-    let most_places = next(6).clamp(1, 64) as usize;
+    let most_places = next(6).clamp(1, 1024) as usize;
     let cases: Vec<Case> = (first..first + count).map(|seed| case(seed, most_places)).collect();
     let numbers = report::<Fast>("fast", &cases);
     if most_places <= MOST_FOR_MEANING {
@@ -33,8 +33,8 @@ fn main() {
 }
 
 /// Judges all cases, prints the rate, and counts the numbers.
-fn report<E: Evaluation>(name: &str, cases: &[Case]) -> [u64; 17] {
-    let mut numbers = [0; 17];
+fn report<E: Evaluation>(name: &str, cases: &[Case]) -> [u64; 18] {
+    let mut numbers = [0; 18];
     let start = Instant::now();
     for case in cases {
         let mut distances = vec![0; case.distances];

@@ -1,7 +1,9 @@
 //! Answers, whole and damaged, and what is looked up in them.
 
+use super::layout;
 use super::random::Random;
 use crate::answer::Answer;
+use crate::layout::{Front, Layout, MOST_PLACES};
 use crate::words::{self, kinds};
 
 /// A line, a sample and a place to look up.
@@ -23,19 +25,33 @@ pub fn damaged(random: &mut Random, answer: &[u8]) -> Vec<u8> {
 /// The words of a whole answer that need not be one to any sheet: its verdicts
 /// are any that have a word.
 pub fn invented(random: &mut Random) -> Vec<u32> {
-    let places = random.pick(&[1, 1, 2, 3, 64]);
-    let samples = random.pick(&[1, 2, 3, 5, 1024]);
-    let lines = random.pick(&[1, 2, 3, 64]);
-    let mut words = vec![words::word(kinds::ANSWER_HEAD, places << 20 | lines << 12 | samples)];
+    let front = invented_front(random);
+    let Front { places, middle: lines, samples, .. } = front;
+    let longest = if places > MOST_PLACES { 2 } else { 6 };
+    let mut words = front.words(kinds::ANSWER_HEAD);
     for _ in 0..lines {
-        let length = random.field(1, samples.min(6));
-        let any = random.field(0, samples - length);
+        let length = random.count(1, samples.min(longest));
+        let any = random.count(0, samples - length);
         let first = random.pick(&[0, any, samples - length]);
-        words.push(words::word(kinds::ANSWER_LINE, first << 12 | length));
+        words.push(words::word(kinds::ANSWER_LINE, (first << 12 | length) as u32));
         words.extend((0..length * places).map(|_| verdict_word(random)));
     }
     words.push(words::word(kinds::END, words.len() as u32));
     words
+}
+
+/// Places, lines and samples of an answer, often at a limit; a city has few lines.
+fn invented_front(random: &mut Random) -> Front {
+    let narrow = random.pick(&[1, 1, 2, 3, MOST_PLACES]);
+    let city = random.pick(&[MOST_PLACES + 1, 100, 255, 256, 257, 300, 1024]);
+    let places = if random.chance(10) { city } else { narrow };
+    let most_lines = if places > MOST_PLACES { 2 } else { 64 };
+    Front {
+        layout: layout(random, places),
+        places,
+        middle: random.pick(&[1, 2, 3, 64]).min(most_lines),
+        samples: random.pick(&[1, 2, 3, 5, 1024]),
+    }
 }
 
 /// A word of kind 9 to 12 that is laid out as it must be, often at a limit.
@@ -54,7 +70,7 @@ fn strike(random: &mut Random, words: &mut Vec<u32>) {
     let at = position(random, words);
     let word = words[at];
     let (kind, payload) = (words::kind(word), words::payload(word));
-    match random.below(18) {
+    match random.below(20) {
         0..=2 => {}
         3 => words.extend([0; 3]),
         4 => words.extend([0, random.pick(&[1, 0xF000_0000, 0x8000_0000])]),
@@ -68,6 +84,7 @@ fn strike(random: &mut Random, words: &mut Vec<u32>) {
         12 => words.insert(at, word),
         13 => words[at] = head_or_length(random, word),
         14 => empty_line(random, words),
+        15 | 16 => strike_front(random, words),
         _ => strike_line_word(random, words),
     }
 }
@@ -79,6 +96,25 @@ fn position(random: &mut Random, words: &[u32]) -> usize {
         random.below(words.len())
     } else {
         random.pick(&frame)
+    }
+}
+
+/// Strikes the first word or the head: of a wide answer its count, a spare bit of
+/// it, the places of its head, or one of the two words as a whole.
+fn strike_front(random: &mut Random, words: &mut Vec<u32>) {
+    let head = Layout::of(words).head_index().min(words.len() - 1);
+    let places = Front::told(words).places as u32;
+    let any = random.field(0, 0xFFFF);
+    let one_bit = 1 << random.field(0, 7);
+    match random.below(8) {
+        0 => words[0] |= 1 << random.field(16, 27),
+        1 => words[0] = words::word(kinds::WIDE, random.pick(&[0, 1025, 0xFFFF, any])),
+        2 => words[0] = words::word(kinds::WIDE, places),
+        3 => words[0] = words::word(random.field(0, 15), words[0]),
+        4 => words[head] |= random.pick(&[places & 0xFF, one_bit]) << 20,
+        5 => words[head] = words::word(random.field(0, 15), words[head]),
+        6 => drop(words.remove(0)),
+        _ => words[0] ^= 1 << random.field(0, 15),
     }
 }
 
@@ -98,7 +134,7 @@ fn strike_line_word(random: &mut Random, words: &mut [u32]) {
     }
     let at = random.pick(&lines);
     let (first, length) = (words::field(words[at], 23, 12), words::field(words[at], 11, 0));
-    let most = words::field(words[0], 11, 0).saturating_sub(length);
+    let most = (Front::told(words).samples as u32).saturating_sub(length);
     let within = random.field(0, most);
     let beyond = random.field(most, 0xFFF);
     let (above, first) = match random.below(8) {

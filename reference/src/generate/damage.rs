@@ -48,7 +48,7 @@ fn position(random: &mut Random, words: &[u32]) -> usize {
     if random.chance(40) {
         return random.below(words.len());
     }
-    let wanted = random.pick(&[1, 2, 3, 4, 5, 5, 6, 7, 8, 15]);
+    let wanted = random.pick(&[1, 2, 3, 4, 5, 5, 6, 7, 8, 10, 15]);
     let found = words::indices(words, |kind| kind == wanted);
     if found.is_empty() {
         random.below(words.len())

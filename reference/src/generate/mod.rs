@@ -7,6 +7,7 @@ pub mod aim;
 pub mod answers;
 pub mod damage;
 pub mod islands;
+pub mod largest;
 pub mod limits;
 pub mod network;
 pub mod random;
@@ -19,7 +20,8 @@ pub mod windows;
 
 use crate::answer;
 use crate::judge::{BYTES_PER_DISTANCE, RESULT_BYTES};
-use crate::sheet::{self, DISTANCE_ENTRIES};
+use crate::layout::{Front, Layout, DISTANCE_ENTRIES, ENOUGH_DISTANCES, MOST_PLACES};
+use crate::sheet;
 use crate::words::{self, BYTES_PER_WORD};
 use random::Random;
 
@@ -41,33 +43,51 @@ impl Case {
     pub fn of(words: &[u32], answer_words: usize) -> Self {
         Case {
             sheet: words::to_bytes(words),
-            distances: DISTANCE_ENTRIES * BYTES_PER_DISTANCE,
+            distances: Front::told(words).distances_needed() * BYTES_PER_DISTANCE,
             answer: answer_words * BYTES_PER_WORD,
             result: RESULT_BYTES,
         }
     }
 
-    /// A sheet with enough lent beside it: the whole distance table, an answer
-    /// of at least what is needed, and the 40 bytes of the result.
+    /// A sheet with enough lent beside it: a distance table and an answer of at
+    /// least what is needed, and the 40 bytes of the result. To a wide sheet of few
+    /// places the table of a narrow one is lent now and then.
     pub fn lend(random: &mut Random, words: &[u32]) -> Self {
-        let needed = match sheet::check(words, DISTANCE_ENTRIES) {
+        let needed = match sheet::check(words, ENOUGH_DISTANCES) {
             Ok(sheet) => answer::needed(&sheet),
             Err(_) => random.below(64),
         };
         let spare = random.pick(&[0, 0, 1, 2, 17]);
-        let entries = DISTANCE_ENTRIES + random.pick(&[0, 0, 0, 1, 100]);
-        Case { distances: entries * BYTES_PER_DISTANCE, ..Case::of(words, needed + spare) }
+        let mut case = Case::of(words, needed + spare);
+        let longer = random.pick(&[0, 0, 0, 1, 100]) * BYTES_PER_DISTANCE;
+        let of_narrow = DISTANCE_ENTRIES * BYTES_PER_DISTANCE;
+        case.distances = match random.below(4) {
+            0 => case.distances.max(of_narrow),
+            _ => case.distances + longer,
+        };
+        case
+    }
+}
+
+/// The layout of a sheet of so many places: wide where it must be, and now and
+/// then where it need not.
+pub fn layout(random: &mut Random, places: usize) -> Layout {
+    if places > MOST_PLACES || random.chance(25) {
+        Layout::Wide
+    } else {
+        Layout::Narrow
     }
 }
 
 /// Refusals to aim at; those of lines more often, which have many ways to arise.
-const AIMS: [u64; 22] =
-    [1, 2, 3, 4, 5, 6, 7, 8, 9, 10, 11, 11, 12, 12, 12, 12, 13, 13, 13, 14, 15, 16];
+const AIMS: [u64; 24] =
+    [1, 1, 2, 3, 4, 5, 6, 7, 8, 9, 10, 11, 11, 12, 12, 12, 12, 13, 13, 13, 14, 15, 16, 17];
 
 /// The case of a seed: of a hundred about 50 valid ones (one of them of many
 /// rounds, two with islands, two with windows full of ties), 36 aimed at a certain
 /// refusal and 14 damaged without an aim, none of more than so many places (two,
-/// where a road is to be refused).
+/// where a road is to be refused). A quarter are wide, and all of more than 64
+/// places.
 pub fn case(seed: u64, most_places: usize) -> Case {
     let mut random = Random::new(seed);
     match random.below(100) {

@@ -1,6 +1,7 @@
 //! Networks of many shapes.
 
 use super::random::Random;
+use crate::layout::MOST_PLACES;
 use crate::sheet::GREATEST_WEIGHT;
 use std::collections::BTreeMap;
 
@@ -40,11 +41,24 @@ const SHAPES: [Shape; 9] = [
     Shape::Split,
 ];
 
+/// The shapes of networks beyond 64 places: full ones would have too many roads.
+const CITY_SHAPES: [Shape; 8] = [
+    Shape::Unconnected,
+    Shape::Path,
+    Shape::Ring,
+    Shape::Star,
+    Shape::Grid,
+    Shape::Tree,
+    Shape::Sparse,
+    Shape::Split,
+];
+
 const WEIGHTS: [Weights; 4] = [Weights::Ones, Weights::Small, Weights::Huge, Weights::Any];
 
 /// The roads of a random network, in the order a sheet wants them.
 pub fn roads(random: &mut Random, places: usize) -> Vec<Triple> {
-    let shape = random.pick(&SHAPES);
+    let shapes = if places > MOST_PLACES { &CITY_SHAPES[..] } else { &SHAPES[..] };
+    let shape = random.pick(shapes);
     shaped(random, shape, places)
 }
 
@@ -72,8 +86,9 @@ fn shaped(random: &mut Random, shape: Shape, places: usize) -> Vec<Triple> {
 
 /// The pairs that a shape joins, the lower place second.
 fn pairs(random: &mut Random, shape: Shape, places: usize) -> Vec<(usize, usize)> {
-    let width = random.count(1, 8);
-    let density = random.count(5, 60);
+    let (widest, densest) = if places > MOST_PLACES { (32, 3) } else { (8, 60) };
+    let width = random.count(1, widest);
+    let density = random.count(1, densest);
     let all = (0..places).flat_map(|a| (0..a).map(move |b| (a, b)));
     let joined = |&(a, b): &(usize, usize)| match shape {
         Shape::Unconnected => false,

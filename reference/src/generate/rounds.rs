@@ -4,9 +4,11 @@
 //! what is lowest stands at one of its ends, and right is too low to stop it, so
 //! that it wanders from place to place, one a round.
 
+use super::layout;
 use super::random::Random;
 use super::table::{WITHOUT_ISLANDS, WITH_ISLANDS};
 use crate::builder::SheetBuilder;
+use crate::layout::MOST_PLACES;
 use std::collections::BTreeSet;
 
 /// A sheet on a path of up to so many places. In one half of them margins
@@ -92,7 +94,8 @@ impl Way {
         random: &mut Random,
         numbers: impl Fn(&mut Random, usize) -> (i32, i32),
     ) -> SheetBuilder {
-        let mut sheet = SheetBuilder::new(self.order.len() as u32, 2, self.samples);
+        let layout = layout(random, self.order.len());
+        let mut sheet = SheetBuilder::laid_out(layout, self.order.len() as u32, 2, self.samples);
         for (first, second) in rising_pairs(&self.order) {
             sheet = sheet.road(first, second, random.field(1, 3));
         }
@@ -105,21 +108,26 @@ impl Way {
 
 /// The codes of the two surrounds, and how many samples there are. Code 7 makes
 /// a run for every place of the path, each of as many rounds: on a long path only
-/// the first surround has it, now and then, and a single sample.
+/// the first surround has it, now and then, and a single sample. Beyond 64 places
+/// no surround has it.
 fn codes_and_samples(random: &mut Random, places: usize) -> ((u32, u32), u32) {
     const BOTH: [u32; 2] = [WITHOUT_ISLANDS, WITH_ISLANDS];
     let samples = random.pick(&[1, 2, 3, 16, 17, 33]);
     match places {
         0..=12 => ((random.pick(&BOTH), random.pick(&BOTH)), samples),
+        _ if places > MOST_PLACES => ((WITH_ISLANDS, WITH_ISLANDS), 1),
         _ if random.chance(30) => ((WITHOUT_ISLANDS, WITH_ISLANDS), 1),
         _ => ((WITH_ISLANDS, WITH_ISLANDS), samples),
     }
 }
 
-/// All places, in a random order.
+/// All places, in a random order. A city that is wandered through costs a lot, so
+/// few are.
 fn places_in_order(random: &mut Random, most_places: usize) -> Vec<u32> {
-    let any = random.count(1, most_places);
-    let places = random.pick(&[any, any, most_places]);
+    let narrow = most_places.min(MOST_PLACES);
+    let any = random.count(1, narrow);
+    let city = random.count(narrow, most_places);
+    let places = if random.chance(10) { city } else { random.pick(&[any, any, narrow]) };
     let mut order: Vec<u32> = (0..places as u32).collect();
     random.shuffle(&mut order);
     order

@@ -3,7 +3,7 @@
 
 use super::network::Triple;
 use super::random::Random;
-use super::valid::recorded;
+use super::valid::{front, recorded};
 use crate::builder::SheetBuilder;
 
 const SIGNALS: usize = 2;
@@ -31,7 +31,7 @@ impl Recording<'_> {
         let &Recording { places, roads, samples, numbers: (least, most) } = self;
         let count = places * SIGNALS * samples;
         let numbers: Vec<i32> = (0..count).map(|_| random.between(least, most) as i32).collect();
-        recorded((places, SIGNALS, samples), roads, &numbers)
+        recorded(&front(random, places, SIGNALS, samples), roads, &numbers)
             .at_least(0, 0)
             .at_most(1, 0)
             .line(3, 0, 0)

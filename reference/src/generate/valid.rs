@@ -2,9 +2,10 @@
 
 use super::network::{self, Triple};
 use super::random::Random;
-use super::{runs, table};
+use super::{layout, runs, table};
 use crate::builder::SheetBuilder;
-use crate::sheet::{GREATEST_WEIGHT, MOST_LINES, MOST_PLACES, MOST_SAMPLES, MOST_SIGNALS};
+use crate::layout::{Front, MOST_PLACES};
+use crate::sheet::{MOST_LINES, MOST_SAMPLES, MOST_SIGNALS};
 
 /// The least sample and constant.
 pub const LEAST: i32 = -67_108_864;
@@ -15,9 +16,6 @@ pub const MOST: i32 = 67_108_863;
 /// Counts of samples around powers of two. An engine that takes samples in
 /// blocks goes wrong, if it does, at the edge of one.
 const AROUND_BLOCKS: [usize; 15] = [9, 15, 16, 17, 31, 32, 33, 47, 48, 49, 63, 64, 65, 127, 129];
-
-/// The most places in a ball of code 7 on the largest sheet, the centre included.
-const PLACES_IN_LARGEST: usize = 3;
 
 /// How large a sheet is to be.
 #[derive(Clone, Copy, Debug)]
@@ -51,6 +49,11 @@ impl Numbers {
             Numbers::Any => random.between(LEAST.into(), MOST.into()) as i32,
         }
     }
+
+    /// So many such numbers.
+    pub fn draw_all(self, random: &mut Random, count: usize) -> Vec<i32> {
+        (0..count).map(|_| self.draw(random)).collect()
+    }
 }
 
 /// The words of a valid sheet of at most so many places: mostly small,
@@ -74,35 +77,13 @@ pub fn sheet_to_damage(random: &mut Random, most_places: usize) -> Vec<u32> {
     sheet_of(random, sizes)
 }
 
-/// The words of a sheet with places, signals and samples all at their limits,
-/// a million words long. Its lines are always the same, so that each such sheet
-/// has until, somewhere, both surrounds and since over all of it; the surround
-/// without islands has few places in each ball, as it makes a run for each.
-pub fn largest_sheet(random: &mut Random) -> Vec<u32> {
-    let roads = network::roads_in_circles(random, MOST_PLACES);
-    let numbers = Numbers::Small;
-    let readings = readings(random, numbers, MOST_PLACES * MOST_SIGNALS * MOST_SAMPLES);
-    let weights = roads.iter().map(|road| road.2);
-    let near = weights.max().map_or(1, |weight| (2 * weight).min(GREATEST_WEIGHT));
-    let nearest = runs::widest_of(MOST_PLACES, &roads, PLACES_IN_LARGEST);
-    let last_signal = MOST_SIGNALS as u32 - 1;
-    recorded((MOST_PLACES, MOST_SIGNALS, MOST_SAMPLES), &roads, &readings)
-        .at_least(0, numbers.draw(random))
-        .at_most(last_signal, numbers.draw(random))
-        .bounded(5, 0, 1, (1, random.field(1, 9)))
-        .bounded(6, 1, 0, (1, near))
-        .bounded(15, 0, 3, (0, near))
-        .bounded(7, 0, 3, (0, nearest))
-        .bounded(12, 0, 1, (1, random.field(1, 9)))
-        .end()
-}
-
 fn sheet_of(random: &mut Random, sizes: Sizes) -> Vec<u32> {
     let Sizes { places, signals, samples, lines } = sizes;
     let numbers = random.pick(&[Numbers::Ties, Numbers::Small, Numbers::Extreme, Numbers::Any]);
     let roads = network::roads(random, places);
-    let readings = readings(random, numbers, places * signals * samples);
-    let sheet = recorded((places, signals, samples), &roads, &readings);
+    let readings = numbers.draw_all(random, places * signals * samples);
+    let front = front(random, places, signals, samples);
+    let sheet = recorded(&front, &roads, &readings);
     let source = table::Source {
         signals,
         samples,
@@ -114,15 +95,15 @@ fn sheet_of(random: &mut Random, sizes: Sizes) -> Vec<u32> {
     table::lines(random, sheet, &source, lines).end()
 }
 
-fn readings(random: &mut Random, numbers: Numbers, count: usize) -> Vec<i32> {
-    (0..count).map(|_| numbers.draw(random)).collect()
+/// The front of a sheet of so many places, signals and samples, in one layout or
+/// the other.
+pub fn front(random: &mut Random, places: usize, signals: usize, samples: usize) -> Front {
+    Front { layout: layout(random, places), places, middle: signals, samples }
 }
 
-/// A sheet up to its table: the head of so many places, signals and samples, the
-/// roads, and the numbers sampled.
-pub fn recorded(sizes: (usize, usize, usize), roads: &[Triple], readings: &[i32]) -> SheetBuilder {
-    let (places, signals, samples) = sizes;
-    let sheet = SheetBuilder::new(places as u32, signals as u32, samples as u32);
+/// A sheet up to its table: its front, the roads, and the numbers sampled.
+pub fn recorded(front: &Front, roads: &[Triple], readings: &[i32]) -> SheetBuilder {
+    let sheet = SheetBuilder::of(front);
     let add =
         |sheet: SheetBuilder, &(first, second, weight): &Triple| sheet.road(first, second, weight);
     roads.iter().fold(sheet, add).samples(readings)
@@ -138,8 +119,10 @@ fn small(random: &mut Random, most_places: usize) -> Sizes {
 }
 
 /// Small sizes with, now and then, one or another at its limit; all of them at
-/// once would make single sheets of millions of words.
+/// once would make single sheets of millions of words. Beyond 64 places only
+/// cities have.
 fn sizes(random: &mut Random, most_places: usize) -> Sizes {
+    let (city, most_places) = (most_places, most_places.min(MOST_PLACES));
     let small = small(random, most_places);
     match random.below(200) {
         0..=29 => Sizes {
@@ -167,13 +150,28 @@ fn sizes(random: &mut Random, most_places: usize) -> Sizes {
             signals: random.count(1, 2),
             lines: random.count(3, 8),
         },
-        61..=68 => wide_and_long(random, most_places),
+        61..=68 => large_and_long(random, most_places),
+        69..=72 if city > MOST_PLACES => city_of(random, city),
         _ => small,
     }
 }
 
+/// More than 64 places, mostly not many more, on which few lines and samples cost
+/// enough.
+fn city_of(random: &mut Random, most_places: usize) -> Sizes {
+    let least = MOST_PLACES + 1;
+    let near = random.count(least, most_places.min(2 * least));
+    let any = random.count(least, most_places);
+    Sizes {
+        places: random.pick(&[least, near, near, near, near, any]),
+        signals: random.count(1, 2),
+        samples: random.count(1, 3),
+        lines: random.count(1, 6),
+    }
+}
+
 /// Many places and many samples at once, on which few lines cost enough.
-fn wide_and_long(random: &mut Random, most_places: usize) -> Sizes {
+fn large_and_long(random: &mut Random, most_places: usize) -> Sizes {
     Sizes {
         places: random.count(most_places.min(17), most_places),
         signals: random.count(1, 2),
@@ -184,13 +182,15 @@ fn wide_and_long(random: &mut Random, most_places: usize) -> Sizes {
 
 /// Half of them small, the others with one size or another large.
 fn sizes_to_damage(random: &mut Random, most_places: usize) -> Sizes {
+    let (city, most_places) = (most_places, most_places.min(MOST_PLACES));
     let small = small(random, most_places);
-    match random.below(10) {
-        0 => Sizes { lines: random.count(12, MOST_LINES), ..small },
-        1 => Sizes { places: random.count(1, most_places), ..small },
-        2 => Sizes { samples: random.pick(&[9, 100, MOST_SAMPLES, MOST_SAMPLES]), ..small },
-        3 => Sizes { signals: MOST_SIGNALS, lines: random.count(1, 4), ..small },
-        4 => Sizes {
+    match random.below(20) {
+        10 if city > MOST_PLACES => city_of(random, city),
+        0 | 1 => Sizes { lines: random.count(12, MOST_LINES), ..small },
+        2 | 3 => Sizes { places: random.count(1, most_places), ..small },
+        4 | 5 => Sizes { samples: random.pick(&[9, 100, MOST_SAMPLES, MOST_SAMPLES]), ..small },
+        6 | 7 => Sizes { signals: MOST_SIGNALS, lines: random.count(1, 4), ..small },
+        8 | 9 => Sizes {
             places: most_places,
             lines: random.pick(&[small.lines, MOST_LINES]),
             signals: random.pick(&[small.signals, MOST_SIGNALS]),

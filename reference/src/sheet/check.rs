@@ -2,50 +2,70 @@
 
 use super::reader::Reader;
 use super::{table, Head, Road, Sheet};
-use super::{DISTANCE_ENTRIES, MOST_PLACES, MOST_SAMPLES, MOST_SIGNALS};
+use super::{MOST_SAMPLES, MOST_SIGNALS};
+use crate::layout::{Front, Layout, Pair};
 use crate::refusal::{Fault, Refusal};
 use crate::words::{self, kinds};
 
 /// Checks the words of a sheet and a lent distance table of so many entries,
-/// and decodes the sheet. It tells the refusals 1 to 14; 15 and 16 concern
+/// and decodes the sheet. It tells the refusals 1 to 14 and 17; 15 and 16 concern
 /// what is lent besides and are told by the judge.
 pub fn check(words: &[u32], distance_entries: usize) -> Result<Sheet, Refusal> {
-    if distance_entries < DISTANCE_ENTRIES {
-        return Err(Refusal::new(Fault::DistanceTable, 0));
-    }
+    let front = Front::told(words);
+    enough_distances(distance_entries, front.layout.distances_at_start())?;
     let mut reader = Reader::new(words);
-    let head = head(&mut reader)?;
-    let roads = roads(&mut reader, head.places)?;
+    let head = head(&mut reader, &front)?;
+    // The 4,096 of a narrow sheet are enough for its 64 places.
+    enough_distances(distance_entries, head.places * head.places)?;
+    let roads = roads(&mut reader, &head)?;
     let readings = readings(&mut reader, &head)?;
     let lines = table::lines(&mut reader, &head)?;
     end(&mut reader)?;
     Ok(Sheet { head, roads, readings, lines })
 }
 
+/// 1: fewer entries of the distance table than needed.
+fn enough_distances(entries: usize, needed: usize) -> Result<(), Refusal> {
+    if entries < needed {
+        return Err(Refusal::new(Fault::DistanceTable, 0));
+    }
+    Ok(())
+}
+
 /// "Head, kind 1: bits 27..20 places n (1 to 64), 19..12 signals v (1 to 16),
-/// 11..0 samples T (1 to 1,024)."
-fn head(reader: &mut Reader) -> Result<Head, Refusal> {
-    let word = reader.expect(kinds::HEAD, Fault::HeadKind)?;
-    let head = Head {
-        places: words::field(word, 27, 20) as usize,
-        signals: words::field(word, 19, 12) as usize,
-        samples: words::field(word, 11, 0) as usize,
-    };
-    let within = (1..=MOST_PLACES).contains(&head.places)
-        && (1..=MOST_SIGNALS).contains(&head.signals)
-        && (1..=MOST_SAMPLES).contains(&head.samples);
+/// 11..0 samples T (1 to 1,024)." Before that of a wide sheet stands a word more.
+fn head(reader: &mut Reader, front: &Front) -> Result<Head, Refusal> {
+    match front.layout {
+        Layout::Narrow => reader.expect(kinds::HEAD, Fault::HeadKind).map(drop)?,
+        Layout::Wide => wide_head(reader, front)?,
+    }
+    let &Front { layout, places, middle: signals, samples } = front;
+    let within = front.has_places_in_limits()
+        && (1..=MOST_SIGNALS).contains(&signals)
+        && (1..=MOST_SAMPLES).contains(&samples);
     reader.require(within, Fault::HeadLimits)?;
     reader.pass();
-    Ok(head)
+    Ok(Head { layout, places, signals, samples })
+}
+
+/// 17: "a wide head with a count outside its limits, spare bits set or no kind 1
+/// word with places 0 after it". The word of kind 10 is passed, the head not yet.
+fn wide_head(reader: &mut Reader, front: &Front) -> Result<(), Refusal> {
+    let word = reader.expect(kinds::WIDE, Fault::WideHead)?;
+    let is_right = words::field(word, 27, 16) == 0 && front.has_places_in_limits();
+    reader.require(is_right, Fault::WideHead)?;
+    reader.pass();
+    let head = reader.expect(kinds::HEAD, Fault::WideHead)?;
+    reader.require(words::field(head, 27, 20) == 0, Fault::WideHead)
 }
 
 /// "Roads, none or more, two words each." A word of another kind than 2 where
 /// a road could begin is the first that belongs to the samples.
-fn roads(reader: &mut Reader, places: usize) -> Result<Vec<Road>, Refusal> {
+fn roads(reader: &mut Reader, head: &Head) -> Result<Vec<Road>, Refusal> {
     let mut roads = Vec::new();
     let mut last = None;
     while let Some(word) = reader.peek(kinds::ROAD_PLACES) {
-        let pair = road_places(reader, word, places, last)?;
+        let pair = road_places(reader, word, head, last)?;
         let weight = road_weight(reader)?;
         let (first, second) = pair;
         roads.push(Road { first, second, weight });
@@ -56,17 +76,16 @@ fn roads(reader: &mut Reader, places: usize) -> Result<Vec<Road>, Refusal> {
 
 /// "Kind 2: bits 15..8 first place, 7..0 second place, 27..16 zero, first below
 /// second, second below n. Each pair (first, then second) is greater than the
-/// pair before."
+/// pair before." The places of a wide sheet have more bits.
 fn road_places(
     reader: &mut Reader,
     word: u32,
-    places: usize,
+    head: &Head,
     last: Option<(usize, usize)>,
 ) -> Result<(usize, usize), Refusal> {
-    let first = words::field(word, 15, 8) as usize;
-    let second = words::field(word, 7, 0) as usize;
-    reader.require(words::field(word, 27, 16) == 0, Fault::RoadSpareBits)?;
-    reader.require(first < second && second < places, Fault::RoadPlaces)?;
+    let Pair { spare, first, second } = head.layout.pair(word);
+    reader.require(spare == 0, Fault::RoadSpareBits)?;
+    reader.require(first < second && second < head.places, Fault::RoadPlaces)?;
     reader.require(last < Some((first, second)), Fault::RoadOrder)?;
     reader.pass();
     Ok((first, second))

@@ -14,13 +14,8 @@ pub use check::check;
 pub use extent::Extent;
 pub use operator::{Bounds, Operator, Reach};
 
+use crate::layout::Layout;
 use crate::words::PAYLOAD_MASK;
-
-/// The least number of entries of a lent distance table: 64 times 64.
-pub const DISTANCE_ENTRIES: usize = 4096;
-
-/// The greatest number of places.
-pub const MOST_PLACES: usize = 64;
 
 /// The greatest number of signals.
 pub const MOST_SIGNALS: usize = 16;
@@ -37,9 +32,11 @@ pub const GREATEST_WEIGHT: u32 = PAYLOAD_MASK;
 /// The greatest code of a line.
 pub const LAST_CODE: u32 = 15;
 
-/// The sizes a sheet's head tells.
+/// How a sheet is laid out, and the sizes that it tells.
 #[derive(Clone, Copy, Debug, PartialEq, Eq)]
 pub struct Head {
+    /// The layout, which its answer shares.
+    pub layout: Layout,
     /// The number of places, n.
     pub places: usize,
     /// The number of signals, v.
@@ -72,7 +69,7 @@ pub struct Line {
 /// An accepted sheet.
 #[derive(Clone, Debug, PartialEq, Eq)]
 pub struct Sheet {
-    /// The sizes.
+    /// The layout and the sizes.
     pub head: Head,
     /// The roads in their order.
     pub roads: Vec<Road>,

@@ -3,14 +3,15 @@
 use super::line_words;
 use crate::builder::SheetBuilder;
 use crate::generate::random::Random;
+use crate::layout::ENOUGH_DISTANCES;
 use crate::sheet::GREATEST_WEIGHT as GREATEST;
-use crate::sheet::{check, Extent, Operator, Reach, Sheet, DISTANCE_ENTRIES, MOST_LINES};
+use crate::sheet::{check, Extent, Operator, Reach, Sheet, MOST_LINES};
 use crate::words::{self, kinds};
 
 /// 13: a window of time that leaves no sample, or operands that have none in
 /// common.
 pub fn no_sample(random: &mut Random, words: Vec<u32>) -> Option<Vec<u32>> {
-    let sheet = check(&words, DISTANCE_ENTRIES).ok()?;
+    let sheet = check(&words, ENOUGH_DISTANCES).ok()?;
     match random.below(4) {
         0 | 1 => long_window(random, words, &sheet),
         2 => parted(random, words, &sheet),

@@ -4,20 +4,24 @@ use crate::answer;
 use crate::generate::random::Random;
 use crate::generate::Case;
 use crate::judge::{BYTES_PER_DISTANCE, RESULT_BYTES};
-use crate::sheet::{self, DISTANCE_ENTRIES};
+use crate::layout::{Front, DISTANCE_ENTRIES, ENOUGH_DISTANCES};
+use crate::sheet;
 use crate::words::{self, BYTES_PER_WORD};
 
-/// 1: under 4,096 entries of the distance table.
+/// 1: under 4,096 entries of the distance table, for a wide sheet fewer than
+/// places squared, often by one, and beyond 64 places also those of a narrow one.
 pub fn few_distances(random: &mut Random, case: &mut Case) {
-    let any = random.below(DISTANCE_ENTRIES);
-    let entries = random.pick(&[0, 1, DISTANCE_ENTRIES - 1, any]);
+    let words = words::from_bytes(&case.sheet).unwrap_or_default();
+    let most = Front::told(&words).distances_needed().saturating_sub(1);
+    let any = random.count(0, most);
+    let entries = random.pick(&[0, 1, most, most, DISTANCE_ENTRIES, any]).min(most);
     case.distances = entries * BYTES_PER_DISTANCE;
 }
 
 /// 15: fewer words of the answer than needed, often by one.
 pub fn short_answer(random: &mut Random, case: &mut Case) {
     let words = words::from_bytes(&case.sheet).unwrap_or_default();
-    let needed = match sheet::check(&words, DISTANCE_ENTRIES) {
+    let needed = match sheet::check(&words, ENOUGH_DISTANCES) {
         Ok(sheet) => answer::needed(&sheet),
         Err(_) => 1,
     };

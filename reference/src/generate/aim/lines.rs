@@ -3,6 +3,7 @@
 use super::{find, line_words, other_kind};
 use crate::generate::damage::renew_end;
 use crate::generate::random::Random;
+use crate::layout::Front;
 use crate::sheet::GREATEST_WEIGHT as GREATEST;
 use crate::sheet::{LAST_CODE, MOST_LINES};
 use crate::words::{self, kinds};
@@ -39,7 +40,7 @@ pub fn line_word(random: &mut Random, mut words: Vec<u32>) -> Option<Vec<u32>> {
     let number = random.pick(&[any, any, lines.len() - 1]);
     let at = lines[number];
     let code = words::field(words[at], 27, 20);
-    let signals = words::field(words[0], 19, 12);
+    let signals = Front::told(&words).middle as u32;
     let earlier = number as u32;
     let set = |word: u32, shift: u32, field: u32| (word & !(0x3FF << shift)) | (field << shift);
     let (left_from, right_from) = match code {

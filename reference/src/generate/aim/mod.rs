@@ -1,18 +1,20 @@
 //! Damage aimed at one refusal.
 
 mod extents;
+mod heads;
 pub mod lent;
 mod lines;
 mod places;
 
 use super::random::Random;
 use super::{damage, valid, Case};
+use crate::sheet::check;
 use crate::words::{self, kinds};
 
 /// Damage that is aimed: nothing where the sheet has not what it strikes at.
 type Blow = fn(&mut Random, Vec<u32>) -> Option<Vec<u32>>;
 
-/// A case that is refused with the number, 1 to 16. The refusals of a road need
+/// A case that is refused with the number, 1 to 17. The refusals of a road need
 /// a road, so their sheets may have two places though fewer were asked for.
 pub fn aimed(random: &mut Random, number: u64, most_places: usize) -> Case {
     let Some(blow) = blow(number) else {
@@ -31,8 +33,8 @@ pub fn aimed(random: &mut Random, number: u64, most_places: usize) -> Case {
 /// wrong as well: of 1 the sheet and the answer, of 16 the distances too.
 fn aimed_at_lent(random: &mut Random, number: u64, most_places: usize) -> Case {
     let mut words = valid::sheet_to_damage(random, most_places);
-    if number != 15 && random.chance(20) {
-        damage::damage(random, &mut words);
+    if number != 15 && random.chance(30) {
+        words = damaged_besides(random, words, number);
     }
     let mut case = Case::lend(random, &words);
     if number == 1 || (number == 16 && random.chance(30)) {
@@ -47,19 +49,32 @@ fn aimed_at_lent(random: &mut Random, number: u64, most_places: usize) -> Case {
     case
 }
 
+/// The words damaged, unless that takes the aim away: before 1 come the faults of a
+/// wide head.
+fn damaged_besides(random: &mut Random, words: Vec<u32>, number: u64) -> Vec<u32> {
+    let mut damaged = words.clone();
+    damage::damage(random, &mut damaged);
+    let refused_for_distances = check(&damaged, 0).is_err_and(|refusal| refusal.number() == 1);
+    if number == 1 && !refused_for_distances {
+        words
+    } else {
+        damaged
+    }
+}
+
 /// A blow of a number that strikes the table of the words, so that the place is
 /// behind all samples; nothing where there is no such number, or nothing to
 /// strike.
 pub fn struck_table(random: &mut Random, number: u64, words: &[u32]) -> Option<Vec<u32>> {
-    let blow = blow(number).filter(|_| number >= 10)?;
+    let blow = blow(number).filter(|_| (10..=14).contains(&number))?;
     blow(random, words.to_vec())
 }
 
 /// The blow for a refusal that lies in the sheet itself.
 fn blow(number: u64) -> Option<Blow> {
     Some(match number {
-        2 => places::head_kind,
-        3 => places::head_limits,
+        2 => heads::head_kind,
+        3 => heads::head_limits,
         4 => places::road_spare_bits,
         5 => places::road_places,
         6 => places::road_order,
@@ -71,6 +86,7 @@ fn blow(number: u64) -> Option<Blow> {
         12 => lines::parameter,
         13 => extents::no_sample,
         14 => lines::end,
+        17 => heads::wide_head,
         _ => return None,
     })
 }

@@ -1,34 +1,17 @@
-//! Aims at the head, the roads and the samples: refusals 2 to 9.
+//! Aims at the roads and the samples: refusals 4 to 9.
 
 use super::{find, other_kind};
 use crate::generate::random::Random;
+use crate::layout::{Front, Layout, Pair};
 use crate::words::{self, kinds};
-
-/// 2: the head absent or of another kind.
-pub fn head_kind(random: &mut Random, mut words: Vec<u32>) -> Option<Vec<u32>> {
-    if random.chance(20) {
-        words.clear();
-    } else {
-        words[0] = other_kind(random, words[0], &[]);
-    }
-    Some(words)
-}
-
-/// 3: n, v or T below 1 or above its limit.
-pub fn head_limits(random: &mut Random, mut words: Vec<u32>) -> Option<Vec<u32>> {
-    let (shift, mask, most) = random.pick(&[(20, 0xFF, 64), (12, 0xFF, 16), (0, 0xFFF, 1024)]);
-    let above = random.field(most + 1, mask);
-    let size = random.pick(&[0, most + 1, mask, above]);
-    words[0] = (words[0] & !(mask << shift)) | (size << shift);
-    Some(words)
-}
 
 /// 4: a spare bit of a road's first word.
 pub fn road_spare_bits(random: &mut Random, mut words: Vec<u32>) -> Option<Vec<u32>> {
     let at = find(random, &words, kinds::ROAD_PLACES)?;
-    words[at] |= 1 << random.field(16, 27);
+    let both_places = 2 * Layout::of(&words).place_bits();
+    words[at] |= 1 << random.field(both_places, 27);
     if random.chance(30) {
-        words[at] ^= random.field(0, 0xFFFF);
+        words[at] ^= random.field(0, (1 << both_places) - 1);
     }
     Some(words)
 }
@@ -36,9 +19,10 @@ pub fn road_spare_bits(random: &mut Random, mut words: Vec<u32>) -> Option<Vec<u
 /// 5: the two places equal, exchanged, or the second not below n.
 pub fn road_places(random: &mut Random, mut words: Vec<u32>) -> Option<Vec<u32>> {
     let at = find(random, &words, kinds::ROAD_PLACES)?;
-    let places = words::field(words[0], 27, 20);
-    let (first, second) = (words::field(words[at], 15, 8), words::field(words[at], 7, 0));
-    let beyond = random.field(places, 255);
+    let Front { layout, places, .. } = Front::told(&words);
+    let Pair { first, second, .. } = layout.pair(words[at]);
+    let most = (1 << layout.place_bits()) - 1;
+    let beyond = random.count(places, most);
     let (first, second) = random.pick(&[
         (second, first),
         (first, first),
@@ -46,9 +30,9 @@ pub fn road_places(random: &mut Random, mut words: Vec<u32>) -> Option<Vec<u32>>
         (first, places),
         (first, beyond),
         (beyond, beyond),
-        (255, 255),
+        (most, most),
     ]);
-    words[at] = words::word(kinds::ROAD_PLACES, first << 8 | second);
+    words[at] = layout.pair_word(first as u32, second as u32);
     Some(words)
 }
 
@@ -61,8 +45,10 @@ pub fn road_order(random: &mut Random, mut words: Vec<u32>) -> Option<Vec<u32>> 
     }
     let again = random.below(count);
     let before = random.count(again + 1, count);
-    let road = [words[1 + 2 * again], words[2 + 2 * again]];
-    words.splice(1 + 2 * before..1 + 2 * before, road);
+    let at = |road: usize| Layout::of(&words).front_words() + 2 * road;
+    let (again, before) = (at(again), at(before));
+    let road = [words[again], words[again + 1]];
+    words.splice(before..before, road);
     Some(words)
 }
 
