@@ -6,16 +6,17 @@ use common::*;
 use reference::fast::Fast;
 use reference::generate::random::Random;
 use reference::generate::{self, answers, valid_case};
+use reference::layout::ENOUGH_DISTANCES;
 use reference::lookup::lookup;
 use reference::margin::Margin;
-use reference::sheet::{check, DISTANCE_ENTRIES};
+use reference::sheet::check;
 use reference::words;
 
 /// Whether the definitions can be enumerated: damage might, against all odds,
 /// leave a valid head of more places.
 fn is_small(sheet: &[u8]) -> bool {
     let words = words::from_bytes(sheet).unwrap_or_default();
-    check(&words, DISTANCE_ENTRIES).map_or(true, |sheet| sheet.head.places <= 12)
+    check(&words, ENOUGH_DISTANCES).map_or(true, |sheet| sheet.head.places <= 12)
 }
 
 #[test]
@@ -74,9 +75,10 @@ fn lookups_find_their_word() {
     for seed in 0..200 {
         let left = judged_by::<Fast>(&valid_case(&mut Random::new(seed), 4));
         let words = answer_words(&left);
-        let (places, lines) = (words[0] >> 20 & 0xFF, words[0] >> 12 & 0xFF);
-        let mut index = 1;
-        for line in 0..u64::from(lines) {
+        let is_wide = words[0] >> 28 == 10;
+        let places = if is_wide { words[0] & 0xFFFF } else { words[0] >> 20 & 0xFF };
+        let mut index = 1 + usize::from(is_wide);
+        for line in 0..u64::from(words[index - 1] >> 12 & 0xFF) {
             let (first, length) = (words[index] >> 12 & 0xFFF, (words[index] & 0xFFF).min(8));
             for at in 0..length * places {
                 let word = words[index + 1 + at as usize];

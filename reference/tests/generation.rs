@@ -6,8 +6,16 @@ use common::*;
 use reference::answer::Answer;
 use reference::fast::Fast;
 use reference::generate::random::Random;
-use reference::generate::{aim, answers, case, islands, limits, rounds, valid, windows, Case};
-use reference::sheet::{check, Line, Operator, Reach, DISTANCE_ENTRIES};
+use reference::generate::{
+    aim, answers, case, islands, largest, limits, rounds, valid, windows, Case,
+};
+use reference::layout::{Front, ENOUGH_DISTANCES};
+use reference::sheet::{check, Line, Operator, Reach};
+
+/// Answer words enough for so many lines, samples and places in either layout.
+fn plenty(lines: usize, samples: usize, places: usize) -> usize {
+    3 + lines * (1 + samples * places)
+}
 
 #[test]
 fn a_seed_determines_its_case() {
@@ -22,7 +30,7 @@ fn valid_sheets_are_accepted_and_use_every_code() {
     let mut used = [0; 16];
     for seed in 0..500 {
         let words = valid::sheet(&mut Random::new(seed), 64);
-        let sheet = check(&words, DISTANCE_ENTRIES).expect("a valid sheet");
+        let sheet = check(&words, ENOUGH_DISTANCES).expect("a valid sheet");
         for line in &sheet.lines {
             used[line.operator.code() as usize] += 1;
         }
@@ -36,7 +44,7 @@ fn valid_sheets_look_both_ways() {
     let (mut back_of_early, mut ahead_of_late, mut last_sample) = (0, 0, 0);
     for seed in 0..2000 {
         let words = valid::sheet(&mut Random::new(seed), 4);
-        let sheet = check(&words, DISTANCE_ENTRIES).expect("a valid sheet");
+        let sheet = check(&words, ENOUGH_DISTANCES).expect("a valid sheet");
         for line in &sheet.lines {
             let operand = line.operator.operands()[0].map(|line| sheet.lines[line].extent);
             let begins_late = operand.is_some_and(|extent| extent.first > 0);
@@ -53,7 +61,7 @@ fn valid_sheets_look_both_ways() {
 
 #[test]
 fn aims_hit() {
-    for number in 1..=16 {
+    for number in 1..=17 {
         for seed in 0..300 {
             let case = aim::aimed(&mut Random::new(seed), number, 8);
             assert_eq!(judged_by::<Fast>(&case).number, number, "seed {seed}");
@@ -76,7 +84,7 @@ fn limits_are_reached() {
     let (mut places, mut signals, mut samples, mut lines) = (0, 0, 0, 0);
     for seed in 0..2000 {
         let words = valid::sheet(&mut Random::new(seed), 64);
-        let sheet = check(&words, DISTANCE_ENTRIES).expect("a valid sheet");
+        let sheet = check(&words, ENOUGH_DISTANCES).expect("a valid sheet");
         places = places.max(sheet.head.places);
         signals = signals.max(sheet.head.signals);
         samples = samples.max(sheet.head.samples);
@@ -87,15 +95,25 @@ fn limits_are_reached() {
 
 #[test]
 fn the_largest_sheet_is_judged() {
-    let words = valid::largest_sheet(&mut Random::new(1));
+    let words = largest::sheet(&mut Random::new(1));
     assert!(words.len() > 16 * 64 * 1024);
-    let left = judged_by::<Fast>(&Case::of(&words, 2 + 7 * (1 + 64 * 1024)));
+    let left = judged_by::<Fast>(&Case::of(&words, plenty(7, 1024, 64)));
     assert_eq!(left.number, 0);
+}
+
+#[test]
+fn the_largest_city_is_judged() {
+    for seed in 0..4 {
+        let words = largest::city(&mut Random::new(seed));
+        assert_eq!(Front::told(&words).places, 1024);
+        let left = judged_by::<Fast>(&Case::of(&words, plenty(7, 2, 1024)));
+        assert_eq!(left.number, 0);
+    }
 }
 
 /// The codes of a sheet's lines.
 fn codes(words: &[u32]) -> Vec<u32> {
-    let sheet = check(words, DISTANCE_ENTRIES).expect("a valid sheet");
+    let sheet = check(words, ENOUGH_DISTANCES).expect("a valid sheet");
     sheet.lines.iter().map(|line| line.operator.code()).collect()
 }
 
@@ -106,7 +124,7 @@ fn rounds_are_as_many_as_places() {
     let mut first = [0; 16];
     for seed in 0..120 {
         let words = rounds::wandering_margins(&mut Random::new(seed), 64);
-        let left = judged_by::<Fast>(&Case::of(&words, 2 + 4 * (1 + 33 * 64)));
+        let left = judged_by::<Fast>(&Case::of(&words, plenty(4, 33, 64)));
         let places = left.whole_answer().expect("a whole answer").places as u64;
         let has_run = places > 1 || codes(&words).contains(&15);
         assert_eq!(outcome(&left).rounds, if has_run { places } else { 0 }, "seed {seed}");
@@ -123,7 +141,7 @@ fn verdicts_wander_where_margins_rest() {
     let mut few = [0; 16];
     for seed in 0..120 {
         let words = rounds::wandering_verdicts(&mut Random::new(seed), 64);
-        let left = judged_by::<Fast>(&Case::of(&words, 2 + 7 * (1 + 33 * 64)));
+        let left = judged_by::<Fast>(&Case::of(&words, plenty(7, 33, 64)));
         let answer = left.whole_answer().expect("a whole answer");
         let code = codes(&words)[5];
         let (places, line) = (answer.places, &answer.lines[5]);
@@ -142,7 +160,7 @@ fn both_readings_of_a_surround_stand_side_by_side() {
     let mut pairs = 0;
     for seed in 0..1000 {
         let words = valid::sheet(&mut Random::new(seed), 8);
-        let sheet = check(&words, DISTANCE_ENTRIES).expect("a valid sheet");
+        let sheet = check(&words, ENOUGH_DISTANCES).expect("a valid sheet");
         let same = |pair: &&[Line]| match [pair[0].operator, pair[1].operator] {
             [Operator::Surround { left, right, bounds }, other] => {
                 other == Operator::SurroundOrIsland { left, right, bounds }
@@ -161,7 +179,7 @@ fn islands_matter() {
     let (mut apart, mut verdicts_apart, mut same, mut no_rounds) = (0, 0, 0, 0);
     for seed in 0..1000 {
         let words = islands::sheet(&mut Random::new(seed), 64);
-        let left = judged_by::<Fast>(&Case::of(&words, 2 + 8 * (1 + 3 * 8)));
+        let left = judged_by::<Fast>(&Case::of(&words, plenty(8, 3, 8)));
         let lines = left.whole_answer().expect("a whole answer").lines;
         no_rounds += u32::from(codes(&words)[6..] == [7] && outcome(&left).rounds == 0);
         if let [without, with] = &lines[6..] {
@@ -183,7 +201,7 @@ fn windows_have_ties() {
     let (mut used, mut yeses, mut noes) = ([0; 16], 0, 0);
     for seed in 0..300 {
         let words = windows::sheet(&mut Random::new(seed), 64);
-        let left = judged_by::<Fast>(&Case::of(&words, 2 + 10 * (1 + 8 * 3)));
+        let left = judged_by::<Fast>(&Case::of(&words, plenty(10, 8, 3)));
         for (line, code) in
             left.whole_answer().expect("a whole answer").lines.iter().zip(codes(&words))
         {

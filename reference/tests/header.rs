@@ -3,8 +3,9 @@
 use reference::answer;
 use reference::builder::SheetBuilder;
 use reference::judge::{BYTES_PER_DISTANCE, RESULT_BYTES};
-use reference::sheet::{check, DISTANCE_ENTRIES};
-use reference::sheet::{MOST_LINES, MOST_PLACES, MOST_SAMPLES, MOST_SIGNALS};
+use reference::layout::{DISTANCE_ENTRIES, MOST_PLACES};
+use reference::sheet::check;
+use reference::sheet::{MOST_LINES, MOST_SAMPLES, MOST_SIGNALS};
 use reference::words::BYTES_PER_WORD;
 
 const HEADER: &str = include_str!("../../include/tecuhualma.h");

@@ -78,9 +78,11 @@ fn every_cut_is_a_missing_word() {
 
 #[test]
 fn number_2_head_of_another_kind() {
-    for word in kinds_but(&[kinds::HEAD], 0x0302002) {
+    for word in kinds_but(&[kinds::HEAD, kinds::WIDE], 0x0302002) {
         assert_eq!(refused(&with(0, word)), (2, 0));
     }
+    // Kind 10 makes the sheet wide, whose front has faults of its own.
+    assert_eq!(refused(&with(0, 0xA030_2002)), (17, 0));
     assert_eq!(refused(&[]), (2, 0));
     assert_eq!(refused(&[0]), (2, 0));
 }
