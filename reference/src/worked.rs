@@ -41,5 +41,13 @@ pub const AFTER_RAISING: [u32; 19] = [
     0x60000000, 0x70000001, 0xF0000012,
 ];
 
+/// Example A of the scope as a wide sheet of two places: one word more, before the
+/// head. Its answer has 21 words, one more than the narrow sheet's.
+pub const WIDE_A: [u32; 20] = [
+    0xA0000002, 0x10001002, 0x20000001, 0x30000003, 0x40000005, 0x47FFFFFE, 0x40000001, 0x40000004,
+    0x50100000, 0x80000000, 0x50900000, 0x60000000, 0x70000001, 0x50600000, 0x60000001, 0x70000003,
+    0x50700800, 0x60000000, 0x70000003, 0xF0000013,
+];
+
 /// All of them.
-pub const SHEETS: [&[u32]; 4] = [&UNTIL, &SINCE, &BEFORE_RAISING, &AFTER_RAISING];
+pub const SHEETS: [&[u32]; 5] = [&UNTIL, &SINCE, &BEFORE_RAISING, &AFTER_RAISING, &WIDE_A];

@@ -10,6 +10,7 @@ use reference::generate::{aim, answers, case, rounds, valid, Case};
 use reference::layout::{Front, Layout, ENOUGH_DISTANCES};
 use reference::sheet::check;
 use reference::words;
+use reference::worked::WIDE_A;
 
 /// Places enough for cities.
 const CITY: usize = 300;

@@ -12,6 +12,7 @@ use reference::judge::Outcome;
 use reference::layout::{Front, Layout};
 use reference::left::Left;
 use reference::words::{self, kinds};
+use reference::worked::WIDE_A;
 
 /// The answer to it: that of example A behind the kind 10 word, places 0.
 const ANSWER: [u32; 21] = [
@@ -49,6 +50,13 @@ fn example_a_leaves_answer_distances_and_result() {
         assert!(left.distances[32..].iter().all(|&byte| byte == 0));
         assert_eq!(outcome(&left), Outcome { words: 21, rounds: 1, yes: 11, ..Outcome::default() });
     }
+}
+
+/// The file that hosts are tried on.
+#[test]
+fn example_a_as_a_file() {
+    let file = include_bytes!("../examples/wide.sheet");
+    assert_eq!(file[..], words::to_bytes(&WIDE_A));
 }
 
 #[test]

@@ -9,6 +9,7 @@ use reference::generate::Case;
 use reference::lookup::lookup;
 use reference::print::print;
 use reference::words::{self, kinds};
+use reference::worked::WIDE_A;
 
 /// The answer to example A laid out wide, with zeros after its end.
 fn answer() -> Vec<u32> {
