@@ -142,6 +142,11 @@ impl Front {
         }
     }
 
+    /// What the front of a sheet's or an answer's bytes tells.
+    pub fn told_by_bytes(bytes: &[u8]) -> Self {
+        Front::told(&words::first_words(bytes, Layout::Wide.front_words()))
+    }
+
     /// The words that tell it, the last of them a head of this kind.
     pub fn words(&self, head: u32) -> Vec<u32> {
         let sizes = (self.middle << 12 | self.samples) as u32;
@@ -193,6 +198,7 @@ mod tests {
         assert_eq!((narrow.places, narrow.middle, narrow.samples), (2, 1, 2));
         assert_eq!(Front { layout: Layout::Narrow, ..wide }, narrow);
         assert_eq!(narrow.words(kinds::HEAD), NARROW);
+        assert_eq!(Front::told_by_bytes(&words::to_bytes(&WIDE)), wide);
         assert_eq!(wide.words(kinds::HEAD), WIDE);
         assert_eq!([narrow, wide].map(|front| front.distances_needed()), [4096, 4]);
     }

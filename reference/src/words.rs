@@ -118,6 +118,11 @@ pub fn from_bytes(bytes: &[u8]) -> Option<Vec<u32>> {
     Some(chunks.map(from_chunk).collect())
 }
 
+/// The first words that bytes hold, so many at the most.
+pub fn first_words(bytes: &[u8], most: usize) -> Vec<u32> {
+    bytes.chunks_exact(BYTES_PER_WORD).take(most).map(from_chunk).collect()
+}
+
 /// The bytes of words, lowest byte first.
 pub fn to_bytes(words: &[u32]) -> Vec<u8> {
     words.iter().flat_map(|word| word.to_le_bytes()).collect()
@@ -143,6 +148,8 @@ mod tests {
         assert_eq!(to_bytes(&[0xF000_0001]), vec![1, 0, 0, 0xF0]);
         assert_eq!(from_bytes(&[1, 2, 3]), None);
         assert_eq!(from_bytes(&[]), Some(vec![]));
+        assert_eq!(first_words(&[1, 0, 0, 0xF0, 2, 0, 0, 0, 3], 5), [0xF000_0001, 2]);
+        assert_eq!(first_words(&[1, 0, 0, 0xF0, 2, 0, 0, 0, 3], 1), [0xF000_0001]);
     }
 
     #[test]

@@ -63,6 +63,30 @@ pub fn sheet(random: &mut Random, most_places: usize) -> Vec<u32> {
     sheet_of(random, sizes)
 }
 
+/// The words of a valid sheet of at most so many places, now and then of a small
+/// city instead.
+pub fn sheet_or_city(random: &mut Random, most_places: usize) -> Vec<u32> {
+    if random.chance(2) {
+        city(random, 2 * MOST_PLACES)
+    } else {
+        sheet(random, most_places)
+    }
+}
+
+/// The words of a valid wide sheet of more than 64 places, and at most so many.
+pub fn city(random: &mut Random, most_places: usize) -> Vec<u32> {
+    let sizes = city_of(random, most_places);
+    sheet_of(random, sizes)
+}
+
+/// The words of a valid sheet of one sample, one line or two, and few more than 64
+/// places, for tables that grow without regard to what their lines cost.
+pub fn bare_city(random: &mut Random) -> Vec<u32> {
+    let places = random.count(MOST_PLACES + 1, MOST_PLACES + 8);
+    let lines = random.count(1, 2);
+    sheet_of(random, Sizes { places, signals: 1, samples: 1, lines })
+}
+
 /// The words of a small valid sheet.
 pub fn small_sheet(random: &mut Random, most_places: usize) -> Vec<u32> {
     let sizes = small(random, most_places);

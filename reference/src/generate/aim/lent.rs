@@ -11,8 +11,7 @@ use crate::words::{self, BYTES_PER_WORD};
 /// 1: under 4,096 entries of the distance table, for a wide sheet fewer than
 /// places squared, often by one, and beyond 64 places also those of a narrow one.
 pub fn few_distances(random: &mut Random, case: &mut Case) {
-    let words = words::from_bytes(&case.sheet).unwrap_or_default();
-    let most = Front::told(&words).distances_needed().saturating_sub(1);
+    let most = Front::told_by_bytes(&case.sheet).distances_needed().saturating_sub(1);
     let any = random.count(0, most);
     let entries = random.pick(&[0, 1, most, most, DISTANCE_ENTRIES, any]).min(most);
     case.distances = entries * BYTES_PER_DISTANCE;

@@ -8,6 +8,7 @@ mod places;
 
 use super::random::Random;
 use super::{damage, valid, Case};
+use crate::layout::Layout;
 use crate::sheet::check;
 use crate::words::{self, kinds};
 
@@ -24,7 +25,13 @@ pub fn aimed(random: &mut Random, number: u64, most_places: usize) -> Case {
     loop {
         let words = valid::sheet_to_damage(random, most_places);
         if let Some(words) = blow(random, words) {
-            return Case::lend(random, &words);
+            let mut case = Case::lend(random, &words);
+            // What is lent to a wide sheet is looked at after its front.
+            let is_of_front = matches!(number, 3 | 17) && Layout::of(&words).is_wide();
+            if is_of_front && random.chance(30) {
+                lent::few_distances(random, &mut case);
+            }
+            return case;
         }
     }
 }
