@@ -5,13 +5,16 @@ use crate::printing::{self, Printer};
 use crate::reached::Reached;
 use crate::{deciding, judging, laws, lookups, mirror, raising, steadiness, Engine};
 use reference::generate::random::Random;
-use reference::generate::{aim, case, valid, Case};
+use reference::generate::{aim, case, largest, Case};
+use reference::judge::BYTES_PER_DISTANCE;
+use reference::layout::Front;
 use reference::page;
 use reference::print::ANSWER_WORDS;
 use reference::worked;
 
-/// Networks have at most so many places.
-const MOST_PLACES: usize = 64;
+/// Networks have at most so many places, but for those of [`Comparison::largest`]:
+/// more than 8 bits hold, and few enough for thousands of cities.
+const MOST_PLACES: usize = 300;
 
 /// One seed in so many also tries steadiness, raised samples, laws, time turned
 /// round, and decisions that do not depend on samples.
@@ -22,6 +25,9 @@ const PRINTS_EVERY: u64 = 16;
 
 /// One seed in so many also judges sheets of a million words.
 const LARGEST_EVERY: u64 = 1 << 13;
+
+/// One seed in so many also judges sheets of 1,024 places.
+const CITY_EVERY: u64 = 1 << 12;
 
 /// The refusals that are aimed at the table of a sheet of a million words.
 const OF_TABLE: [u64; 5] = [10, 11, 12, 13, 14];
@@ -63,6 +69,9 @@ impl<'a> Comparison<'a> {
         if seed.is_multiple_of(LARGEST_EVERY) {
             self.largest(&mut random)?;
         }
+        if seed % CITY_EVERY == CITY_EVERY / 2 {
+            self.largest_city(&mut random)?;
+        }
         Ok(())
     }
 
@@ -95,16 +104,31 @@ impl<'a> Comparison<'a> {
         }
     }
 
-    /// A sheet with places, signals and samples at their limits, and the same
+    /// A sheet of 64 places with signals and samples at their limits, and the same
     /// sheet with faults behind its million samples and with a short answer.
     pub fn largest(&mut self, random: &mut Random) -> Checked {
-        let words = valid::largest_sheet(random);
-        let mut case = Case::lend(random, &words);
+        let words = largest::sheet(random);
+        self.whole_and_struck(random, &words)
+    }
+
+    /// A sheet of 1,024 places, as it is, with a distance too few, with a short
+    /// answer, and with faults in its table.
+    pub fn largest_city(&mut self, random: &mut Random) -> Checked {
+        let words = largest::city(random);
+        let case = Case::lend(random, &words);
+        let needed = Front::told(&words).distances_needed() * BYTES_PER_DISTANCE;
+        self.judge(random, &Case { distances: needed - BYTES_PER_DISTANCE, ..case })?;
+        self.whole_and_struck(random, &words)
+    }
+
+    /// A valid sheet, the same with a short answer, and with faults in its table.
+    fn whole_and_struck(&mut self, random: &mut Random, words: &[u32]) -> Checked {
+        let mut case = Case::lend(random, words);
         self.judge(random, &case)?;
         aim::lent::short_answer(random, &mut case);
         self.judge(random, &case)?;
         for number in OF_TABLE {
-            if let Some(struck) = aim::struck_table(random, number, &words) {
+            if let Some(struck) = aim::struck_table(random, number, words) {
                 let case = Case::lend(random, &struck);
                 self.judge(random, &case)?;
             }

@@ -22,11 +22,17 @@ use std::ops::RangeInclusive;
 /// Networks are small: of what is said to an accepted sheet nothing is asked here.
 const MOST_PLACES: usize = 6;
 
+/// Now and then they may be cities.
+const MOST_PLACES_OF_CITY: usize = 100;
+
 /// Of a hundred samples so many are drawn anew: few, some or all.
 const DRAWN_ANEW: [usize; 3] = [5, 40, 100];
 
 /// The refusals that are told at a word, or where one is missing.
 const AT_WORDS: RangeInclusive<u64> = Fault::HeadKind as u64..=Fault::End as u64;
+
+/// The refusal of a wide head, which is told at a word too.
+const AT_WIDE_HEAD: u64 = Fault::WideHead as u64;
 
 /// Those that are told in the table or at the end, and so behind all samples of the
 /// recording.
@@ -40,7 +46,7 @@ const OF_REFUSED: [&str; 2] = [
 
 /// What a run must have reached, each with samples that changed.
 pub fn labels() -> impl Iterator<Item = String> {
-    let numbers = 0..=Fault::Bytes as u64;
+    let numbers = 0..=Fault::WideHead as u64;
     numbers.map(number_label).chain(OF_REFUSED.into_iter().map(label))
 }
 
@@ -70,7 +76,8 @@ impl Decision {
 
 /// Judges a random case, to be accepted or refused, and the same with other samples.
 pub fn check(engine: &dyn Engine, random: &mut Random, reached: &mut Reached) -> Checked {
-    let x = case(random.bits(), MOST_PLACES);
+    let most_places = if random.chance(10) { MOST_PLACES_OF_CITY } else { MOST_PLACES };
+    let x = case(random.bits(), most_places);
     let y = with_other_samples(random, &x);
     let of_x = decided(engine, random, &x)?;
     let of_y = decided(engine, random, &y)?;
@@ -79,6 +86,7 @@ pub fn check(engine: &dyn Engine, random: &mut Random, reached: &mut Reached) ->
     for label in shown(&changed(&x.sheet, &y.sheet), of_x) {
         reached.count(&label);
     }
+    reached.count_layout("decided alike", &whole_words(&x.sheet).0);
     Ok(())
 }
 
@@ -124,7 +132,7 @@ fn shown(changed: &[usize], decision: Decision) -> Vec<String> {
     let place = decision.told.map_or(0, |(_, place)| place as usize);
     let of_refused = [
         BEHIND_SAMPLES.contains(&number) && first_changed < place,
-        AT_WORDS.contains(&number) && changed.contains(&place),
+        (AT_WORDS.contains(&number) || number == AT_WIDE_HEAD) && changed.contains(&place),
     ];
     let of_refused = chosen(&OF_REFUSED, of_refused).map(label);
     std::iter::once(number_label(number)).chain(of_refused).collect()

@@ -7,11 +7,12 @@ use reference::answer::Answer;
 use reference::generate::random::Random;
 use reference::generate::Case;
 use reference::judge::{Outcome, BYTES_PER_DISTANCE};
+use reference::layout::Front;
 use reference::left::Left;
 use reference::words::{self, BYTES_PER_WORD};
 
 /// Up to so many places the definitions are asked as well.
-const MOST_TO_ENUMERATE: u32 = 6;
+const MOST_TO_ENUMERATE: usize = 6;
 
 /// What an engine leaves of a case in dirty buffers. It must write nothing
 /// beside what is lent, and nothing into the sheet.
@@ -58,8 +59,7 @@ fn agreed(engine: &dyn Engine, random: &mut Random, case: &Case) -> Result<Left,
 /// Whether a sheet was accepted that has so few places that all regions of its
 /// surrounds can be enumerated in no time.
 fn is_small(left: &Left) -> bool {
-    let head = left.answer.first_chunk().map_or(0, |&bytes| u32::from_le_bytes(bytes));
-    left.number == 0 && words::field(head, 27, 20) <= MOST_TO_ENUMERATE
+    left.number == 0 && Front::told_by_bytes(&left.answer).places <= MOST_TO_ENUMERATE
 }
 
 /// Demands the same number and the same bytes.

@@ -7,6 +7,7 @@ use crate::{Engine, Implementation};
 use reference::answer::Answer;
 use reference::generate::answers::{damaged, invented, query, query_at_edge, Query};
 use reference::generate::random::Random;
+use reference::layout::Front;
 use reference::words;
 
 /// How many lookups are made in one answer.
@@ -75,16 +76,15 @@ fn look_up_all(
     demand(lent.bytes() == answer.bytes, || "the lookup wrote into the answer".into())
 }
 
-/// A query in or near the sizes that the answer's head tells, or at the edge of
+/// A query in or near the sizes that the answer's front tells, or at the edge of
 /// one of its lines.
 fn any_query(random: &mut Random, answer: &LookedUp) -> Query {
     match &answer.whole {
         Some(whole) if random.chance(40) => return query_at_edge(random, whole),
         _ => {}
     }
-    let head = answer.bytes.first_chunk().map_or(0, |&bytes| u32::from_le_bytes(bytes));
-    let size = |high, low| u64::from(words::field(head, high, low));
-    query(random, size(19, 12), size(11, 0), size(27, 20))
+    let Front { places, middle: lines, samples, .. } = Front::told_by_bytes(answer.bytes);
+    query(random, lines as u64, samples as u64, places as u64)
 }
 
 /// The lookup of every verdict of a small answer gives what its word says.

@@ -9,6 +9,7 @@ use crate::Engine;
 use reference::answer::{Answer, AnswerLine};
 use reference::generate::random::Random;
 use reference::generate::valid;
+use reference::layout::Front;
 use reference::words::{self, kinds};
 
 /// The codes that look ahead, each with the one that looks back as far.
@@ -25,14 +26,15 @@ fn label(code: u32) -> String {
 
 /// Judges a random sheet and the same sheet with time turned round.
 pub fn check(engine: &dyn Engine, random: &mut Random, reached: &mut Reached) -> Checked {
-    let words = valid::sheet(random, 16);
+    let words = valid::sheet_or_city(random, 16);
     let turned = turned(&words);
     let one = answered(engine, random, &words)?;
     let other = answered(engine, random, &turned)?;
-    mirrored(words::field(words[0], 11, 0) as usize, &one, &other).map_err(|difference| {
+    mirrored(Front::told(&words).samples, &one, &other).map_err(|difference| {
         let difference = difference.on("one sheet", &words::to_bytes(&words));
         difference.on("the sheet turned round", &words::to_bytes(&turned))
     })?;
+    reached.count_layout("time turned round", &words);
     let exchanged = |code: &u32| EXCHANGED.iter().any(|pair| pair.0 == *code || pair.1 == *code);
     for code in words::line_codes(&words).into_iter().filter(exchanged) {
         reached.count(&label(code));
@@ -43,7 +45,8 @@ pub fn check(engine: &dyn Engine, random: &mut Random, reached: &mut Reached) ->
 /// The words of a valid sheet with time turned round: its samples, which are its
 /// words of kind 4, from the last to the first, and its codes exchanged.
 fn turned(words: &[u32]) -> Vec<u32> {
-    let row = (words::field(words[0], 27, 20) * words::field(words[0], 19, 12)) as usize;
+    let front = Front::told(words);
+    let row = front.places * front.middle;
     let samples = words::indices(words, |kind| kind == kinds::SAMPLE);
     let rows = samples.chunks(row).rev();
     let mut turned: Vec<u32> = words.iter().map(|&word| exchanged(word)).collect();

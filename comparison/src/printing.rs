@@ -5,6 +5,7 @@ use crate::reached::Reached;
 use reference::fast::Fast;
 use reference::generate::limits;
 use reference::generate::random::Random;
+use reference::layout::Front;
 use reference::print::{print, ANSWER_WORDS, MOST_BYTES};
 use reference::words::{self, BYTES_PER_WORD};
 use std::io::Write;
@@ -23,14 +24,18 @@ const LIMITS: [&str; 4] = [
 ];
 
 /// What a run must have reached in print: acceptance, also of a line that begins
-/// late, every refusal but that of too few distances, of which the program lends
-/// enough, and its limits.
+/// late and of a wide sheet, every refusal, that of too few distances where there
+/// are more than 64 places, and its limits.
 pub fn labels() -> Vec<String> {
-    let refusals = (2..=16).map(|number| format!("printed: refused {number}"));
-    let accepted = std::iter::once("printed: accepted".into());
-    let late = std::iter::once(LATE.into());
-    accepted.chain(late).chain(refusals).chain(LIMITS.map(String::from)).collect()
+    let refusals = (1..=17).map(|number| format!("printed: refused {number}"));
+    let accepted = [ACCEPTED, LATE, WIDE].map(String::from);
+    accepted.into_iter().chain(refusals).chain(LIMITS.map(String::from)).collect()
 }
+
+const ACCEPTED: &str = "printed: accepted";
+
+/// Rows of a wide sheet, which are as those of a narrow one.
+const WIDE: &str = "printed: accepted, a wide sheet";
 
 /// A row that follows one of another line and has a sample above 0.
 const LATE: &str = "printed: a line that begins late";
@@ -49,7 +54,7 @@ fn label(text: &str) -> String {
     let mut parts = text.split_ascii_whitespace();
     match (parts.next(), parts.next()) {
         (Some("refused"), Some(number)) => format!("printed: refused {number}"),
-        _ => "printed: accepted".into(),
+        _ => ACCEPTED.into(),
     }
 }
 
@@ -68,9 +73,13 @@ pub fn compare(printer: &dyn Printer, input: &[u8], reached: &mut Reached) -> Ch
     let expected = print::<Fast>(input);
     demand(printed == expected, || told(&printed, &expected))
         .map_err(|difference| difference.on("input", input))?;
-    reached.count(&label(&expected));
+    let label = label(&expected);
+    reached.count(&label);
     if begins_late(&expected) {
         reached.count(LATE);
+    }
+    if label == ACCEPTED && Front::told_by_bytes(input).layout.is_wide() {
+        reached.count(WIDE);
     }
     Ok(())
 }

@@ -26,6 +26,7 @@ pub fn check(engine: &dyn Engine, random: &mut Random, reached: &mut Reached) ->
     let sheets = drawn::sheets(random);
     let alike = Alike::judged(engine, random, sheets)?;
     let codes = words::line_codes(&alike.sheets[0]);
+    reached.count_layout("raising", &alike.sheets[0]);
     match FALLING.into_iter().find(|code| codes.contains(code)) {
         None => {
             demanded(&alike)?;

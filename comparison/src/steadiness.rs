@@ -27,7 +27,7 @@ fn code_label(code: u32) -> String {
 
 /// Judges a random sheet and another whose samples are not far away.
 pub fn check(engine: &dyn Engine, random: &mut Random, reached: &mut Reached) -> Checked {
-    let first = valid::sheet(random, 16);
+    let first = valid::sheet_or_city(random, 16);
     let any = random.between(0, 1 << 27);
     let far = random.pick(&[0, 1, 1, 2, 3, 10, any]);
     let second = with_samples(&first, |_, number| {
@@ -37,6 +37,7 @@ pub fn check(engine: &dyn Engine, random: &mut Random, reached: &mut Reached) ->
     let alike = Alike::judged(engine, random, [first, second])?;
     demanded(&alike)?;
     reached.count(PAIR);
+    reached.count_layout("steadiness", &alike.sheets[0]);
     for code in words::line_codes(&alike.sheets[0]) {
         reached.count(&code_label(code));
     }

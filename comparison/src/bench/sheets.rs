@@ -3,7 +3,8 @@
 use reference::builder::SheetBuilder;
 use reference::distance::Distances;
 use reference::generate::random::Random;
-use reference::sheet::{check, Operator, DISTANCE_ENTRIES};
+use reference::layout::ENOUGH_DISTANCES;
+use reference::sheet::{check, Operator};
 
 /// The most samples.
 const SAMPLES: u32 = 1024;
@@ -182,7 +183,7 @@ pub fn grids_of_surrounds() -> Readings {
 ///
 /// If the sheet is not valid.
 pub fn runs_of_centre(words: &[u32]) -> f64 {
-    let sheet = check(words, DISTANCE_ENTRIES).expect("a valid sheet");
+    let sheet = check(words, ENOUGH_DISTANCES).expect("a valid sheet");
     let places = sheet.head.places;
     let distances = Distances::new(places, &sheet.roads);
     let uppers = sheet.lines.iter().filter_map(|line| match line.operator {

@@ -4,11 +4,12 @@ use super::sheets::{self, BothWays, Readings};
 use reference::builder::SheetBuilder;
 use reference::fast::Fast;
 use reference::judge::Outcome;
-use reference::sheet::{check, Sheet, DISTANCE_ENTRIES, LAST_CODE};
+use reference::layout::ENOUGH_DISTANCES;
+use reference::sheet::{check, Sheet, LAST_CODE};
 use std::collections::BTreeSet;
 
 fn checked(words: &[u32]) -> Sheet {
-    check(words, DISTANCE_ENTRIES).expect("a valid sheet")
+    check(words, ENOUGH_DISTANCES).expect("a valid sheet")
 }
 
 /// The codes of some sheets, each once.

@@ -2,7 +2,8 @@
 
 use crate::{Engine, Filled, Implementation};
 use reference::generate::Case;
-use reference::sheet::{check, DISTANCE_ENTRIES};
+use reference::layout::ENOUGH_DISTANCES;
+use reference::sheet::check;
 use std::time::{Duration, Instant};
 
 /// Every time is the best of so many runs: other work on the machine can only
@@ -41,7 +42,7 @@ struct Buffers {
 ///
 /// If the sheet is not valid, or if the engines do not agree on it.
 pub fn timed(engine: &dyn Engine, words: &[u32]) -> Times {
-    let sheet = check(words, DISTANCE_ENTRIES).expect("a valid sheet");
+    let sheet = check(words, ENOUGH_DISTANCES).expect("a valid sheet");
     let case = Case::of(words, reference::answer::needed(&sheet));
     let mut buffers = Buffers {
         distances: vec![0; case.distances],

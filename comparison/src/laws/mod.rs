@@ -33,11 +33,12 @@ pub type Law = (&'static str, Write);
 
 /// Tries some laws on the lines of a random sheet.
 pub fn check(engine: &dyn Engine, random: &mut Random, reached: &mut Reached) -> Checked {
-    let words = valid::small_sheet(random, 12);
+    let words = sheet(random);
     let mut table = Table::resume(&words);
     let pairs = written(&mut table, random);
     let words = table.words();
     let answer = answered(engine, random, &words)?.answer;
+    reached.count_layout("laws", &words);
     let line = |number: u32| answer.lines.get(number as usize);
     for (name, (one, other)) in pairs {
         let broken = || format!("lines {one} and {other} break: {name}");
@@ -46,6 +47,16 @@ pub fn check(engine: &dyn Engine, random: &mut Random, reached: &mut Reached) ->
         reached.count(&format!("law: {name}"));
     }
     Ok(())
+}
+
+/// A small sheet, now and then one of a city: laws are written without regard to
+/// what they cost there.
+fn sheet(random: &mut Random) -> Vec<u32> {
+    if random.chance(1) {
+        valid::bare_city(random)
+    } else {
+        valid::small_sheet(random, 12)
+    }
 }
 
 /// Writes some laws into a table; gives each with its two lines.

@@ -2,7 +2,8 @@
 
 use reference::builder::SheetBuilder;
 use reference::generate::random::Random;
-use reference::sheet::{check, Extent, DISTANCE_ENTRIES};
+use reference::layout::ENOUGH_DISTANCES;
+use reference::sheet::{check, Extent};
 
 /// Lower and upper.
 pub type Bounds = (u32, u32);
@@ -22,7 +23,7 @@ impl Table {
     ///
     /// If the sheet is not valid.
     pub fn resume(words: &[u32]) -> Self {
-        let sheet = check(words, DISTANCE_ENTRIES).expect("a valid sheet");
+        let sheet = check(words, ENOUGH_DISTANCES).expect("a valid sheet");
         let extents = sheet.lines.iter().map(|line| line.extent).collect();
         Table { sheet: SheetBuilder::resume(words), samples: sheet.head.samples, extents }
     }

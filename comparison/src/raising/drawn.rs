@@ -4,7 +4,8 @@ use super::FALLING;
 use crate::alike::{samples, with_samples};
 use reference::generate::random::Random;
 use reference::generate::valid;
-use reference::sheet::{check, Operator, Sheet, DISTANCE_ENTRIES};
+use reference::layout::ENOUGH_DISTANCES;
+use reference::sheet::{check, Operator, Sheet};
 use reference::words::{self, kinds};
 
 /// Of so many pairs one has a table that keeps its lines of code 2, and one a table
@@ -29,7 +30,7 @@ enum Which {
 
 /// A random sheet, and the same with samples raised.
 pub fn sheets(random: &mut Random) -> [Vec<u32>; 2] {
-    let words = valid::sheet(random, 16);
+    let words = valid::sheet_or_city(random, 16);
     let kept = FALLING.get(random.below(KEEP_EVERY)).copied();
     let words = keeping(random, &words, kept);
     let x = if random.chance(60) { below_constants(random, &words) } else { words };
@@ -62,7 +63,7 @@ fn keeping(random: &mut Random, words: &[u32], kept: Option<u32>) -> Vec<u32> {
 /// A valid sheet whose samples lie just below constants that they are compared
 /// with, or equal them, so that little makes a no a yes.
 fn below_constants(random: &mut Random, words: &[u32]) -> Vec<u32> {
-    let sheet = check(words, DISTANCE_ENTRIES).expect("a valid sheet");
+    let sheet = check(words, ENOUGH_DISTANCES).expect("a valid sheet");
     let constants = constants(&sheet);
     with_samples(words, |at, number| match &constants[at % sheet.head.signals][..] {
         [] => number,
@@ -146,7 +147,7 @@ mod tests {
         let mut random = Random::new(1);
         for _ in 0..500 {
             let [x, y] = sheets(&mut random);
-            assert_eq!(check(&x, DISTANCE_ENTRIES).err(), None);
+            assert_eq!(check(&x, ENOUGH_DISTANCES).err(), None);
             assert_eq!(with_samples(&x, |_, _| 0), with_samples(&y, |_, _| 0));
             assert!(samples(&x).zip(samples(&y)).all(|(x, y)| x <= y));
         }

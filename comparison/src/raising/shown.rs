@@ -4,8 +4,9 @@ use super::FALLING;
 use crate::alike::{samples, Alike, Point};
 use crate::reached::{chosen, Reached};
 use reference::generate::valid::MOST;
+use reference::layout::ENOUGH_DISTANCES;
 use reference::margin::Margin;
-use reference::sheet::{check, Line, DISTANCE_ENTRIES, LAST_CODE};
+use reference::sheet::{check, Line, LAST_CODE};
 use std::collections::BTreeSet;
 
 /// What is looked for in the samples of a pair.
@@ -141,7 +142,7 @@ fn became_yes(point: &Point) -> bool {
 
 /// The labels of the lines of a pair, each once.
 fn of_lines(alike: &Alike) -> BTreeSet<String> {
-    let sheet = check(&alike.sheets[0], DISTANCE_ENTRIES).expect("a valid sheet");
+    let sheet = check(&alike.sheets[0], ENOUGH_DISTANCES).expect("a valid sheet");
     let depths = sheet.depths();
     let turned = alike.points().filter(became_yes).map(|point| point.line);
     let turned: BTreeSet<usize> = turned.collect();

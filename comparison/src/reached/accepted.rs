@@ -1,13 +1,14 @@
 //! What an accepted sheet and its answer show.
 
-use super::{extents, reading, surrounds};
+use super::{extents, layouts, reading, surrounds};
 use reference::distance::NO_DISTANCE;
 use reference::generate::Case;
 use reference::judge::BYTES_PER_DISTANCE;
+use reference::layout::{Front, ENOUGH_DISTANCES, MOST_PLACES};
 use reference::left::Left;
 use reference::print::MOST_BYTES;
-use reference::sheet::{self, Sheet, DISTANCE_ENTRIES, GREATEST_WEIGHT, LAST_CODE};
-use reference::sheet::{MOST_LINES, MOST_PLACES, MOST_SAMPLES, MOST_SIGNALS};
+use reference::sheet::{self, Sheet, GREATEST_WEIGHT, LAST_CODE};
+use reference::sheet::{MOST_LINES, MOST_SAMPLES, MOST_SIGNALS};
 use reference::words::{self, kinds, BYTES_PER_WORD};
 
 const GREATEST_MARGIN: u32 = (1 << 27) - 1;
@@ -27,7 +28,7 @@ const IN_SHEET: [&str; 14] = [
     "operands nested eight deep",
     "64 rounds",
     "above 32,768 bytes",
-    "places, signals and samples all at their limits",
+    "64 places, signals and samples all at their limits",
 ];
 
 /// What is looked for in what is lent.
@@ -54,7 +55,8 @@ pub fn labels() -> Vec<String> {
     let rest = IN_SHEET.iter().chain(&LENT).chain(IN_ANSWER.iter().map(|(label, _)| label));
     let of_lines =
         extents::labels().into_iter().chain(surrounds::labels()).chain(reading::labels());
-    codes.chain(rest.map(|text| label(text))).chain(of_lines.map(|text| label(&text))).collect()
+    let texts = of_lines.chain(layouts::texts());
+    codes.chain(rest.map(|text| label(text))).chain(texts.map(|text| label(&text))).collect()
 }
 
 fn label(text: &str) -> String {
@@ -67,7 +69,7 @@ fn code_label(code: u32) -> String {
 
 /// The labels of an accepted case, a code and an extent once for each line.
 pub fn shown(words: &[u32], case: &Case, left: &Left) -> Vec<String> {
-    let Ok(sheet) = sheet::check(words, DISTANCE_ENTRIES) else {
+    let Ok(sheet) = sheet::check(words, ENOUGH_DISTANCES) else {
         return Vec::new();
     };
     let codes = sheet.lines.iter().map(|line| code_label(line.operator.code()));
@@ -80,6 +82,7 @@ pub fn shown(words: &[u32], case: &Case, left: &Left) -> Vec<String> {
         .chain(extents::shown(&sheet).iter().map(|text| label(text)))
         .chain(surrounds::shown(&sheet, left).iter().map(|text| label(text)))
         .chain(reading::shown(&sheet, left).iter().map(|text| label(text)))
+        .chain(layouts::shown(words, &sheet, case, left).iter().map(|text| label(text)))
         .collect()
 }
 
@@ -113,7 +116,8 @@ fn in_sheet(sheet: &Sheet, words: &[u32], left: &Left) -> [bool; 14] {
 fn lent(case: &Case, left: &Left) -> impl Iterator<Item = &'static str> {
     let written = left.outcome().map_or(0, |outcome| outcome.words as usize);
     let longer_answer = case.answer > written * BYTES_PER_WORD;
-    let longer_distances = case.distances > DISTANCE_ENTRIES * BYTES_PER_DISTANCE;
+    let needed = Front::told_by_bytes(&case.sheet).distances_needed();
+    let longer_distances = case.distances > needed * BYTES_PER_DISTANCE;
     [LENT[usize::from(longer_answer)], LENT[2 + usize::from(longer_distances)]].into_iter()
 }
 

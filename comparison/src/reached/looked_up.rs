@@ -1,8 +1,10 @@
 //! What lookups show: what they give, where in a line they look, and how the
 //! answer's line words were damaged before.
 
+use super::wide_looked_up;
 use reference::answer::Answer;
 use reference::generate::answers::Query;
+use reference::layout::Front;
 use reference::words::{self, kinds, BYTES_PER_WORD};
 
 /// What a lookup gives, and in what.
@@ -34,7 +36,8 @@ const STRUCK: [&str; 5] = [
 
 /// All labels.
 pub fn labels() -> Vec<String> {
-    GIVEN.iter().chain(&AT).chain(&STRUCK).map(|text| label(text)).collect()
+    let of_all = GIVEN.iter().chain(&AT).chain(&STRUCK).map(|text| label(text));
+    of_all.chain(wide_looked_up::texts().map(|text| label(&text))).collect()
 }
 
 fn label(text: &str) -> String {
@@ -49,20 +52,26 @@ pub struct LookedUp<'a> {
     pub whole: Option<Answer>,
     /// How a line's word was damaged, if one was: an index in [`STRUCK`].
     struck: Option<usize>,
+    /// How the front of a wide answer was damaged, if nothing else was.
+    struck_front: Option<String>,
 }
 
 impl<'a> LookedUp<'a> {
     /// An answer as it was lent.
     pub fn lent(bytes: &'a [u8]) -> Self {
         let whole = words::from_bytes(bytes).and_then(|words| Answer::read(&words));
-        LookedUp { bytes, whole, struck: None }
+        LookedUp { bytes, whole, struck: None, struck_front: None }
     }
 
     /// A damaged answer, beside what it was before.
     pub fn damaged(bytes: &'a [u8], before: &[u8]) -> Self {
-        let struck = words::from_bytes(before).zip(words::from_bytes(bytes));
-        let struck = struck.and_then(|(before, words)| struck_line(&before, &words));
-        LookedUp { struck, ..LookedUp::lent(bytes) }
+        let both = words::from_bytes(before).zip(words::from_bytes(bytes));
+        let (before, words) = both.unwrap_or_default();
+        LookedUp {
+            struck: struck_line(&before, &words),
+            struck_front: wide_looked_up::struck(&before, &words),
+            ..LookedUp::lent(bytes)
+        }
     }
 
     /// The labels of a lookup that gave this.
@@ -81,7 +90,10 @@ impl<'a> LookedUp<'a> {
         }
         let as_struck = self.struck.filter(|_| is_whole == (found > 0));
         shown.extend(as_struck.map(|index| STRUCK[index]));
-        shown.into_iter().map(label).collect()
+        let in_wide = self.whole.as_ref().map(|whole| wide_looked_up::shown(whole, asked, found));
+        let of_front = self.struck_front.iter().filter(|_| found == 0).cloned();
+        let of_wide = in_wide.into_iter().flatten().chain(of_front);
+        shown.into_iter().map(label).chain(of_wide.map(|text| label(&text))).collect()
     }
 }
 
@@ -111,13 +123,12 @@ fn struck_line(before: &[u32], words: &[u32]) -> Option<usize> {
         [before[at], words[at]].iter().all(|&word| words::kind(word) == kinds::ANSWER_LINE);
     let same_length = (before[at] ^ words[at]) & 0xFFF == 0;
     (is_line && same_length && words.len() == before.len())
-        .then(|| struck_word(words[0], words[at]))
+        .then(|| struck_word(Front::told(words).samples as u32, words[at]))
 }
 
-/// What is wrong with a line's word beside a head's T.
-fn struck_word(head: u32, word: u32) -> usize {
+/// What is wrong with a line's word beside so many samples T.
+fn struck_word(samples: u32, word: u32) -> usize {
     let end = words::field(word, 23, 12) + words::field(word, 11, 0);
-    let samples = words::field(head, 11, 0);
     match end.checked_sub(samples) {
         _ if words::field(word, 27, 24) > 0 => 0,
         None | Some(0) => 3,

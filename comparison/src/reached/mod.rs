@@ -4,6 +4,7 @@
 
 mod accepted;
 mod extents;
+mod layouts;
 mod looked_up;
 mod no_sample;
 mod reading;
@@ -11,6 +12,8 @@ mod refused;
 mod runs;
 mod setting;
 mod surrounds;
+mod wide_looked_up;
+mod wide_refused;
 
 pub use looked_up::LookedUp;
 
@@ -31,7 +34,7 @@ pub struct Reached {
 
 impl Default for Reached {
     fn default() -> Self {
-        let numbers = (0..=16).map(|number| format!("number {number}"));
+        let numbers = (0..=17).map(|number| format!("number {number}"));
         let laws = LAWS.iter().map(|(name, _)| format!("law: {name}"));
         let labels = numbers
             .chain(refused::labels())
@@ -41,7 +44,8 @@ impl Default for Reached {
             .chain(mirror::labels())
             .chain(steadiness::labels())
             .chain(raising::labels())
-            .chain(deciding::labels());
+            .chain(deciding::labels())
+            .chain(layouts::labels_of_checks());
         Reached::of(labels.collect())
     }
 }
@@ -80,6 +84,11 @@ impl Reached {
         for label in labels {
             self.count(&label);
         }
+    }
+
+    /// Counts the layout of a sheet that a check beside judging was tried on.
+    pub fn count_layout(&mut self, check: &str, words: &[u32]) {
+        self.count(&layouts::label_of_check(check, words));
     }
 
     /// A row for each label.

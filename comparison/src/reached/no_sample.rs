@@ -3,7 +3,8 @@
 
 use super::chosen;
 use super::extents::{AHEAD, BACK, WITH_TWO};
-use reference::sheet::{check, Extent, Sheet, DISTANCE_ENTRIES, GREATEST_WEIGHT};
+use reference::layout::ENOUGH_DISTANCES;
+use reference::sheet::{check, Extent, Sheet, GREATEST_WEIGHT};
 use reference::words::{self, kinds};
 
 /// What is looked for in a window that is too long.
@@ -60,7 +61,7 @@ pub fn shown(words: &[u32], place: usize) -> Vec<String> {
 fn before(words: &[u32], place: usize) -> Option<Sheet> {
     let mut before = words[..place].to_vec();
     before.push(words::word(kinds::END, place as u32));
-    check(&before, DISTANCE_ENTRIES).ok()
+    check(&before, ENOUGH_DISTANCES).ok()
 }
 
 /// The index in [`APART`].

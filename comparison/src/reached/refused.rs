@@ -1,10 +1,11 @@
 //! The kinds of places that a refusal strikes.
 
 use super::extents::WITH_TWO;
-use super::{no_sample, setting};
+use super::{no_sample, setting, wide_refused};
 use reference::generate::Case;
 use reference::judge::{BYTES_PER_DISTANCE, RESULT_BYTES};
-use reference::sheet::{LAST_CODE, MOST_PLACES, MOST_SAMPLES, MOST_SIGNALS};
+use reference::layout::{Front, Layout, Pair, ENOUGH_DISTANCES, MOST_PLACES};
+use reference::sheet::{LAST_CODE, MOST_SAMPLES, MOST_SIGNALS};
 use reference::words::{self, kinds, BYTES_PER_WORD};
 
 /// Codes that are followed by a constant.
@@ -48,6 +49,7 @@ pub fn labels() -> Vec<String> {
         .chain(parameter_labels())
         .chain(no_sample::texts().iter().map(|text| label(13, text)))
         .chain(setting::labels().map(|(number, text)| label(number, text)))
+        .chain(wide_refused::labels().into_iter().map(|(number, text)| label(number, &text)))
         .collect()
 }
 
@@ -107,6 +109,7 @@ pub fn shown(words: &[u32], case: &Case, number: u64, place: usize) -> Vec<Strin
     let mut shown = fault(words, case, number, place);
     let struck = setting::Struck { words, case, place };
     shown.extend(setting::shown(&struck, number).into_iter().map(|text| label(number, text)));
+    shown.extend(wide_refused::shown(&struck, number).iter().map(|text| label(number, text)));
     shown
 }
 
@@ -114,10 +117,10 @@ pub fn shown(words: &[u32], case: &Case, number: u64, place: usize) -> Vec<Strin
 fn fault(words: &[u32], case: &Case, number: u64, place: usize) -> Vec<String> {
     let word = words.get(place).copied();
     let found = match number {
-        1 => vec![entries(case.distances / BYTES_PER_DISTANCE)],
+        1 => vec![entries(case, words)],
         2 | 8 => vec![word_there(word)],
-        3 => limits(words[0]),
-        5 => vec![road_places(words[place])],
+        3 => limits(&Front::told(words)),
+        5 => vec![road_places(Layout::of(words).pair(words[place]))],
         6 => vec![road_order(words, place)],
         7 if word == Some(words::word(kinds::ROAD_WEIGHT, 0)) => vec!["weight 0"],
         7 => vec![word_there(word)],
@@ -141,23 +144,23 @@ fn word_there(word: Option<u32>) -> &'static str {
     word.map_or(ABSENT, |_| OTHER_KIND)
 }
 
-fn entries(entries: usize) -> &'static str {
-    match entries {
+fn entries(case: &Case, words: &[u32]) -> &'static str {
+    match case.distances / BYTES_PER_DISTANCE {
         0 => "no entry",
-        4095 => "an entry short",
+        lent if lent + 1 == Front::told(words).distances_needed() => "an entry short",
         _ => "some entries",
     }
 }
 
-fn limits(head: u32) -> Vec<&'static str> {
-    let size = |high, low| words::field(head, high, low) as usize;
+fn limits(front: &Front) -> Vec<&'static str> {
+    let &Front { layout, places, middle: signals, samples } = front;
     let outside = [
-        ("places 0", size(27, 20) == 0),
-        ("signals 0", size(19, 12) == 0),
-        ("samples 0", size(11, 0) == 0),
-        ("65 places or more", size(27, 20) > MOST_PLACES),
-        ("17 signals or more", size(19, 12) > MOST_SIGNALS),
-        ("1,025 samples or more", size(11, 0) > MOST_SAMPLES),
+        ("places 0", places == 0),
+        ("signals 0", signals == 0),
+        ("samples 0", samples == 0),
+        ("65 places or more", !layout.is_wide() && places > MOST_PLACES),
+        ("17 signals or more", signals > MOST_SIGNALS),
+        ("1,025 samples or more", samples > MOST_SAMPLES),
     ];
     outside.iter().filter(|(_, outside)| *outside).map(|(text, _)| *text).collect()
 }
@@ -169,7 +172,7 @@ fn line_word(words: &[u32], place: usize) -> Vec<String> {
     if code > LAST_CODE {
         return vec![label(11, &unknown_text(code))];
     }
-    let signals = words::field(words[0], 19, 12);
+    let signals = Front::told(words).middle as u32;
     let earlier = words::indices(&words[..place], |kind| kind == kinds::LINE).len() as u32;
     let fits = |field: u32, stands_for: &str| match stands_for {
         SIGNAL => field < signals,
@@ -182,9 +185,8 @@ fn line_word(words: &[u32], place: usize) -> Vec<String> {
     faulty.map(|(_, stands_for)| label(11, &format!("code {code}, {stands_for}"))).collect()
 }
 
-fn road_places(word: u32) -> &'static str {
-    let (first, second) = (words::field(word, 15, 8), words::field(word, 7, 0));
-    match first.cmp(&second) {
+fn road_places(pair: Pair) -> &'static str {
+    match pair.first.cmp(&pair.second) {
         std::cmp::Ordering::Less => "second beyond n",
         std::cmp::Ordering::Equal => "places equal",
         std::cmp::Ordering::Greater => "places exchanged",
@@ -240,7 +242,7 @@ fn end_there(words: &[u32], place: usize) -> &'static str {
 }
 
 fn answer_words(case: &Case, words: &[u32]) -> &'static str {
-    let sheet = reference::sheet::check(words, reference::sheet::DISTANCE_ENTRIES);
+    let sheet = reference::sheet::check(words, ENOUGH_DISTANCES);
     let needed = sheet.map_or(0, |sheet| reference::answer::needed(&sheet));
     match case.answer / BYTES_PER_WORD {
         0 => "no word",

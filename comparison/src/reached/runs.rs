@@ -157,8 +157,9 @@ mod tests {
     use reference::builder::SheetBuilder;
     use reference::fast::Fast;
     use reference::generate::Case;
+    use reference::layout::ENOUGH_DISTANCES;
     use reference::left::Left;
-    use reference::sheet::{check, DISTANCE_ENTRIES};
+    use reference::sheet::check;
 
     /// What is found of a sheet whose line 2 is the last, a surround.
     fn found<T>(words: &[u32], find: impl Fn(&Judged, Bounds) -> T) -> T {
@@ -172,7 +173,7 @@ mod tests {
         let Left { distances, answer, result, .. } = &mut left;
         reference::judge::<Fast>(&case.sheet, distances, answer, result);
         let answer = left.whole_answer().expect("a whole answer");
-        let sheet = check(words, DISTANCE_ENTRIES).expect("a valid sheet");
+        let sheet = check(words, ENOUGH_DISTANCES).expect("a valid sheet");
         let distances = Distances::new(sheet.head.places, &sheet.roads);
         let bounds = sheet.lines[2].operator.bounds().expect("bounds");
         find(&Judged::new(&sheet, &answer, &distances), bounds)

@@ -5,7 +5,8 @@ use super::extents::{AHEAD, BACK};
 use reference::answer;
 use reference::generate::Case;
 use reference::judge::BYTES_PER_DISTANCE;
-use reference::sheet::{check, DISTANCE_ENTRIES, MOST_LINES, MOST_PLACES};
+use reference::layout::{Front, Pair, ENOUGH_DISTANCES, MOST_PLACES};
+use reference::sheet::{check, MOST_LINES};
 use reference::sheet::{MOST_SAMPLES, MOST_SIGNALS};
 use reference::words::{self, kinds, BYTES_PER_WORD};
 
@@ -29,8 +30,8 @@ const SETTINGS: [Setting; 14] = [
     ("1,024 back in 1,024 samples", &[13], |struck| struck.is_far_1024(&BACK)),
     ("a faulty sheet besides", &[1, 16], |struck| struck.is_faulty_besides()),
     ("a short answer besides", &[1, 16], |struck| struck.is_short_besides()),
-    ("under 4,096 distances besides", &[16], |struck| struck.has_few_distances()),
-    ("an odd table of under 4,096 distances", &[16], |struck| {
+    ("too few distances besides", &[16], |struck| struck.has_few_distances()),
+    ("an odd table of too few distances", &[16], |struck| {
         struck.has_few_distances() && !struck.case.distances.is_multiple_of(BYTES_PER_DISTANCE)
     }),
 ];
@@ -57,24 +58,25 @@ pub struct Struck<'a> {
 }
 
 impl Struck<'_> {
-    fn head_field(&self, high: u32, low: u32) -> usize {
-        self.words.first().map_or(0, |&head| words::field(head, high, low) as usize)
+    /// What the sheet's front tells.
+    pub fn front(&self) -> Front {
+        Front::told(self.words)
     }
 
     fn places(&self) -> usize {
-        self.head_field(27, 20)
+        self.front().places
     }
 
     fn signals(&self) -> usize {
-        self.head_field(19, 12)
+        self.front().middle
     }
 
     fn samples(&self) -> usize {
-        self.head_field(11, 0)
+        self.front().samples
     }
 
     /// The word at the place, or one that says nothing.
-    fn word(&self) -> u32 {
+    pub fn word(&self) -> u32 {
         self.words.get(self.place).copied().unwrap_or(0)
     }
 
@@ -85,7 +87,7 @@ impl Struck<'_> {
     }
 
     fn is_second_place_64(&self) -> bool {
-        let (first, second) = (words::field(self.word(), 15, 8), words::field(self.word(), 7, 0));
+        let Pair { first, second, .. } = self.front().layout.pair(self.word());
         self.places() == MOST_PLACES && first < 64 && second == 64
     }
 
@@ -103,15 +105,16 @@ impl Struck<'_> {
     }
 
     fn is_faulty_besides(&self) -> bool {
-        !self.words.is_empty() && check(self.words, DISTANCE_ENTRIES).is_err()
+        !self.words.is_empty() && check(self.words, ENOUGH_DISTANCES).is_err()
     }
 
-    fn is_short_besides(&self) -> bool {
+    /// Whether it would be refused for its answer, were it not for anything else.
+    pub fn is_short_besides(&self) -> bool {
         let lent = self.case.answer / BYTES_PER_WORD;
-        check(self.words, DISTANCE_ENTRIES).is_ok_and(|sheet| lent < answer::needed(&sheet))
+        check(self.words, ENOUGH_DISTANCES).is_ok_and(|sheet| lent < answer::needed(&sheet))
     }
 
     fn has_few_distances(&self) -> bool {
-        self.case.distances / BYTES_PER_DISTANCE < DISTANCE_ENTRIES
+        self.case.distances / BYTES_PER_DISTANCE < self.front().distances_needed()
     }
 }

@@ -5,9 +5,10 @@ use super::chosen;
 use super::runs::Judged;
 use reference::answer::Answer;
 use reference::distance::Distances;
+use reference::layout::MOST_PLACES;
 use reference::left::Left;
 use reference::margin::{Margin, Verdict};
-use reference::sheet::{Line, Operator, Sheet, MOST_PLACES, MOST_SAMPLES};
+use reference::sheet::{Line, Operator, Sheet, MOST_SAMPLES};
 
 const WITHOUT: u32 = 7;
 const WITH: u32 = 15;

@@ -9,7 +9,8 @@ use reference::distance::Distances;
 use reference::evaluation::Evaluation;
 use reference::generate::random::Random;
 use reference::judge::Outcome;
-use reference::sheet::{check, Extent, Operator, Reach, Sheet, DISTANCE_ENTRIES};
+use reference::layout::ENOUGH_DISTANCES;
+use reference::sheet::{check, Extent, Operator, Reach, Sheet};
 use reference::words::{self, BYTES_PER_WORD};
 
 /// The extent of a line whose operands have these.
@@ -20,7 +21,7 @@ struct Reckoned(Reckoning);
 impl Reckoned {
     /// The sheet with the extents of all lines reckoned anew.
     fn sheet(&self, words: &[u32]) -> Option<Sheet> {
-        let mut sheet = check(words, DISTANCE_ENTRIES).ok()?;
+        let mut sheet = check(words, ENOUGH_DISTANCES).ok()?;
         for line in 0..sheet.lines.len() {
             let operator = sheet.lines[line].operator;
             let operands = operator.operands().into_iter().flatten();

@@ -2,6 +2,7 @@
 
 use super::{caught, caught_within, SEEDS_OF_RIGHT};
 use crate::{Engine, Filled, Implementation};
+use reference::layout::{Front, Layout};
 use reference::words::{self, kinds};
 
 /// Looks a line, a sample and a place up in the words of an answer.
@@ -34,7 +35,7 @@ fn in_words(words: &[u32], line: u64, sample: u64, place: u64) -> u64 {
 
 /// The answer with every line word changed, given T as well.
 fn with_lines(words: &[u32], change: fn(u32, u32) -> u32) -> Vec<u32> {
-    let samples = words.first().map_or(0, |&head| words::field(head, 11, 0));
+    let samples = Front::told(words).samples as u32;
     let changed = |&word: &u32| match words::kind(word) {
         kinds::ANSWER_LINE => change(word, samples),
         _ => word,
@@ -105,7 +106,8 @@ fn lines_past_the_recording_passed_over() {
 fn lines_a_sample_past_the_recording_taken() {
     assert_caught(|words, line, sample, place| {
         let mut longer = words.to_vec();
-        if let Some(head) = longer.first_mut().filter(|head| words::field(**head, 11, 0) < 1024) {
+        let head = longer.get_mut(Layout::of(words).head_index());
+        if let Some(head) = head.filter(|head| words::field(**head, 11, 0) < 1024) {
             *head += 1;
         }
         in_words(&longer, line, sample, place)
@@ -136,7 +138,7 @@ fn lines_without_a_sample_taken() {
         let line = if line > before.count() as u64 { line - 1 } else { line };
         let mut without = words.to_vec();
         without.remove(at);
-        without[0] -= 1 << 12;
+        without[Layout::of(words).head_index()] -= 1 << 12;
         let end = without.iter().rposition(|&word| words::kind(word) == kinds::END);
         end.into_iter().for_each(|end| without[end] -= 1);
         in_words(&without, line, sample, place)

@@ -2,7 +2,8 @@
 
 use crate::{Engine, Filled, Implementation};
 use reference::judge::{Outcome, BYTES_PER_DISTANCE};
-use reference::sheet::{check, DISTANCE_ENTRIES};
+use reference::layout::{Front, ENOUGH_DISTANCES};
+use reference::sheet::check;
 use reference::words::{self, kinds, BYTES_PER_WORD};
 
 /// What such an engine is given.
@@ -13,12 +14,8 @@ pub struct Given {
 }
 
 impl Given {
-    pub fn places(&self) -> u32 {
-        self.words.first().map_or(0, |&head| words::field(head, 27, 20))
-    }
-
-    pub fn samples(&self) -> u32 {
-        self.words.first().map_or(0, |&head| words::field(head, 11, 0))
+    pub fn front(&self) -> Front {
+        Front::told(&self.words)
     }
 
     pub fn lines_up_to(&self, place: u64) -> usize {
@@ -39,7 +36,7 @@ impl Given {
 
     /// Whether the sheet is valid and its answer needs more words than are lent.
     pub fn is_short(&self) -> bool {
-        let sheet = check(&self.words, DISTANCE_ENTRIES);
+        let sheet = check(&self.words, ENOUGH_DISTANCES);
         sheet.is_ok_and(|sheet| self.answer_words < reference::answer::needed(&sheet))
     }
 }

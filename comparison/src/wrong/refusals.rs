@@ -7,7 +7,8 @@ use crate::compare::Comparison;
 use crate::{Engine, Filled, Implementation};
 use reference::generate::random::Random;
 use reference::judge::Outcome;
-use reference::sheet::{DISTANCE_ENTRIES, GREATEST_WEIGHT as GREATEST};
+use reference::layout::{Front, DISTANCE_ENTRIES};
+use reference::sheet::GREATEST_WEIGHT as GREATEST;
 use reference::words::{self, kinds};
 
 #[track_caller]
@@ -57,7 +58,7 @@ fn a_short_answer_told_before_few_distances() {
 #[test]
 fn faults_in_large_networks_told_as_the_end() {
     assert_caught(|given, outcome| {
-        if (2..=14).contains(&outcome.number) && given.places() >= 40 {
+        if (2..=14).contains(&outcome.number) && given.front().places >= 40 {
             (outcome.number, outcome.place) = (14, 0);
         }
     });
@@ -66,7 +67,7 @@ fn faults_in_large_networks_told_as_the_end() {
 #[test]
 fn a_missing_length_told_as_a_wrong_word_in_longer_recordings() {
     assert_caught(|given, outcome| {
-        if outcome.number == 13 && given.samples() > 8 {
+        if outcome.number == 13 && given.front().samples > 8 {
             outcome.number = 11;
         }
     });
@@ -176,7 +177,7 @@ struct Dirty;
 impl Engine for Dirty {
     fn judge(&self, sheet: &[u8], left: Filled) -> u64 {
         let Filled { distances, answer, result } = left;
-        let places = sheet.get(2..4).map_or(0, |bytes| bytes[0] >> 4 | bytes[1] << 4);
+        let places = Front::told_by_bytes(sheet).places;
         let number =
             Implementation.judge(sheet, Filled { distances: &mut *distances, answer, result });
         if number == 15 && places > 6 {

@@ -1,0 +1,100 @@
+//! What lookups in wide answers show: what they give and where, and how the words
+//! at the answer's front were damaged before.
+
+use super::chosen;
+use super::layouts::MOST_OF_A_BYTE;
+use reference::answer::Answer;
+use reference::generate::answers::Query;
+use reference::layout::{Front, Layout, MOST_PLACES, MOST_WIDE_PLACES};
+use reference::words::{self, kinds};
+
+/// What a lookup in a whole wide answer shows.
+const IN_WHOLE: [&str; 6] = [
+    "yes or no",
+    "none outside",
+    "none at the place after the last",
+    "yes or no at a place above 63",
+    "yes or no at a place above 255",
+    "yes or no at place 1,023",
+];
+
+/// What was done to the front of a whole wide answer, so that there is none in it.
+const STRUCK: [&str; 8] = [
+    "another kind in the first word",
+    "count 0",
+    "count above 1,024",
+    "a spare bit of the first word set",
+    "another count within the limits",
+    "the first word gone",
+    "another kind of head",
+    "places in the head",
+];
+
+/// The texts of all labels.
+pub fn texts() -> impl Iterator<Item = String> {
+    IN_WHOLE.into_iter().map(of_whole).chain(STRUCK.into_iter().map(of_struck))
+}
+
+fn of_whole(text: &str) -> String {
+    format!("in a wide answer, {text}")
+}
+
+fn of_struck(text: &str) -> String {
+    format!("none in a wide answer with {text}")
+}
+
+/// The texts of a lookup in a whole answer that gave this; none of a narrow one.
+pub fn shown(answer: &Answer, (.., place): Query, found: u64) -> Vec<String> {
+    if !answer.layout.is_wide() {
+        return Vec::new();
+    }
+    let place = usize::try_from(place).unwrap_or(usize::MAX);
+    let is_there = found > 0;
+    let shown = [
+        is_there,
+        !is_there,
+        !is_there && place == answer.places,
+        is_there && place >= MOST_PLACES,
+        is_there && place > MOST_OF_A_BYTE,
+        is_there && place + 1 == MOST_WIDE_PLACES,
+    ];
+    chosen(&IN_WHOLE, shown).map(of_whole).collect()
+}
+
+/// How the front of a whole wide answer was struck, if nothing else was.
+pub fn struck(before: &[u32], words: &[u32]) -> Option<String> {
+    let is_whole = Answer::read(before).is_some_and(|answer| answer.layout.is_wide());
+    if !is_whole || words.is_empty() || words == before {
+        return None;
+    }
+    if *words == before[1..] {
+        return Some(of_struck(STRUCK[5]));
+    }
+    let same_from = |index: usize| words.get(index..) == before.get(index..);
+    let index = match words[0] == before[0] {
+        false if same_from(1) => struck_first(words),
+        true if same_from(2) => struck_head(*words.get(1)?)?,
+        _ => return None,
+    };
+    Some(of_struck(STRUCK[index]))
+}
+
+/// The index in [`STRUCK`] of a first word that was struck.
+fn struck_first(words: &[u32]) -> usize {
+    let front = Front::told(words);
+    match front.layout {
+        Layout::Narrow => 0,
+        Layout::Wide if words::field(words[0], 27, 16) != 0 => 3,
+        Layout::Wide if front.places == 0 => 1,
+        Layout::Wide if front.places > MOST_WIDE_PLACES => 2,
+        Layout::Wide => 4,
+    }
+}
+
+/// The index in [`STRUCK`] of a head that was struck, if it is not its sizes.
+fn struck_head(head: u32) -> Option<usize> {
+    match words::kind(head) {
+        kinds::ANSWER_HEAD => (words::field(head, 27, 20) != 0).then_some(7),
+        _ => Some(6),
+    }
+}
