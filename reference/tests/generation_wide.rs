@@ -136,6 +136,21 @@ fn invented_answers_are_narrow_and_wide() {
     assert_more_than(5, &counts);
 }
 
+/// Only the places are at fault: with others the front would be right.
+#[test]
+fn answers_beyond_the_limits_are_no_answers() {
+    let mut counts = [0; 4];
+    for seed in 0..100 {
+        let words = answers::beyond_limits(&mut Random::new(seed));
+        let front = Front::told(&words);
+        assert!(front.is_laid_out(&words, 13) && Answer::read(&words).is_none());
+        assert_eq!(words.last(), Some(&(15 << 28 | (words.len() as u32 - 1))));
+        let is_wide = usize::from(front.layout.is_wide());
+        counts[2 * is_wide + usize::from(front.places > 0)] += 1;
+    }
+    assert_more_than(10, &counts);
+}
+
 /// Of wide answers the first word is struck alone, and the head is.
 #[test]
 fn wide_answers_are_damaged_in_their_fronts() {

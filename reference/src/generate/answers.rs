@@ -26,6 +26,20 @@ pub fn damaged(random: &mut Random, answer: &[u8]) -> Vec<u8> {
 /// are any that have a word.
 pub fn invented(random: &mut Random) -> Vec<u32> {
     let front = invented_front(random);
+    laid_out(random, front)
+}
+
+/// The words of an answer that is laid out as it must be, but for its places, of
+/// which it has none or one more than its layout allows.
+pub fn beyond_limits(random: &mut Random) -> Vec<u32> {
+    let layout = random.pick(&[Layout::Narrow, Layout::Wide]);
+    let places = random.pick(&[0, layout.most_places() + 1]);
+    let (middle, samples) = (random.count(1, 2), random.count(1, 3));
+    laid_out(random, Front { layout, places, middle, samples })
+}
+
+/// An answer with this front, and lines as it tells.
+fn laid_out(random: &mut Random, front: Front) -> Vec<u32> {
     let Front { places, middle: lines, samples, .. } = front;
     let longest = if places > MOST_PLACES { 2 } else { 6 };
     let mut words = front.words(kinds::ANSWER_HEAD);
@@ -164,14 +178,17 @@ fn empty_line(random: &mut Random, words: &mut Vec<u32>) {
 }
 
 /// A query at the edge of what a line has: just before its first sample, at
-/// sample 0, at its first, at its last, and just after that.
+/// sample 0, at its first, at its last, and just after that. The place is any that
+/// there is, often the last.
 pub fn query_at_edge(random: &mut Random, answer: &Answer) -> Query {
     let number = random.below(answer.lines.len());
     let line = &answer.lines[number];
     let first = line.first as u64;
     let end = first + (line.verdicts.len() / answer.places) as u64;
     let sample = random.pick(&[first.wrapping_sub(1), 0, first, end - 1, end]);
-    (number as u64, sample, random.below(answer.places) as u64)
+    let any = random.below(answer.places);
+    let place = random.pick(&[any, any, answer.places - 1]);
+    (number as u64, sample, place as u64)
 }
 
 /// A query that is mostly inside sizes like these and sometimes beyond.

@@ -72,7 +72,7 @@ impl Case {
 /// The layout of a sheet of so many places: wide where it must be, and now and
 /// then where it need not.
 pub fn layout(random: &mut Random, places: usize) -> Layout {
-    if places > MOST_PLACES || random.chance(25) {
+    if places > MOST_PLACES || random.chance(35) {
         Layout::Wide
     } else {
         Layout::Narrow
@@ -86,7 +86,7 @@ const AIMS: [u64; 24] =
 /// The case of a seed: of a hundred about 50 valid ones (one of them of many
 /// rounds, two with islands, two with windows full of ties), 36 aimed at a certain
 /// refusal and 14 damaged without an aim, none of more than so many places (two,
-/// where a road is to be refused). A quarter are wide, and all of more than 64
+/// where a road is to be refused). A third are wide, and all of more than 64
 /// places.
 pub fn case(seed: u64, most_places: usize) -> Case {
     let mut random = Random::new(seed);

@@ -180,17 +180,17 @@ fn sizes(random: &mut Random, most_places: usize) -> Sizes {
     }
 }
 
-/// More than 64 places, mostly not many more, on which few lines and samples cost
-/// enough.
+/// More than 64 places, mostly not many more, now and then about as many as asked
+/// for. Few lines and samples cost enough there.
 fn city_of(random: &mut Random, most_places: usize) -> Sizes {
     let least = MOST_PLACES + 1;
     let near = random.count(least, most_places.min(2 * least));
-    let any = random.count(least, most_places);
+    let far = random.count(most_places - most_places / 8, most_places).max(least);
     Sizes {
-        places: random.pick(&[least, near, near, near, near, any]),
+        places: random.pick(&[least, near, near, near, near, far]),
         signals: random.count(1, 2),
-        samples: random.count(1, 3),
-        lines: random.count(1, 6),
+        samples: random.count(1, 4),
+        lines: random.count(1, 8),
     }
 }
 
@@ -209,7 +209,7 @@ fn sizes_to_damage(random: &mut Random, most_places: usize) -> Sizes {
     let (city, most_places) = (most_places, most_places.min(MOST_PLACES));
     let small = small(random, most_places);
     match random.below(20) {
-        10 if city > MOST_PLACES => city_of(random, city),
+        10 | 11 if city > MOST_PLACES => city_of(random, city),
         0 | 1 => Sizes { lines: random.count(12, MOST_LINES), ..small },
         2 | 3 => Sizes { places: random.count(1, most_places), ..small },
         4 | 5 => Sizes { samples: random.pick(&[9, 100, MOST_SAMPLES, MOST_SAMPLES]), ..small },

@@ -28,7 +28,7 @@ pub fn aimed(random: &mut Random, number: u64, most_places: usize) -> Case {
             let mut case = Case::lend(random, &words);
             // What is lent to a wide sheet is looked at after its front.
             let is_of_front = matches!(number, 3 | 17) && Layout::of(&words).is_wide();
-            if is_of_front && random.chance(30) {
+            if is_of_front && random.chance(50) {
                 lent::few_distances(random, &mut case);
             }
             return case;
@@ -40,7 +40,7 @@ pub fn aimed(random: &mut Random, number: u64, most_places: usize) -> Case {
 /// wrong as well: of 1 the sheet and the answer, of 16 the distances too.
 fn aimed_at_lent(random: &mut Random, number: u64, most_places: usize) -> Case {
     let mut words = valid::sheet_to_damage(random, most_places);
-    if number != 15 && random.chance(30) {
+    if number != 15 && random.chance(50) {
         words = damaged_besides(random, words, number);
     }
     let mut case = Case::lend(random, &words);
@@ -56,11 +56,16 @@ fn aimed_at_lent(random: &mut Random, number: u64, most_places: usize) -> Case {
     case
 }
 
-/// The words damaged, unless that takes the aim away: before 1 come the faults of a
-/// wide head.
+/// The words damaged, with an aim behind the front or without any, unless that takes
+/// the aim at the number away: before 1 come the faults of a wide head.
 fn damaged_besides(random: &mut Random, words: Vec<u32>, number: u64) -> Vec<u32> {
     let mut damaged = words.clone();
-    damage::damage(random, &mut damaged);
+    let besides = random.count(4, 14) as u64;
+    let blow = blow(besides).filter(|_| random.chance(50));
+    match blow.and_then(|blow| blow(random, words.clone())) {
+        Some(struck) => damaged = struck,
+        None => damage::damage(random, &mut damaged),
+    }
     let refused_for_distances = check(&damaged, 0).is_err_and(|refusal| refusal.number() == 1);
     if number == 1 && !refused_for_distances {
         words

@@ -23,6 +23,9 @@ pub fn road_places(random: &mut Random, mut words: Vec<u32>) -> Option<Vec<u32>>
     let Pair { first, second, .. } = layout.pair(words[at]);
     let most = (1 << layout.place_bits()) - 1;
     let beyond = random.count(places, most);
+    // A bit that no place has: without it the pair would be right.
+    let unused = usize::BITS - (places - 1).leading_zeros();
+    let high = 1 << random.field(unused, layout.place_bits() - 1);
     let (first, second) = random.pick(&[
         (second, first),
         (first, first),
@@ -31,6 +34,8 @@ pub fn road_places(random: &mut Random, mut words: Vec<u32>) -> Option<Vec<u32>>
         (first, beyond),
         (beyond, beyond),
         (most, most),
+        (first, second | high),
+        (first | high, second | high),
     ]);
     words[at] = layout.pair_word(first as u32, second as u32);
     Some(words)
