@@ -13,7 +13,7 @@ use crate::reached::{chosen, Reached};
 use crate::Engine;
 use reference::generate::random::Random;
 use reference::generate::valid::Numbers;
-use reference::generate::{case, Case};
+use reference::generate::{case, valid, Case};
 use reference::left::Left;
 use reference::refusal::Fault;
 use reference::words::{self, BYTES_PER_WORD};
@@ -76,8 +76,7 @@ impl Decision {
 
 /// Judges a random case, to be accepted or refused, and the same with other samples.
 pub fn check(engine: &dyn Engine, random: &mut Random, reached: &mut Reached) -> Checked {
-    let most_places = if random.chance(10) { MOST_PLACES_OF_CITY } else { MOST_PLACES };
-    let x = case(random.bits(), most_places);
+    let x = any_case(random);
     let y = with_other_samples(random, &x);
     let of_x = decided(engine, random, &x)?;
     let of_y = decided(engine, random, &y)?;
@@ -88,6 +87,18 @@ pub fn check(engine: &dyn Engine, random: &mut Random, reached: &mut Reached) ->
     }
     reached.count_layout("decided alike", &whole_words(&x.sheet).0);
     Ok(())
+}
+
+/// A case as a seed's own is, now and then one that may be a city, or is.
+fn any_case(random: &mut Random) -> Case {
+    match random.below(100) {
+        0..=2 => {
+            let words = valid::city(random, MOST_PLACES_OF_CITY);
+            Case::lend(random, &words)
+        }
+        3..=9 => case(random.bits(), MOST_PLACES_OF_CITY),
+        _ => case(random.bits(), MOST_PLACES),
+    }
 }
 
 fn decided(engine: &dyn Engine, random: &mut Random, case: &Case) -> Result<Decision, Difference> {

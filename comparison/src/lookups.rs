@@ -5,7 +5,7 @@ use crate::lent::Lent;
 use crate::reached::{LookedUp, Reached};
 use crate::{Engine, Implementation};
 use reference::answer::Answer;
-use reference::generate::answers::{damaged, invented, query, query_at_edge, Query};
+use reference::generate::answers::{beyond_limits, damaged, invented, query, query_at_edge, Query};
 use reference::generate::random::Random;
 use reference::layout::Front;
 use reference::words;
@@ -18,7 +18,7 @@ const QUERIES: usize = 6;
 const MOST_FOR_ALL: usize = 200;
 
 /// Looks up in an answer as it was lent, in a damaged copy, and now and then in
-/// one that belongs to no sheet; engine and implementation must agree.
+/// one that belongs to no sheet, or has no place or too many; engine and implementation must agree.
 pub fn compare(
     engine: &dyn Engine,
     random: &mut Random,
@@ -29,6 +29,10 @@ pub fn compare(
     if random.chance(10) {
         let whole = words::to_bytes(&invented(random));
         whole_and_damaged(engine, random, &whole, reached)?;
+    }
+    if random.chance(2) {
+        let beyond = words::to_bytes(&beyond_limits(random));
+        look_up(engine, random, &LookedUp::lent(&beyond), reached)?;
     }
     Ok(())
 }

@@ -52,15 +52,17 @@ pub struct LookedUp<'a> {
     pub whole: Option<Answer>,
     /// How a line's word was damaged, if one was: an index in [`STRUCK`].
     struck: Option<usize>,
-    /// How the front of a wide answer was damaged, if nothing else was.
-    struck_front: Option<String>,
+    /// What is wrong with the answer's front, if nothing else is.
+    front: Option<String>,
 }
 
 impl<'a> LookedUp<'a> {
     /// An answer as it was lent.
     pub fn lent(bytes: &'a [u8]) -> Self {
-        let whole = words::from_bytes(bytes).and_then(|words| Answer::read(&words));
-        LookedUp { bytes, whole, struck: None, struck_front: None }
+        let words = words::from_bytes(bytes).unwrap_or_default();
+        let whole = Answer::read(&words);
+        let front = wide_looked_up::beyond_limits(&words);
+        LookedUp { bytes, whole, struck: None, front }
     }
 
     /// A damaged answer, beside what it was before.
@@ -69,7 +71,7 @@ impl<'a> LookedUp<'a> {
         let (before, words) = both.unwrap_or_default();
         LookedUp {
             struck: struck_line(&before, &words),
-            struck_front: wide_looked_up::struck(&before, &words),
+            front: wide_looked_up::struck(&before, &words),
             ..LookedUp::lent(bytes)
         }
     }
@@ -91,7 +93,7 @@ impl<'a> LookedUp<'a> {
         let as_struck = self.struck.filter(|_| is_whole == (found > 0));
         shown.extend(as_struck.map(|index| STRUCK[index]));
         let in_wide = self.whole.as_ref().map(|whole| wide_looked_up::shown(whole, asked, found));
-        let of_front = self.struck_front.iter().filter(|_| found == 0).cloned();
+        let of_front = self.front.iter().filter(|_| found == 0).cloned();
         let of_wide = in_wide.into_iter().flatten().chain(of_front);
         shown.into_iter().map(label).chain(of_wide.map(|text| label(&text))).collect()
     }

@@ -30,9 +30,18 @@ const STRUCK: [&str; 8] = [
     "places in the head",
 ];
 
+/// Answers that are laid out as they must be, but for their places.
+const BEYOND: [&str; 4] = [
+    "none in a narrow answer laid out for 0 places",
+    "none in a narrow answer laid out for 65 places",
+    "none in a wide answer laid out for 0 places",
+    "none in a wide answer laid out for 1,025 places",
+];
+
 /// The texts of all labels.
 pub fn texts() -> impl Iterator<Item = String> {
-    IN_WHOLE.into_iter().map(of_whole).chain(STRUCK.into_iter().map(of_struck))
+    let of_front = IN_WHOLE.into_iter().map(of_whole).chain(STRUCK.into_iter().map(of_struck));
+    of_front.chain(BEYOND.into_iter().map(String::from))
 }
 
 fn of_whole(text: &str) -> String {
@@ -61,10 +70,20 @@ pub fn shown(answer: &Answer, (.., place): Query, found: u64) -> Vec<String> {
     chosen(&IN_WHOLE, shown).map(of_whole).collect()
 }
 
+/// Whether words are laid out for no place or one too many, up to their end.
+pub fn beyond_limits(words: &[u32]) -> Option<String> {
+    let front = Front::told(words);
+    let is_beyond = front.places == 0 || front.places == front.layout.most_places() + 1;
+    let end = words::word(kinds::END, words.len().saturating_sub(1) as u32);
+    let is_laid_out = front.is_laid_out(words, kinds::ANSWER_HEAD) && words.last() == Some(&end);
+    let index = 2 * front.layout.head_index() + usize::from(front.places > 0);
+    (is_beyond && is_laid_out).then(|| BEYOND[index].into())
+}
+
 /// How the front of a whole wide answer was struck, if nothing else was.
 pub fn struck(before: &[u32], words: &[u32]) -> Option<String> {
-    let is_whole = Answer::read(before).is_some_and(|answer| answer.layout.is_wide());
-    if !is_whole || words.is_empty() || words == before {
+    let is_wide = Layout::of(before).is_wide();
+    if !is_wide || words.is_empty() || words == before || Answer::read(before).is_none() {
         return None;
     }
     if *words == before[1..] {

@@ -2,6 +2,7 @@
 //! and must find nothing in one that is right.
 
 mod bytes;
+mod cities;
 mod evaluator;
 mod extents;
 mod falling;
@@ -15,6 +16,8 @@ mod sizes;
 mod surrounds;
 mod swayed;
 mod traps;
+mod wide;
+mod wide_lookups;
 
 use crate::compare::Comparison;
 use crate::{Engine, Filled, Implementation};
@@ -22,7 +25,7 @@ use reference::evaluation::Evaluation;
 use std::marker::PhantomData;
 
 /// Within how many seeds an engine has to be caught.
-const SEEDS: u64 = 3_000;
+const SEEDS: u64 = 5_000;
 
 /// For how many seeds an engine has to pass that is right and is there to show
 /// that the others are caught for their fault alone.

@@ -14,7 +14,7 @@ use reference::words::BYTES_PER_WORD;
 /// Right, but for surrounds of one code on networks with more than so many
 /// places, with so many roads that some go round in circles, and more than so
 /// many samples: left is taken for the surround there.
-struct InCircles<const CODE: u32, const PLACES: usize, const SAMPLES: usize> {
+pub struct InCircles<const CODE: u32, const PLACES: usize, const SAMPLES: usize> {
     right: Fast,
     /// For each surround that goes wrong its left operand.
     lefts: Vec<Option<usize>>,

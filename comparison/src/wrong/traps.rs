@@ -62,13 +62,16 @@ fn operands_read_from_their_own_first_sample() {
     assert!(caught(&Trapped::<{ evaluator::OWN_FIRST }>).is_some());
 }
 
+/// Within how many sheets such a check has to find something.
+const DRAWS: usize = 2_500;
+
 /// A check that has nothing to compare an engine with.
 pub type Alone = fn(&dyn Engine, &mut Random, &mut Reached) -> Checked;
 
 /// What such a check finds.
 pub fn difference_alone(engine: &dyn Engine, check: Alone) -> Option<Difference> {
     let (mut random, mut reached) = (Random::new(1), Reached::default());
-    (0..1_000).find_map(|_| check(engine, &mut random, &mut reached).err())
+    (0..DRAWS).find_map(|_| check(engine, &mut random, &mut reached).err())
 }
 
 /// On how many sheets it finds it.
