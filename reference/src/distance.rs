@@ -45,10 +45,11 @@ impl Distances {
     }
 }
 
-/// A way from a place along one road.
+/// A way from a place along one road, of few bytes: a full network of 1,024 places
+/// has a million of them, which are gone through from each place.
 struct Way {
-    to: usize,
-    weight: u64,
+    to: u32,
+    weight: u32,
 }
 
 /// For each place the ways from it.
@@ -60,10 +61,9 @@ impl Network {
     /// "Roads run both ways."
     fn new(places: usize, roads: &[Road]) -> Self {
         let mut ways: Vec<Vec<Way>> = (0..places).map(|_| Vec::new()).collect();
-        for road in roads {
-            let weight = road.weight.into();
-            ways[road.first].push(Way { to: road.second, weight });
-            ways[road.second].push(Way { to: road.first, weight });
+        for &Road { first, second, weight } in roads {
+            ways[first].push(Way { to: second as u32, weight });
+            ways[second].push(Way { to: first as u32, weight });
         }
         Network { ways }
     }
@@ -86,11 +86,12 @@ impl Network {
 
     /// Goes every way from a place, whose distance is settled.
     fn leave(&self, place: usize, row: &mut [u64], found: &mut BinaryHeap<Reverse<(u64, usize)>>) {
-        for way in &self.ways[place] {
-            let distance = row[place] + way.weight;
-            if distance < row[way.to] {
-                row[way.to] = distance;
-                found.push(Reverse((distance, way.to)));
+        let so_far = row[place];
+        for &Way { to, weight } in &self.ways[place] {
+            let (to, distance) = (to as usize, so_far + u64::from(weight));
+            if distance < row[to] {
+                row[to] = distance;
+                found.push(Reverse((distance, to)));
             }
         }
     }
