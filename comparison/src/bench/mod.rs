@@ -1,6 +1,7 @@
 //! Benchmarks: an engine and the implementation's fast path on the same sheets,
 //! in the same buffers, in one run.
 
+pub mod cities;
 pub mod report;
 pub mod sheets;
 mod timing;

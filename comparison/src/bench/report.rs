@@ -1,14 +1,14 @@
 //! What is timed, and the rows that tell it.
 
 use super::sheets::{self, BothWays, Readings};
-use super::{timed, Times};
+use super::{cities, timed, Times};
 use crate::Engine;
 use std::time::Duration;
 
 /// Times the three sheets of the benchmark, then how time grows with samples,
-/// places, lines, windows of time and ranges; prints a row for each. Last come
+/// places, lines, windows of time and ranges; prints a row for each. Then come
 /// windows ahead beside the same windows back, and surrounds with islands beside
-/// the same without.
+/// the same without. Last come the smallest sheet and cities.
 pub fn print(engine: &dyn Engine) {
     section("The three sheets, 64 places and 1,024 samples, surrounds with islands (code 15)");
     row(engine, "8×8 grid, twelve codes", &sheets::full_grid());
@@ -21,6 +21,8 @@ pub fn print(engine: &dyn Engine) {
     by_ranges(engine);
     both_ways(engine);
     both_readings(engine);
+    smallest(engine);
+    by_cities(engine);
 }
 
 fn by_samples(engine: &dyn Engine) {
@@ -76,6 +78,26 @@ fn both_ways(engine: &dyn Engine) {
         let sheets = sheets::windows_both_ways((lower, upper));
         pair(engine, &format!("{lower}..{upper}"), &sheets);
     }
+}
+
+fn smallest(engine: &dyn Engine) {
+    section("The smallest: 2×2 grid, one sample, one line, an atom");
+    row(engine, "a call", &cities::tiny());
+}
+
+/// Bounds of the surrounds that are timed on a city.
+const OF_CITY: [(u32, u32); 3] = [(0, 3), (1, 5), (2, 12)];
+
+fn by_cities(engine: &dyn Engine) {
+    for samples in [1, 100] {
+        section(&format!("Wide: 32×32 grid, one surround with islands (15), samples: {samples}"));
+        for (lower, upper) in OF_CITY {
+            let sheet = cities::surround(samples, (lower, upper));
+            row(engine, &format!("surround {lower}..{upper}"), &sheet);
+        }
+    }
+    section("Wide: 1,024 places in full, 523,776 roads, one sample, true");
+    row(engine, "distances alone", &cities::full_graph());
 }
 
 fn section(title: &str) {
@@ -141,6 +163,9 @@ fn side_by_side(one: Times, other: Times) -> String {
     format!("{engine}{implementation}{:>10.2}{:>10.2}", one.share(), other.share())
 }
 
+/// With as many digits as a call on the smallest sheet needs.
 fn milliseconds(time: Duration) -> String {
-    format!("{:.2} ms", time.as_secs_f64() * 1e3)
+    let milliseconds = time.as_secs_f64() * 1e3;
+    let digits = if milliseconds < 0.1 { 5 } else { 2 };
+    format!("{milliseconds:.digits$} ms")
 }

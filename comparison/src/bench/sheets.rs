@@ -1,5 +1,6 @@
 //! The sheets that are timed.
 
+use super::cities::grid_roads;
 use reference::builder::SheetBuilder;
 use reference::distance::Distances;
 use reference::generate::random::Random;
@@ -37,17 +38,10 @@ pub fn full_grid() -> Vec<u32> {
 fn grid_network(side: u32, samples: u32) -> SheetBuilder {
     let mut random = Random::new(8);
     let mut sheet = SheetBuilder::new(side * side, 2, samples);
-    for (place, neighbour) in (0..side * side).flat_map(|place| grid_roads(side, place)) {
+    for (place, neighbour) in grid_roads(side) {
         sheet = sheet.road(place, neighbour, random.field(1, 3));
     }
     sheet.samples(&drifting(side, samples, &mut random))
-}
-
-/// The roads from a place to the one on its right and the one below.
-fn grid_roads(side: u32, place: u32) -> impl Iterator<Item = (u32, u32)> {
-    let right = (place % side + 1 < side).then_some((place, place + 1));
-    let below = (place / side + 1 < side).then_some((place, place + side));
-    right.into_iter().chain(below)
 }
 
 /// Numbers of two signals, time outermost, then place, then signal: two waves

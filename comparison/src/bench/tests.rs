@@ -1,10 +1,11 @@
 //! The sheets are what the benchmark says of them. Nothing is timed here.
 
+use super::cities;
 use super::sheets::{self, BothWays, Readings};
 use reference::builder::SheetBuilder;
 use reference::fast::Fast;
 use reference::judge::Outcome;
-use reference::layout::ENOUGH_DISTANCES;
+use reference::layout::{Layout, ENOUGH_DISTANCES};
 use reference::sheet::{check, Sheet, LAST_CODE};
 use std::collections::BTreeSet;
 
@@ -56,6 +57,28 @@ fn the_path_takes_64_rounds() {
 #[test]
 fn the_full_graph_has_every_road() {
     assert_eq!(checked(&sheets::full_graph()).roads.len(), 2016);
+}
+
+/// Four places joined by four roads, an atom, and nothing else.
+#[test]
+fn the_tiny_sheet_is_tiny() {
+    let sheet = checked(&cities::tiny());
+    assert_eq!((sheet.head.places, sheet.head.signals, sheet.head.samples), (4, 1, 1));
+    assert_eq!((sheet.roads.len(), sheet.lines.len()), (4, 1));
+    assert_eq!(codes(&[&cities::tiny()]), BTreeSet::from([1]));
+}
+
+#[test]
+fn cities_are_wide_and_have_1024_places() {
+    for samples in [1, 100] {
+        let sheet = checked(&cities::surround(samples, (2, 12)));
+        assert_eq!((sheet.head.layout, sheet.head.places), (Layout::Wide, 1024));
+        assert_eq!((sheet.roads.len(), sheet.head.samples), (1984, samples as usize));
+        assert!(sheet.roads.iter().all(|road| road.weight == 1));
+    }
+    let sheet = checked(&cities::full_graph());
+    assert_eq!((sheet.head.layout, sheet.head.places), (Layout::Wide, 1024));
+    assert_eq!((sheet.roads.len(), sheet.lines.len()), (523_776, 1));
 }
 
 #[test]

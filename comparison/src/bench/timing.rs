@@ -10,6 +10,9 @@ use std::time::{Duration, Instant};
 /// make a run slower.
 const RUNS: usize = 5;
 
+/// No more runs are made of a sheet that has taken so long.
+const LONG_ENOUGH: Duration = Duration::from_secs(4);
+
 /// Both engines' best times for one sheet.
 #[derive(Clone, Copy)]
 pub struct Times {
@@ -50,7 +53,8 @@ pub fn timed(engine: &dyn Engine, words: &[u32]) -> Times {
         result: vec![0; case.result],
     };
     let mut times = Times { engine: Duration::MAX, implementation: Duration::MAX, rounds: 0 };
-    for _ in 0..RUNS {
+    let start = Instant::now();
+    for _ in (0..RUNS).take_while(|&run| run == 0 || start.elapsed() < LONG_ENOUGH) {
         times.engine = times.engine.min(run(engine, &case.sheet, &mut buffers));
         let answer = buffers.answer.clone();
         let result = buffers.result.clone();
