@@ -4,7 +4,7 @@
 use super::chosen;
 use reference::generate::Case;
 use reference::judge::BYTES_PER_DISTANCE;
-use reference::layout::{Front, DISTANCE_ENTRIES, MOST_PLACES, MOST_WIDE_PLACES};
+use reference::layout::{Front, Layout, DISTANCE_ENTRIES, MOST_PLACES, MOST_WIDE_PLACES};
 use reference::left::Left;
 use reference::sheet::{Sheet, GREATEST_WEIGHT, LAST_CODE};
 
@@ -54,9 +54,13 @@ pub fn label_of_check(check: &str, words: &[u32]) -> String {
     format!("{check}: {}", layout(&Front::told(words)))
 }
 
-/// One of [`LAYOUTS`].
-pub fn layout(front: &Front) -> &'static str {
-    LAYOUTS[usize::from(front.layout.is_wide()) + usize::from(front.places > MOST_PLACES)]
+/// One of [`LAYOUTS`], whether or not the places are within their limits.
+fn layout(front: &Front) -> &'static str {
+    match front.layout {
+        Layout::Narrow => LAYOUTS[0],
+        Layout::Wide if front.places <= MOST_PLACES => LAYOUTS[1],
+        Layout::Wide => LAYOUTS[2],
+    }
 }
 
 fn of_wide(text: &str) -> String {
@@ -109,4 +113,25 @@ fn in_wide(sheet: &Sheet, case: &Case, left: &Left) -> [bool; 15] {
 fn farthest(left: &Left) -> u64 {
     let (entries, _) = left.distances.as_chunks();
     entries.iter().map(|&entry| u64::from_le_bytes(entry)).max().unwrap_or(0)
+}
+
+#[cfg(test)]
+mod tests {
+    use super::*;
+    use reference::builder::SheetBuilder;
+
+    #[test]
+    fn layouts_are_told_apart() {
+        let layout_of = |sheet: SheetBuilder| label_of_check("laws", &sheet.words());
+        let expected = LAYOUTS.map(|layout| format!("laws: {layout}"));
+        assert_eq!(layout_of(SheetBuilder::new(64, 1, 1)), expected[0]);
+        assert_eq!(layout_of(SheetBuilder::new(65, 1, 1)), expected[0]);
+        assert_eq!(layout_of(SheetBuilder::wide(64, 1, 1)), expected[1]);
+        assert_eq!(layout_of(SheetBuilder::wide(65, 1, 1)), expected[2]);
+    }
+
+    #[test]
+    fn no_layout_is_left_out() {
+        assert_eq!(labels_of_checks().count(), CHECKS.len() * LAYOUTS.len());
+    }
 }

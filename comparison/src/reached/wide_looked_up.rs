@@ -117,3 +117,56 @@ fn struck_head(head: u32) -> Option<usize> {
         _ => Some(6),
     }
 }
+
+#[cfg(test)]
+mod tests {
+    use super::*;
+    use reference::generate::answers;
+    use reference::generate::random::Random;
+
+    /// Two places, one line of one sample: a yes and a no.
+    const WHOLE: [u32; 6] =
+        [0xA0000002, 0xD0001001, 0xE0000001, 0x90000000, 0xA0000000, 0xF0000005];
+
+    fn struck_with(index: usize, word: u32) -> Option<String> {
+        let mut words = WHOLE;
+        words[index] = word;
+        struck(&WHOLE, &words)
+    }
+
+    #[test]
+    fn what_was_done_to_the_front() {
+        let first = [0x10000002, 0xA0000000, 0xA0000401, 0xA0010002, 0xA0000003];
+        let found = first.map(|word| struck_with(0, word));
+        assert!(found.into_iter().flatten().eq(STRUCK[..5].iter().map(|text| of_struck(text))));
+        assert_eq!(struck(&WHOLE, &WHOLE[1..]), Some(of_struck(STRUCK[5])));
+        assert_eq!(struck_with(1, 0xE0001001), Some(of_struck(STRUCK[6])));
+        assert_eq!(struck_with(1, 0xD0201001), Some(of_struck(STRUCK[7])));
+    }
+
+    /// Nothing, other sizes, and a word behind the front.
+    #[test]
+    fn what_is_no_damage_to_the_front_alone() {
+        assert_eq!(struck(&WHOLE, &WHOLE), None);
+        assert_eq!(struck_with(1, 0xD0001002), None);
+        assert_eq!(struck_with(3, 0x90000001), None);
+        assert_eq!(struck(&WHOLE[1..], &WHOLE), None);
+    }
+
+    #[test]
+    fn lookups_at_places() {
+        let answer = Answer::read(&WHOLE).expect("a whole answer");
+        assert_eq!(shown(&answer, (0, 0, 1), 2), [of_whole(IN_WHOLE[0])]);
+        assert_eq!(shown(&answer, (0, 0, 2), 0), [1, 2].map(|at| of_whole(IN_WHOLE[at])));
+        assert_eq!(shown(&answer, (0, 1, 0), 0), [of_whole(IN_WHOLE[1])]);
+    }
+
+    #[test]
+    fn answers_for_no_place_or_one_too_many() {
+        let mut random = Random::new(1);
+        assert!((0..20).all(|_| beyond_limits(&answers::beyond_limits(&mut random)).is_some()));
+        assert_eq!(beyond_limits(&WHOLE), None);
+        assert_eq!(beyond_limits(&[0xA0000000, 0xD0001001, 0xF0000001]), None);
+        assert_eq!(beyond_limits(&[0xA0000000, 0xD0001001, 0xF0000002]), Some(BEYOND[2].into()));
+    }
+}

@@ -127,3 +127,61 @@ fn is_right_in_8_bits(struck: &Struck) -> bool {
 fn count(struck: &Struck) -> usize {
     struck.front().places
 }
+
+#[cfg(test)]
+mod tests {
+    use super::*;
+    use reference::fast::Fast;
+    use reference::generate::Case;
+    use reference::judge::Outcome;
+    use reference::worked::WIDE_A;
+
+    /// The number, and what is shown by example A laid out wide with a word replaced
+    /// and so many distances lent, beside that it is wide.
+    fn shown_with(index: usize, word: u32, entries: usize) -> (u64, Vec<String>) {
+        let mut words = WIDE_A;
+        words[index] = word;
+        let case = Case { distances: entries * BYTES_PER_DISTANCE, ..Case::of(&words, 21) };
+        let (mut distances, mut answer) = (vec![0; case.distances], vec![0; case.answer]);
+        let mut result = vec![0; case.result];
+        reference::judge::<Fast>(&case.sheet, &mut distances, &mut answer, &mut result);
+        let Outcome { number, place, .. } = Outcome::from_bytes(&result).expect("a result");
+        let struck = Struck { words: &words, case: &case, place: place as usize };
+        let shown = shown(&struck, number).split_off(1);
+        (number, shown)
+    }
+
+    fn texts(texts: &[&str]) -> Vec<String> {
+        texts.iter().map(|text| of_wide(text)).collect()
+    }
+
+    #[test]
+    fn wide_heads() {
+        assert_eq!(shown_with(0, 0xA0000000, 4), (17, texts(&["count 0"])));
+        assert_eq!(shown_with(0, 0xA0000401, 4), (17, texts(&["count 1,025 or more"])));
+        assert_eq!(shown_with(0, 0xA0810002, 4), (17, texts(&["bit 16", "bit 23"])));
+        assert_eq!(shown_with(1, 0x20001002, 4), (17, texts(&["another kind behind"])));
+        let both = ["too few distances besides", "sizes outside their limits besides"];
+        let expected = texts(&[both[0], both[1], "places in the head"]);
+        assert_eq!(shown_with(1, 0x10200002, 3), (17, expected));
+    }
+
+    #[test]
+    fn limits_and_distances() {
+        let expected = texts(&["too few distances besides", "signals 0"]);
+        assert_eq!(shown_with(1, 0x10000002, 3), (3, expected));
+        let expected = texts(&["an entry short", "a road at fault besides"]);
+        assert_eq!(shown_with(2, 0x20001000, 3), (1, expected));
+        let expected = texts(&["no entry", "a fault behind the roads besides"]);
+        assert_eq!(shown_with(19, 0xF0000014, 0), (1, expected));
+    }
+
+    #[test]
+    fn wide_roads() {
+        assert_eq!(shown_with(2, 0x24000001, 4), (4, texts(&["bit 26"])));
+        assert_eq!(shown_with(2, 0x20001000, 4), (5, texts(&["places exchanged"])));
+        let by_8_bits = "a pair that 8 bits would let through";
+        let expected = texts(&["second place beyond n", by_8_bits]);
+        assert_eq!(shown_with(2, 0x20000101, 4), (5, expected));
+    }
+}

@@ -1,10 +1,12 @@
-//! Printing programs that count wrongly.
+//! Printing programs that count wrongly, lend more than they should, or print wide
+//! sheets otherwise.
 
 use super::{SEEDS, SEEDS_OF_RIGHT};
 use crate::compare::Comparison;
 use crate::printing::Printer;
 use crate::Implementation;
 use reference::fast::Fast;
+use reference::layout::Front;
 use reference::print::print;
 
 /// Changes the rows of an accepted sheet, each given with its line and sample.
@@ -33,8 +35,11 @@ impl Printer for Miscounts {
 }
 
 fn caught_within(change: Change, seeds: u64) -> bool {
-    let printer = Miscounts(change);
-    let mut comparison = Comparison::new(&Implementation, Some(&printer));
+    is_caught(&Miscounts(change), seeds)
+}
+
+fn is_caught(printer: &dyn Printer, seeds: u64) -> bool {
+    let mut comparison = Comparison::new(&Implementation, Some(printer));
     (1..=seeds).any(|seed| comparison.seed(seed).is_err())
 }
 
@@ -69,4 +74,36 @@ fn rows_of_samples_that_a_line_has_not() {
             rows.insert(at, (line, sample - 1, rest));
         }
     }));
+}
+
+/// Lends as many distances as a wide sheet needs, so that none is refused with 1.
+struct LendsMore;
+
+impl Printer for LendsMore {
+    fn print(&self, input: &[u8]) -> std::io::Result<String> {
+        Ok(print::<Fast>(input).replace("refused 1 0", "accepted"))
+    }
+}
+
+#[test]
+fn more_distances_lent_than_a_narrow_sheet_needs() {
+    assert!(is_caught(&LendsMore, SEEDS));
+}
+
+/// Prints something more in the first row of a wide sheet.
+struct PrintsFront;
+
+impl Printer for PrintsFront {
+    fn print(&self, input: &[u8]) -> std::io::Result<String> {
+        let text = print::<Fast>(input);
+        if Front::told_by_bytes(input).layout.is_wide() {
+            return Ok(text.replacen('\n', " wide\n", 1));
+        }
+        Ok(text)
+    }
+}
+
+#[test]
+fn a_wide_sheet_printed_otherwise() {
+    assert!(is_caught(&PrintsFront, SEEDS));
 }
