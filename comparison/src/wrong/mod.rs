@@ -17,7 +17,9 @@ mod surrounds;
 mod swayed;
 mod traps;
 mod wide;
+mod wide_answers;
 mod wide_lookups;
+mod wide_words;
 
 use crate::compare::Comparison;
 use crate::{Engine, Filled, Implementation};

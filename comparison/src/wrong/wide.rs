@@ -1,13 +1,13 @@
-//! Engines that are right on narrow sheets, and decide or answer wide ones wrongly.
+//! Engines that are right on narrow sheets, and decide wide ones wrongly.
 
 use super::caught;
 use super::mistaken::{mistaken, Given};
 use crate::{Engine, Filled, Implementation};
 use reference::judge::{Outcome, BYTES_PER_DISTANCE};
-use reference::layout::{Front, Layout, DISTANCE_ENTRIES, ENOUGH_DISTANCES, MOST_PLACES};
+use reference::layout::{Front, DISTANCE_ENTRIES, ENOUGH_DISTANCES, MOST_PLACES};
 use reference::refusal::Refusal;
 use reference::sheet::check;
-use reference::words::{self, kinds, BYTES_PER_WORD};
+use reference::words::{self, kinds};
 
 /// The engine that makes a mistake on wide sheets alone must be caught.
 #[track_caller]
@@ -214,148 +214,4 @@ fn faults_told_as_if_the_head_were_the_first_word() {
             outcome.place -= 1;
         }
     });
-}
-
-/// An engine that reads other words than there are, where a sheet is wide.
-struct Rereads(fn(&mut [u32]));
-
-impl Engine for Rereads {
-    fn judge(&self, sheet: &[u8], left: Filled) -> u64 {
-        let mut words = words::from_bytes(sheet).unwrap_or_default();
-        if !Layout::of(&words).is_wide() {
-            return Implementation.judge(sheet, left);
-        }
-        (self.0)(&mut words);
-        Implementation.judge(&words::to_bytes(&words), left)
-    }
-
-    fn lookup(&self, answer: &[u8], line: u64, sample: u64, place: u64) -> u64 {
-        Implementation.lookup(answer, line, sample, place)
-    }
-}
-
-/// Changes the first words of roads.
-fn reread_roads(words: &mut [u32], reread: fn(u32) -> u32) {
-    let is_road = |word: &&mut u32| words::kind(**word) == kinds::ROAD_PLACES;
-    words.iter_mut().filter(is_road).for_each(|word| *word = reread(*word));
-}
-
-#[test]
-fn places_of_roads_read_by_8_bits() {
-    let engine = Rereads(|words| reread_roads(words, |word| word & 0xFF0F_F0FF));
-    assert!(caught(&engine).is_some());
-}
-
-#[test]
-fn places_of_roads_read_by_10_bits() {
-    let engine = Rereads(|words| reread_roads(words, |word| word & 0xFF3F_F3FF));
-    assert!(caught(&engine).is_some());
-}
-
-#[test]
-fn roads_read_as_narrow_ones() {
-    let engine = Rereads(|words| {
-        reread_roads(words, |word| {
-            let pair = Layout::Narrow.pair(word);
-            Layout::Wide.pair_word(pair.first as u32, pair.second as u32)
-        })
-    });
-    assert!(caught(&engine).is_some());
-}
-
-#[test]
-fn spare_bits_of_a_road_passed_over() {
-    let engine = Rereads(|words| reread_roads(words, |word| word & 0xF0FF_FFFF));
-    assert!(caught(&engine).is_some());
-}
-
-#[test]
-fn spare_bits_of_the_first_word_passed_over() {
-    assert!(caught(&Rereads(|words| words[0] &= 0xF000_FFFF)).is_some());
-}
-
-#[test]
-fn places_in_the_head_passed_over() {
-    let reread = |words: &mut [u32]| {
-        if let Some(head) = words.get_mut(1).filter(|head| words::kind(**head) == kinds::HEAD) {
-            *head &= 0xF00F_FFFF;
-        }
-    };
-    assert!(caught(&Rereads(reread)).is_some());
-}
-
-/// An engine that answers wide sheets otherwise than it should: what it does with
-/// the words of the answer up to the end, and the result.
-struct Answers(fn(&mut Vec<u32>, &mut Outcome));
-
-impl Engine for Answers {
-    fn judge(&self, sheet: &[u8], left: Filled) -> u64 {
-        let Filled { distances, answer, result } = left;
-        let lent = Filled { distances, answer: &mut *answer, result: &mut *result };
-        let number = Implementation.judge(sheet, lent);
-        if number != 0 || !Front::told_by_bytes(sheet).layout.is_wide() {
-            return number;
-        }
-        let mut outcome = Outcome::from_bytes(result).unwrap_or_default();
-        let mut words = words::first_words(answer, outcome.words as usize);
-        (self.0)(&mut words, &mut outcome);
-        let lent = answer.len() / BYTES_PER_WORD;
-        words.resize(lent, 0);
-        answer.copy_from_slice(&words::to_bytes(&words));
-        result.copy_from_slice(&outcome.to_bytes());
-        number
-    }
-
-    fn lookup(&self, answer: &[u8], line: u64, sample: u64, place: u64) -> u64 {
-        Implementation.lookup(answer, line, sample, place)
-    }
-}
-
-#[track_caller]
-fn assert_answer_caught(answers: fn(&mut Vec<u32>, &mut Outcome)) {
-    assert!(caught(&Answers(answers)).is_some());
-}
-
-/// Counts the end anew.
-fn end_anew(words: &mut [u32]) {
-    let before = words.len() as u32 - 1;
-    words.last_mut().into_iter().for_each(|end| *end = words::word(kinds::END, before));
-}
-
-#[test]
-fn an_answer_without_its_first_word() {
-    assert_answer_caught(|words, outcome| {
-        words.remove(0);
-        end_anew(words);
-        outcome.words -= 1;
-    });
-}
-
-/// As the narrow sheet of as many places would be answered.
-#[test]
-fn few_places_answered_as_a_narrow_sheet() {
-    assert_answer_caught(|words, outcome| {
-        let front = Front::told(words);
-        if front.places <= MOST_PLACES {
-            let narrow = Front { layout: Layout::Narrow, ..front };
-            words.splice(..2, narrow.words(kinds::ANSWER_HEAD));
-            end_anew(words);
-            outcome.words -= 1;
-        }
-    });
-}
-
-#[test]
-fn an_end_that_does_not_count_the_first_word() {
-    assert_answer_caught(|words, _| words.last_mut().into_iter().for_each(|end| *end -= 1));
-}
-
-#[test]
-fn a_result_that_does_not_count_the_first_word() {
-    assert_answer_caught(|_, outcome| outcome.words -= 1);
-}
-
-#[test]
-fn places_told_in_the_head_of_the_answer_too() {
-    assert_answer_caught(|words, _| words[1] |= words::field(words[0], 7, 0) << 20);
 }
