@@ -1,7 +1,7 @@
 //! Engines that fall into a trap of the logic.
 
-use super::caught;
 use super::evaluator::{self, Trapped};
+use super::{caught, caught_within, SEEDS_OF_RIGHT};
 use crate::difference::{Checked, Difference};
 use crate::reached::Reached;
 use crate::{laws, mirror, Engine};
@@ -9,7 +9,7 @@ use reference::generate::random::Random;
 
 #[test]
 fn without_a_fault_nothing_is_found() {
-    assert_eq!(caught(&Trapped::<{ evaluator::NONE }>), None);
+    assert_eq!(caught_within(&Trapped::<{ evaluator::NONE }>, SEEDS_OF_RIGHT), None);
 }
 
 #[test]
