@@ -11,11 +11,17 @@
  * Bytes. Every buffer is plain bytes at any address. A word is four bytes, a
  * distance and a number of the result eight, always lowest byte first.
  *
+ * Layouts. A sheet has at most 64 places, or at most 1,024 if it is wide. A wide
+ * sheet begins with a word of kind 10, its answer with the same word. A wide sheet
+ * of few places is as good as a narrow one.
+ *
  * Ownership. All buffers are the host's, before, during and after a call. The
- * library keeps nothing between calls, takes no memory of its own but at most
- * 64 KiB of the stack, and reads and writes nothing beside what is lent. What
- * the lent buffers hold before the call is of no account; judge() sets each of
- * their bytes.
+ * library keeps nothing between calls, takes no memory of its own but some of
+ * the stack, and reads and writes nothing beside what is lent. What the lent
+ * buffers hold before the call is of no account; judge() sets each of their bytes.
+ *
+ * Stack. A call takes at most 64 KiB of it for a sheet or an answer of up to 64
+ * places, narrow or wide, and at most 512 KiB for one of more.
  *
  * The host's duties, which the library cannot check. Each pointer is valid for
  * as many bytes as its length says, and NULL only where that is 0. The four
@@ -48,36 +54,58 @@
 extern "C" {
 #endif
 
-#define TECUHUALMA_VERSION "0.3.0"
+#define TECUHUALMA_VERSION "0.4.0"
 #define TECUHUALMA_VERSION_MAJOR 0
-#define TECUHUALMA_VERSION_MINOR 3
+#define TECUHUALMA_VERSION_MINOR 4
 #define TECUHUALMA_VERSION_PATCH 0
 
-/* The limits of a sheet. */
+/* The limits of a sheet; places and roads of a narrow one, then of a wide one. */
 #define TECUHUALMA_MOST_PLACES 64
 #define TECUHUALMA_MOST_SIGNALS 16
 #define TECUHUALMA_MOST_SAMPLES 1024
 #define TECUHUALMA_MOST_LINES 64
 #define TECUHUALMA_MOST_ROADS 2016
+#define TECUHUALMA_MOST_WIDE_PLACES 1024
+#define TECUHUALMA_MOST_WIDE_ROADS 523776
 
 /* The words of the longest sheet that can be accepted: head and end, two for
- * each road, the samples, two for the first line and three for each other. */
+ * each road, the samples, two for the first line and three for each other. A wide
+ * sheet has a word more, before its head. */
 #define TECUHUALMA_MOST_SHEET_WORDS 1052801
+#define TECUHUALMA_MOST_WIDE_SHEET_WORDS 17824962
 
-/* What to lend. The distance table has at least 4,096 entries, whatever the
- * number of places; the result has just 40 bytes. */
+/* What to lend. The result has just 40 bytes.
+ *
+ * The distance table of a narrow sheet has at least 4,096 entries, whatever the
+ * number of places; that of a wide sheet at least as many as its places squared,
+ * which may be fewer. A host that does not know the sheet looks at its first word:
+ * if bits 31..28 of it are 10 the sheet is wide, and bits 15..0 are its places. If
+ * these are 0 or more than 1,024 the sheet is refused, whatever is lent. */
 #define TECUHUALMA_WORD_BYTES 4
 #define TECUHUALMA_DISTANCE_BYTES 8
 #define TECUHUALMA_DISTANCES 4096
 #define TECUHUALMA_DISTANCES_BYTES (TECUHUALMA_DISTANCES * TECUHUALMA_DISTANCE_BYTES)
+#define TECUHUALMA_WIDE_DISTANCES(places) ((size_t)(places) * (size_t)(places))
+#define TECUHUALMA_WIDE_DISTANCES_BYTES(places) \
+    (TECUHUALMA_WIDE_DISTANCES(places) * TECUHUALMA_DISTANCE_BYTES)
 #define TECUHUALMA_RESULT_BYTES 40
 
 /* Answer words that are enough for every sheet of so many places, samples and
- * lines; lines that look ahead or back in time need fewer. */
+ * lines; lines that look ahead or back in time need fewer. The longest answer to a
+ * narrow sheet has 4,194,370 words, the longest to a wide one 67,108,931. */
 #define TECUHUALMA_ANSWER_WORDS(places, samples, lines) \
     (2 + (size_t)(lines) * (1 + (size_t)(places) * (size_t)(samples)))
+#define TECUHUALMA_WIDE_ANSWER_WORDS(places, samples, lines) \
+    (1 + TECUHUALMA_ANSWER_WORDS(places, samples, lines))
 #define TECUHUALMA_MOST_ANSWER_WORDS \
     TECUHUALMA_ANSWER_WORDS(TECUHUALMA_MOST_PLACES, TECUHUALMA_MOST_SAMPLES, TECUHUALMA_MOST_LINES)
+#define TECUHUALMA_MOST_WIDE_ANSWER_WORDS \
+    TECUHUALMA_WIDE_ANSWER_WORDS(TECUHUALMA_MOST_WIDE_PLACES, TECUHUALMA_MOST_SAMPLES, \
+                                 TECUHUALMA_MOST_LINES)
+
+/* The most bytes of the stack that a call takes, for a sheet or an answer of so
+ * many places in either layout. */
+#define TECUHUALMA_STACK_BYTES(places) ((places) <= TECUHUALMA_MOST_PLACES ? 65536 : 524288)
 
 /* The distance of two places that no roads connect. */
 #define TECUHUALMA_NO_DISTANCE UINT64_MAX
@@ -86,22 +114,26 @@ extern "C" {
 enum tecuhualma_result {
     TECUHUALMA_NUMBER = 0, /* 0 on acceptance, else why the sheet is refused */
     TECUHUALMA_PLACE = 1,  /* where the fault is, see below; 0 on acceptance */
-    TECUHUALMA_WORDS = 2,  /* the words of the answer, head to end */
+    TECUHUALMA_WORDS = 2,  /* the words of the answer, first to end */
     TECUHUALMA_ROUNDS = 3, /* the greatest rounds of a surround's run, 0 without a run */
     TECUHUALMA_YES = 4     /* the count of yes verdicts */
 };
 
 /*
- * The numbers. The first fault counts, front to back.
+ * The numbers. The first fault counts, front to back. Number 1 comes before every
+ * fault of a narrow sheet; of a wide sheet it comes after numbers 17 and 3, before
+ * the roads.
  *
  * The place is the index of the faulty word, from 0. It is the sheet's length
  * in words, where no word is to be read, if the word is missing, and with
- * number 15; it is 0 with numbers 1 and 16, whatever the sheet holds.
+ * number 15; it is 0 with numbers 1 and 16, whatever the sheet holds. With number
+ * 17 it is 0 for the word of kind 10 and 1 for the word behind it, and with number
+ * 3 it is 1 if the sheet is wide.
  */
 enum tecuhualma_number {
     TECUHUALMA_ACCEPTED = 0,
-    TECUHUALMA_FEW_DISTANCES = 1,     /* under 4,096 entries lent */
-    TECUHUALMA_HEAD_KIND = 2,         /* head absent or not kind 1 */
+    TECUHUALMA_FEW_DISTANCES = 1,     /* under 4,096 entries lent; wide: under places squared */
+    TECUHUALMA_HEAD_KIND = 2,         /* first word absent, or of neither kind 1 nor 10 */
     TECUHUALMA_HEAD_LIMITS = 3,       /* places, signals or samples outside the limits */
     TECUHUALMA_ROAD_SPARE_BITS = 4,   /* spare bits of a road set */
     TECUHUALMA_ROAD_PLACES = 5,       /* first not below second, or second no place */
@@ -115,7 +147,9 @@ enum tecuhualma_number {
     TECUHUALMA_LINE_LENGTH = 13,      /* a line without a sample */
     TECUHUALMA_END = 14,              /* end absent, not kind 15, miscounted, or not last */
     TECUHUALMA_SHORT_ANSWER = 15,     /* fewer answer words lent than needed */
-    TECUHUALMA_BYTE_LENGTHS = 16      /* a length in bytes that cannot be */
+    TECUHUALMA_BYTE_LENGTHS = 16,     /* a length in bytes that cannot be */
+    TECUHUALMA_WIDE_HEAD = 17         /* places outside 1 to 1,024, spare bits set, or no
+                                         kind 1 word with places 0 behind */
 };
 
 /* What lookup() gives. */
@@ -154,7 +188,9 @@ uint64_t judge(const uint8_t *sheet, size_t sheet_len, uint8_t *distances, size_
  * are not a whole answer, which is to say:
  *
  *  - a multiple of 4 bytes, of which the words are, in this order,
- *  - a head of kind 13: 1 to 64 places, 1 to 64 lines, 1 to 1,024 samples T;
+ *  - a head of kind 13: 1 to 64 places, 1 to 64 lines, 1 to 1,024 samples T; or, of
+ *    a wide answer, a word of kind 10 with 1 to 1,024 places in bits 15..0 and bits
+ *    27..16 zero, then a head of kind 13 whose places are 0;
  *  - for each line a word of kind 14 with its first sample in bits 23..12, its
  *    length in bits 11..0 and bits 27..24 zero: the length at least 1, and both
  *    together at most T; then for each of these samples and each place a word of
@@ -166,7 +202,8 @@ uint64_t judge(const uint8_t *sheet, size_t sheet_len, uint8_t *distances, size_
  * What judge() leaves of an accepted sheet is one; that of a refused sheet is all
  * zero and has no verdict. An answer that somebody else laid out like this is
  * looked up as well: the lookup does not know the sheet. Every call reads the
- * whole answer.
+ * whole answer, which may have 256 MiB if it is wide; for many verdicts of a long
+ * answer, walk its words.
  */
 uint64_t lookup(const uint8_t *answer, size_t answer_len, uint64_t line, uint64_t sample,
                 uint64_t place);
