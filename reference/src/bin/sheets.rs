@@ -8,7 +8,7 @@
 use reference::fast::Fast;
 use reference::generate::case;
 use reference::judge::{judge, Outcome, BYTES_PER_DISTANCE, RESULT_BYTES};
-use reference::layout::DISTANCE_ENTRIES;
+use reference::layout::Front;
 use std::fs;
 use std::io;
 use std::path::PathBuf;
@@ -36,7 +36,8 @@ fn main() -> io::Result<()> {
 }
 
 fn row(sheet: &[u8]) -> String {
-    let mut distances = vec![0; DISTANCE_ENTRIES * BYTES_PER_DISTANCE];
+    let entries = Front::told_by_bytes(sheet).distances_needed();
+    let mut distances = vec![0; entries * BYTES_PER_DISTANCE];
     let mut answer = vec![0; ANSWER_BYTES];
     let mut result = [0; RESULT_BYTES];
     judge::<Fast>(sheet, &mut distances, &mut answer, &mut result);
