@@ -39,6 +39,37 @@ static uint64_t result_of(const struct job *job, enum tecuhualma_result index)
     return number_at(job->result + 8 * (size_t)index, 8);
 }
 
+/* ---- Layouts ---- */
+
+static size_t at_most(size_t number, size_t most)
+{
+    return number < most ? number : most;
+}
+
+/*
+ * What the first words of a sheet or an answer tell, cut off at the limits: a sheet
+ * that passes them is refused anyway.
+ */
+struct front {
+    int wide;
+    size_t words; /* the head and, if wide, the word before it */
+    size_t places, samples;
+};
+
+/* A first word of kind 10 tells the places; else the head does. */
+static struct front front_of(struct bytes words)
+{
+    size_t count = words.length / TECUHUALMA_WORD_BYTES;
+    uint32_t first = count > 0 ? word_at(words, 0) : 0;
+    struct front front = {.wide = first >> 28 == 10};
+    front.words = front.wide ? 2 : 1;
+    front.places = front.wide ? at_most(first & 0xFFFF, TECUHUALMA_MOST_WIDE_PLACES)
+                              : at_most(first >> 20 & 0xFF, TECUHUALMA_MOST_PLACES);
+    uint32_t head = count >= front.words ? word_at(words, front.words - 1) : 0;
+    front.samples = at_most(head & 0xFFF, TECUHUALMA_MOST_SAMPLES);
+    return front;
+}
+
 /* ---- Memory and files ---- */
 
 /* Takes so many bytes; gives 0 if there is no memory for them. */
@@ -84,33 +115,32 @@ static int read_file(const char *path, struct bytes *content)
 
 /* ---- Judging ---- */
 
-static size_t at_most(size_t number, size_t most)
+static size_t distances_bytes(struct front front)
 {
-    return number < most ? number : most;
+    return front.wide ? TECUHUALMA_WIDE_DISTANCES_BYTES(front.places) : TECUHUALMA_DISTANCES_BYTES;
 }
 
 /*
- * Enough words for the answer, whatever the sheet holds: its head tells places
- * and samples, its words of kind 5 the lines. Where these pass a limit the sheet
- * is refused anyway.
+ * Enough words for the answer, whatever the sheet holds: its words of kind 5 tell
+ * the lines.
  */
-static size_t answer_words(struct bytes sheet)
+static size_t answer_words(struct bytes sheet, struct front front)
 {
     size_t words = sheet.length / TECUHUALMA_WORD_BYTES;
     size_t lines = 0;
     for (size_t index = 0; index < words; index++)
         lines += word_at(sheet, index) >> 28 == 5;
-    uint32_t head = words > 0 ? word_at(sheet, 0) : 0;
-    size_t places = at_most(head >> 20 & 0xFF, TECUHUALMA_MOST_PLACES);
-    size_t samples = at_most(head & 0xFFF, TECUHUALMA_MOST_SAMPLES);
-    return TECUHUALMA_ANSWER_WORDS(places, samples, at_most(lines, TECUHUALMA_MOST_LINES));
+    lines = at_most(lines, TECUHUALMA_MOST_LINES);
+    return front.wide ? TECUHUALMA_WIDE_ANSWER_WORDS(front.places, front.samples, lines)
+                      : TECUHUALMA_ANSWER_WORDS(front.places, front.samples, lines);
 }
 
 /* Takes what is to be lent; gives 0 if there is no memory for it. */
 static int lend(struct job *job)
 {
-    return take(&job->distances, TECUHUALMA_DISTANCES_BYTES) &&
-           take(&job->answer, answer_words(job->sheet) * TECUHUALMA_WORD_BYTES);
+    struct front front = front_of(job->sheet);
+    return take(&job->distances, distances_bytes(front)) &&
+           take(&job->answer, answer_words(job->sheet, front) * TECUHUALMA_WORD_BYTES);
 }
 
 static uint64_t judge_job(struct job *job)
@@ -130,7 +160,7 @@ static void give_back(struct job *job)
 
 static const char *const MEANINGS[] = {
     "accepted",
-    "fewer than 4,096 distances lent",
+    "fewer distances lent than needed",
     "the head is absent or not of kind 1",
     "places, signals or samples are outside their limits",
     "spare bits of a road are set",
@@ -146,6 +176,7 @@ static const char *const MEANINGS[] = {
     "the end is absent, not of kind 15, miscounted, or not the last word",
     "fewer answer words lent than needed",
     "a length in bytes cannot be",
+    "a wide sheet's places are outside their limits, or no head without places follows",
 };
 
 /* By what lookup() gives: silence is neither a yes nor a no. */
@@ -154,7 +185,7 @@ static const char *const VERDICTS[] = {" none", " yes", " no"};
 /* The verdicts of a line at a sample of the recording, by the lookup. */
 static void print_sample(const struct job *job, uint64_t line, uint64_t sample)
 {
-    uint32_t places = word_at(job->answer, 0) >> 20 & 0xFF;
+    size_t places = front_of(job->answer).places;
     printf("line %" PRIu64 " at sample %" PRIu64 ":", line, sample);
     for (uint64_t place = 0; place < places; place++) {
         uint64_t verdict = lookup(job->answer.at, job->answer.length, line, sample, place);
@@ -164,8 +195,8 @@ static void print_sample(const struct job *job, uint64_t line, uint64_t sample)
 }
 
 /*
- * Walks an answer's words from the head to the end; kinds 9 and 11 say yes. A
- * line's own word, of kind 14, tells its first sample, which need not be 0; the
+ * Walks an answer's words from the first line to the end; kinds 9 and 11 say yes.
+ * A line's own word, of kind 14, tells its first sample, which need not be 0; the
  * last line is shown there.
  */
 static void print_lines(const struct job *job)
@@ -174,7 +205,7 @@ static void print_lines(const struct job *job)
     uint32_t counts[2] = {0, 0};
     uint64_t line = 0;
     uint32_t first = 0;
-    for (size_t index = 1; index < last; index++) {
+    for (size_t index = front_of(job->answer).words; index < last; index++) {
         uint32_t word = word_at(job->answer, index);
         uint32_t kind = word >> 28;
         if (kind == 14)
@@ -193,7 +224,7 @@ static void print_lines(const struct job *job)
 
 static void print_distance(const struct job *job)
 {
-    uint32_t places = word_at(job->answer, 0) >> 20 & 0xFF;
+    size_t places = front_of(job->answer).places;
     uint64_t distance = number_at(job->distances.at + TECUHUALMA_DISTANCE_BYTES * (places - 1),
                                   TECUHUALMA_DISTANCE_BYTES);
     printf("from the first place to the last: ");
