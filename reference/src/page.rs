@@ -6,8 +6,13 @@ const PAGES: [&str; 2] =
 
 /// The labels of the newcomers' sheets. Those of the planners' page are among the
 /// worked ones.
-pub const SHEETS: [&str; 4] =
-    ["words a-sheet", "words network-sheet", "words islands-sheet", "words back-sheet"];
+pub const SHEETS: [&str; 5] = [
+    "words a-sheet",
+    "words wide-sheet",
+    "words network-sheet",
+    "words islands-sheet",
+    "words back-sheet",
+];
 
 /// The rows of both pages.
 pub fn rows() -> impl Iterator<Item = &'static str> {

@@ -4,11 +4,13 @@ mod common;
 
 use common::*;
 use reference::fast::Fast;
+use reference::judge::{Outcome, BYTES_PER_DISTANCE};
+use reference::layout::Layout;
 use reference::page;
 use reference::print::print;
 use reference::sheet::LAST_CODE;
 use reference::words;
-use reference::worked::{AFTER_RAISING, BEFORE_RAISING};
+use reference::worked::{AFTER_RAISING, BEFORE_RAISING, WIDE_A};
 
 fn printed(words: &[u32]) -> String {
     print::<Fast>(&words::to_bytes(words))
@@ -29,6 +31,27 @@ fn example_a() {
 fn example_a_as_a_file() {
     let file = include_bytes!("../examples/a.sheet");
     assert_eq!(file[..], words::to_bytes(&EXAMPLE_A));
+}
+
+/// Judged with the four distances that it needs.
+#[test]
+fn example_a_laid_out_wide() {
+    let sheet = page::words("words wide-sheet");
+    assert_eq!(sheet, WIDE_A);
+    let answer = page::words("words wide-answer");
+    let left = judged_words(&sheet);
+    assert_eq!(answer_words(&left)[..answer.len()], answer);
+    let expected = Outcome { words: answer.len() as u64, rounds: 1, yes: 11, ..Outcome::default() };
+    assert_eq!(outcome(&left), expected);
+    assert_eq!(left.distances.len(), 4 * BYTES_PER_DISTANCE);
+    assert_eq!(distances(&left, 4), [0, 3, 3, 0]);
+    let narrow = page::block("rows a-printed")[1..].join("\n") + "\n";
+    assert_eq!(printed(&sheet), format!("accepted 21 1 11\n{narrow}"));
+}
+
+#[test]
+fn a_road_of_a_city() {
+    assert_eq!(Layout::Wide.pair_word(300, 1000), 0x2012C3E8);
 }
 
 #[test]
@@ -109,5 +132,5 @@ fn all_sheets_are_listed() {
 fn every_refusal_has_its_row() {
     let rows = page::rows().skip_while(|row| !row.starts_with("| No. |")).skip(2);
     let numbers = rows.map_while(|row| row.split('|').nth(1)?.trim().parse::<u64>().ok());
-    assert_eq!(numbers.collect::<Vec<_>>(), (1..=16).collect::<Vec<_>>());
+    assert_eq!(numbers.collect::<Vec<_>>(), (1..=17).collect::<Vec<_>>());
 }
