@@ -1,7 +1,7 @@
--- The numbers of the refusals 1 to 14 ("Where a sheet is turned back").
+-- The numbers of the refusals 1 to 14 ("Where a sheet is turned back") and 17 (M-104).
 use Prim.Native.Nat.{ℕ}
 use Rattle.checks.specs.declared.fault.Fault.{Fault}
-use Rattle.checks.specs.declared.fault.Fault.the-variants.{DistancesShort, NotHead, SizeOutOfLimits, RoadSpareBits, RoadPlaces, RoadOrder, RoadWeight, NotSample, SampleSpareBit, LineCount, LineFields, LineParameter, LineTooShort, NotEnd}
+use Rattle.checks.specs.declared.fault.Fault.the-variants.{DistancesShort, NotHead, SizeOutOfLimits, RoadSpareBits, RoadPlaces, RoadOrder, RoadWeight, NotSample, SampleSpareBit, LineCount, LineFields, LineParameter, LineTooShort, NotEnd, WideHead}
 
 abbrev pub faultNumber : Fault → ℕ
 faultNumber DistancesShort = 1
@@ -18,3 +18,4 @@ faultNumber LineFields = 11
 faultNumber LineParameter = 12
 faultNumber LineTooShort = 13
 faultNumber NotEnd = 14
+faultNumber WideHead = 17

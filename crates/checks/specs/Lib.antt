@@ -1,4 +1,5 @@
 pub mod Limits
 pub mod Checked
+pub mod Heads
 pub mod Faults
 pub mod Stages

@@ -2,7 +2,7 @@
 ghost use mathlib.Core.Path.{_≡_};
 ghost use Rattle.checks.specs.Faults.{faultNumber};
 
-// A case for each refusal of the sheet itself, in the order of their numbers, 1 to 14.
+// A case for each refusal of the sheet itself, in the order of their numbers, 1 to 14 and 17.
 pub enum Fault {
     DistancesShort,
     NotHead,
@@ -18,9 +18,10 @@ pub enum Fault {
     LineParameter,
     LineTooShort,
     NotEnd,
+    WideHead,
 }
 
-// The cases have no numbers of their own, so that those of document 01 stand here and in `faultNumber` alone.
+// The cases have no numbers of their own, so that those of the documents stand here and in `faultNumber` alone.
 pub fn number(fault: Fault) -> u64
     ensures { λ r. ⌜ r ≡ faultNumber fault ⌝ }
 {
@@ -39,5 +40,6 @@ pub fn number(fault: Fault) -> u64
         Fault::LineParameter => 12,
         Fault::LineTooShort => 13,
         Fault::NotEnd => 14,
+        Fault::WideHead => 17,
     }
 }

@@ -1,5 +1,6 @@
-// What every check of a sheet is made of: the refusals 1 to 14, the limits, and the tests of a word.
+// What every check of a sheet is made of: the refusals 1 to 14 and 17, the limits, the words with which it begins, and the tests of a word.
 pub mod fault;
+pub mod head;
 pub mod limits;
 pub mod stage;
 pub mod word;

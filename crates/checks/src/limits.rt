@@ -2,7 +2,10 @@
 ghost use mathlib.Core.Path.{_≡_};
 ghost use Rattle.checks.specs.Checked.{between};
 
-pub const MOST_PLACES: usize = 64;
+// Of any sheet, which only wide ones have, and of a narrow one.
+pub const MOST_PLACES: usize = 1024;
+
+pub const MOST_NARROW: usize = 64;
 
 pub const MOST_SIGNALS: usize = 16;
 
