@@ -4,8 +4,8 @@ use Prim.Native.Nat.{ℕ, suc, _+_, _-_, _*_, _<_, _≤_, _^_, min}
 use mathlib.Core.Path.{_≡_, refl, sym, _∙_, ap}
 use mathlib.Core.Bool.{Bool, true, false, cond}
 use mathlib.Core.List.{List}
-use native.Mathlib.Nat.{mul-le-mul}
-use native.Mathlib.Decide.{decLt}
+use native.Mathlib.Nat.{mul-le-mul, mul-le-mul-right}
+use native.Mathlib.Decide.{decLt, ℕ-discrete}
 use native.Mathlib.Omega.{arith}
 use lib.Dec.{T, leb→le, ltb}
 use lib.ListN.{length, getD, set}
@@ -104,6 +104,22 @@ module _ (weight : ℕ → ℕ → Distance) (n k : ℕ) where
       ∙ rows-set (entry m) (entry (suc m)) n n a b v ha hb
       (rw (lt-ltb m (suc m) (omega arith)) (sym (relaxed-entry a b x t ha hb hk ex et)))
       (λ p q _ _ o. rw (others m (p * n + q) o))
+
+  -- where k has no distance from a, letting it in leaves the row of a as it is
+  pub relaxing-unreached : (a : ℕ) → a < n → saturated (distance weight k a k) ≡ 2 ^ 64 - 1 → relaxing weight n k (a * n) ≡ relaxing weight n k (a * n + n)
+  unfolding relaxing distance
+  relaxing-unreached a h far = rows-ext (entry (a * n)) (entry (a * n + n)) n n (λ p q b l. at p q b l (ℕ-discrete p a) (decLt p a))
+    where
+      either : (t : Bool) (q : ℕ) → saturated (cond t (distance weight (suc k) a q) (distance weight k a q)) ≡ saturated (distance weight k a q)
+      either true q = saturated-least (distance weight k a q) (distance weight k a k) (distance weight k k q) ∙ omega (arith, far, saturated-most (distance weight k a q))
+      either false q = refl
+
+      at : (p q : ℕ) → p < n → q < n → Dec (p ≡ a) → Dec (p < a) → entry (a * n) p q ≡ entry (a * n + n) p q
+      at p q b l (yes e) d = rw e (either (ltb (a * n + q) (a * n)) q ∙ sym (either (ltb (a * n + q) (a * n + n)) q))
+      at p q b l (no e) (yes c) = let under = in-table c l in rw (lt-ltb (p * n + q) (a * n) (omega arith), lt-ltb (p * n + q) (a * n + n) (omega arith))
+      at p q b l (no e) (no c) =
+          let over : suc a * n ≤ p * n = mul-le-mul-right n (omega arith) in
+          rw (le-ltb (p * n + q) (a * n) (omega arith), le-ltb (p * n + q) (a * n + n) (omega arith))
 
 -- ---- every place let in
 exact : (d : Distance) → ((z : ℕ) → d ≡ dist z → z < 2 ^ 64) → saturated d ≡ distanceNumber d

@@ -10,13 +10,10 @@ use native.Mathlib.Omega.{arith}
 use lib.Dec.{ltb, eqb}
 use lib.ListN.{set, replicate, length-replicate, getD-replicate}
 use borrow.Author.Tests.{lt-ltb, le-ltb, eq-eqb, ne-eqb}
-use Rattle.words.specs.Word.{payloadOf}
 use Rattle.words.specs.Rows.{rows}
 use Rattle.words.proofs.Rows.{in-table, list-rows, rows-ext, rows-set}
 use Rattle.network.specs.Distance.{dist, none, direct, distance}
-use Rattle.checks.specs.Checked.{wordAt}
-use Rattle.roads.specs.Roads.{roadAt, weightAt, firstPlace, secondPlace}
-use Rattle.roads.specs.Roads.{GoodRoad, joins, weightAmong}
+use Rattle.roads.specs.Roads.{GoodRoad, firstOf, secondOf, weightOf, joins, weightAmong}
 use Rattle.roads.specs.DistanceStages.{saturated, stage}
 
 -- ---- the diagonal
@@ -60,20 +57,20 @@ unfolding weightAmong
 light s zero a b x e = let z : _≡_ {A = ℕ} 0 1 = cc in absurd (omega arith)
 light s (suc r) a b x e = go (joins s r a b) e (light s r a b x)
   where
-    go : (t : Bool) → elim t [ true ↦ dist (payloadOf (wordAt s (weightAt r))) | false ↦ weightAmong s r a b ] ≡ dist x
+    go : (t : Bool) → elim t [ true ↦ dist (weightOf s r) | false ↦ weightAmong s r a b ] ≡ dist x
         → (weightAmong s r a b ≡ dist x → x ≤ 2 ^ 28) → x ≤ 2 ^ 28
-    go true e f = let q : payloadOf (wordAt s (weightAt r)) ≡ x = cc in omega arith
+    go true e f = let q : weightOf s r ≡ x = cc in omega arith
     go false e f = f e
 
 module _ (s : List ℕ) (n r : ℕ) (good : GoodRoad s n r) where
   abbrev first : ℕ
-  first = firstPlace (wordAt s (roadAt r))
+  first = firstOf s r
 
   abbrev second : ℕ
-  second = secondPlace (wordAt s (roadAt r))
+  second = secondOf s r
 
   abbrev weight : ℕ
-  weight = payloadOf (wordAt s (weightAt r))
+  weight = weightOf s r
 
   -- an entry before and after the road, and with the road stored one way
   before : ℕ → ℕ → ℕ

@@ -1,7 +1,8 @@
--- The roads of a sheet ("The sheet"; refusals 4 to 7), the network that they make, and its distances as the lent table holds them ("Distance").
+-- The roads of a sheet, narrow or wide ("The sheet", request M-104; refusals 4 to 7), the network that they make, and its distances as the lent table holds
+-- them ("Distance").
 use Prim.Native.Nat.{ℕ, zero, suc, _+_, _-_, _*_, _<_, _^_}
 use mathlib.Core.Path.{_≡_}
-use mathlib.Core.Bool.{Bool, true, false, _&&_, _||_}
+use mathlib.Core.Bool.{Bool, true, false, cond, _&&_, _||_}
 use mathlib.Core.List.{List}
 use lib.Dec.{T, eqb, ltb}
 use lib.ListN.{getD}
@@ -10,59 +11,79 @@ use Rattle.words.specs.Rows.{rows}
 use Rattle.network.specs.Distance.{Distance, dist, none}
 use Rattle.network.specs.Network.{Network, distanceIn}
 use Rattle.checks.specs.Checked.{Checked, accepted, _>>=_, require, wordAt, isKind}
+use Rattle.checks.specs.Heads.{headWords, isWide}
+
+-- ---- where a road stands and what its first word says: eight bits for a place in a narrow sheet, twelve in a wide one (M-104)
 
 -- the two words of a road, given how many roads stand before it; after the last the samples begin
-abbrev pub roadAt : ℕ → ℕ
-roadAt r = 1 + 2 * r
+abbrev pub roadAt : Bool → ℕ → ℕ
+roadAt wide r = headWords wide + 2 * r
 
-abbrev pub weightAt : ℕ → ℕ
-weightAt r = roadAt r + 1
+abbrev pub weightAt : Bool → ℕ → ℕ
+weightAt wide r = roadAt wide r + 1
 
--- a road's first word: bits 15..8 the first place, 7..0 the second
-abbrev pub firstPlace : ℕ → ℕ
-firstPlace w = bits 8 8 w
+abbrev pub placeBits : Bool → ℕ
+placeBits wide = cond wide 12 8
 
-abbrev pub secondPlace : ℕ → ℕ
-secondPlace w = bits 0 8 w
+-- the second place in the lowest bits, the first above it, then spare bits
+abbrev pub firstPlace : Bool → ℕ → ℕ
+firstPlace wide w = bits (placeBits wide) (placeBits wide) w
+
+abbrev pub secondPlace : Bool → ℕ → ℕ
+secondPlace wide w = bits 0 (placeBits wide) w
+
+abbrev pub spareBits : Bool → ℕ → ℕ
+spareBits wide w = bits (2 * placeBits wide) (28 - 2 * placeBits wide) w
+
+-- both places as one number: the order of such numbers is that of the pairs
+abbrev pub placePair : Bool → ℕ → ℕ
+placePair wide w = bits 0 (2 * placeBits wide) w
 
 module _ (s : List ℕ) where
-  -- The road at an index, after one with the payload `last` (0 before the first): its payload. With bits 27..16 zero, the order of pairs is the
-  -- order of payloads.
+  -- the road at an index, after one with the pair `last` (0 before the first): its pair
   unfoldable pub roadChecked : ℕ → ℕ → ℕ → Checked ℕ
   roadChecked n at last =
       let w : ℕ = wordAt s at in
-      require (eqb (bits 16 12 w) 0) 4 at
-      (require (ltb (firstPlace w) (secondPlace w) && ltb (secondPlace w) n) 5 at
-      (require (ltb last (payloadOf w)) 6 at
+      let wide : Bool = isWide s in
+      require (eqb (spareBits wide w) 0) 4 at
+      (require (ltb (firstPlace wide w) (secondPlace wide w) && ltb (secondPlace wide w) n) 5 at
+      (require (ltb last (placePair wide w)) 6 at
       (require (isKind 3 s (at + 1) && ltb 0 (payloadOf (wordAt s (at + 1)))) 7 (at + 1)
-      (accepted (payloadOf w)))))
+      (accepted (placePair wide w)))))
 
   -- how many roads there are, r of them read: the first word that is not of kind 2 ends them. `words` bounds the roads that may come.
   unfoldable pub roadsFrom : ℕ → ℕ → ℕ → ℕ → Checked ℕ
   roadsFrom n zero r last = accepted r
-  roadsFrom n (suc words) r last = elim (isKind 2 s (roadAt r)) [
-    | true ↦ roadChecked n (roadAt r) last >>= λ payload. roadsFrom n words (suc r) payload
+  roadsFrom n (suc words) r last = elim (isKind 2 s (roadAt (isWide s) r)) [
+    | true ↦ roadChecked n (roadAt (isWide s) r) last >>= λ pair. roadsFrom n words (suc r) pair
     | false ↦ accepted r
   ]
 
+  -- the ends and the weight of a road
+  abbrev pub firstOf : ℕ → ℕ
+  firstOf r = firstPlace (isWide s) (wordAt s (roadAt (isWide s) r))
+
+  abbrev pub secondOf : ℕ → ℕ
+  secondOf r = secondPlace (isWide s) (wordAt s (roadAt (isWide s) r))
+
+  abbrev pub weightOf : ℕ → ℕ
+  weightOf r = payloadOf (wordAt s (weightAt (isWide s) r))
+
   -- what the distances need of a road that passed
   pub record GoodRoad (n r : ℕ) : Type 0 where
-    pub road : T (isKind 2 s (roadAt r))
-    pub weight : T (isKind 3 s (weightAt r))
-    pub order : firstPlace (wordAt s (roadAt r)) < secondPlace (wordAt s (roadAt r))
-    pub inside : secondPlace (wordAt s (roadAt r)) < n
+    pub road : T (isKind 2 s (roadAt (isWide s) r))
+    pub weight : T (isKind 3 s (weightAt (isWide s) r))
+    pub order : firstOf r < secondOf r
+    pub inside : secondOf r < n
 
   -- road r joins a and b; roads run both ways
   unfoldable pub joins : ℕ → ℕ → ℕ → Bool
-  joins r a b =
-      let first : ℕ = firstPlace (wordAt s (roadAt r)) in
-      let second : ℕ = secondPlace (wordAt s (roadAt r)) in
-      eqb first a && eqb second b || eqb first b && eqb second a
+  joins r a b = eqb (firstOf r) a && eqb (secondOf r) b || eqb (firstOf r) b && eqb (secondOf r) a
 
   -- the weight of the road between a and b among the first r roads
   unfoldable pub weightAmong : ℕ → ℕ → ℕ → Distance
   weightAmong zero a b = none
-  weightAmong (suc r) a b = elim (joins r a b) [ true ↦ dist (payloadOf (wordAt s (weightAt r))) | false ↦ weightAmong r a b ]
+  weightAmong (suc r) a b = elim (joins r a b) [ true ↦ dist (weightOf r) | false ↦ weightAmong r a b ]
 
   -- the network of so many places and roads
   abbrev pub networkOf : ℕ → ℕ → Network

@@ -2,9 +2,10 @@
 // Paths are let through one more place at a time (Floyd and Warshall). Within one table this is right because the row and the
 // column of the place that is let in do not change in its turn.
 use crate::road::first_place;
-use crate::road::road_word;
+use crate::road::road_at;
 use crate::road::second_place;
 use crate::road::weight;
+use checks::head::is_wide;
 ghost use mathlib.Core.Path.{_≡_};
 ghost use Prim.Native.Nat.{ℕ, _+_, _-_, _*_, _<_, _≤_, _^_, min};
 ghost use lib.ListN.{length, set, drop, replicate};
@@ -52,12 +53,14 @@ fn put_road(s: &[u8], n: usize, r: usize, table: &mut [u8])
     requires { ⌜ GoodRoad (wordsOf (now s)) n r × (numbersOf (wordsOf (now table)) ≡ stage (weightAmong (wordsOf (now s)) r) n 0) ⌝ }
     ensures { λ _. ⌜ numbersOf (wordsOf (now (table .exit))) ≡ stage (weightAmong (wordsOf (now (s .entry))) (r + 1)) n 0 ⌝ }
 {
-    let road = road_word(s, r);
+    let wide = is_wide(s);
+    let at = road_at(wide, r);
+    let road = words::word_at(s, at);
     put_both(
         n,
-        first_place(road),
-        second_place(road),
-        weight(s, r),
+        first_place(road, wide),
+        second_place(road, wide),
+        weight(s, at + 1),
         table,
     );
 }
@@ -96,7 +99,7 @@ fn relax(x: u64, from: usize, to: usize, table: &mut [u8])
     words::put_number(table, to, lesser(d, sum(x, y)));
 }
 
-// The distances from a, by way of k where that is less.
+// The distances from a, by way of k where that is less. Where k has none from a, none is.
 fn relax_row(n: usize, k: usize, a: usize, table: &mut [u8])
     requires { ⌜ (k < n) × (a < n) × (length (numbersOf (wordsOf (now table))) ≡ n * n) ⌝ }
     ensures { λ _. ⌜ Leads (λ weight. relaxing weight n k (a * n)) (λ weight. relaxing weight n k (a * n + n)) (now (table .entry)) (now (table .exit)) ⌝ }
@@ -104,6 +107,9 @@ fn relax_row(n: usize, k: usize, a: usize, table: &mut [u8])
     let row = a * n;
     let via = k * n;
     let x = words::number_at(table, row + k);
+    if x == NONE {
+        return;
+    }
     for b in 0..n {
         relax(x, via + b, row + b, table);
     }

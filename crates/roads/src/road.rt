@@ -1,11 +1,12 @@
-// The two words of a road: where they stand, and what they say.
+// The two words of a road: where they stand, and what they say, in a narrow sheet and in a wide one.
+use checks::head::head_words;
 ghost use mathlib.Core.Path.{_≡_};
 ghost use Prim.Native.Nat.{_<_, _^_};
 ghost use lib.ListN.{length};
 ghost use Rattle.words.specs.Word.{payloadOf};
 ghost use Rattle.words.specs.Bytes.{wordsOf};
 ghost use Rattle.checks.specs.Checked.{wordAt};
-ghost use Rattle.roads.specs.Roads.{roadAt, weightAt, firstPlace, secondPlace};
+ghost use Rattle.roads.specs.Roads.{roadAt, firstPlace, secondPlace, spareBits, placePair};
 
 // How many places a sheet has, and how many roads among them.
 pub struct Network {
@@ -13,38 +14,54 @@ pub struct Network {
     pub roads: usize,
 }
 
-// After the head and two words for each road before it.
-fn road_at(r: usize) -> usize
-    requires { ⌜ roadAt r < 2 ^ 64 ⌝ }
-    ensures { λ at. ⌜ at ≡ roadAt r ⌝ }
+// After the head's words and two words for each road before it.
+pub fn road_at(wide: bool, r: usize) -> usize
+    requires { ⌜ roadAt wide r < 2 ^ 64 ⌝ }
+    ensures { λ at. ⌜ at ≡ roadAt wide r ⌝ }
 {
-    1 + 2 * r
+    head_words(wide) + 2 * r
 }
 
-// The first word, which says the places.
-pub fn road_word(s: &[u8], r: usize) -> u32
-    requires { ⌜ roadAt r < length (wordsOf (now s)) ⌝ }
-    ensures { λ w. ⌜ w ≡ wordAt (wordsOf (now (s .entry))) (roadAt r) ⌝ }
+pub fn first_place(road: u32, wide: bool) -> usize
+    ensures { λ r. ⌜ r ≡ firstPlace wide road ⌝ }
 {
-    words::word_at(s, road_at(r))
-}
-
-pub fn first_place(road: u32) -> usize
-    ensures { λ r. ⌜ r ≡ firstPlace road ⌝ }
-{
+    if wide {
+        return (road / 4096 % 4096) as usize;
+    }
     (road / 256 % 256) as usize
 }
 
-pub fn second_place(road: u32) -> usize
-    ensures { λ r. ⌜ r ≡ secondPlace road ⌝ }
+pub fn second_place(road: u32, wide: bool) -> usize
+    ensures { λ r. ⌜ r ≡ secondPlace wide road ⌝ }
 {
+    if wide {
+        return (road % 4096) as usize;
+    }
     (road % 256) as usize
 }
 
-// The weight, as wide as a distance.
-pub(crate) fn weight(s: &[u8], r: usize) -> u64
-    requires { ⌜ weightAt r < length (wordsOf (now s)) ⌝ }
-    ensures { λ w. ⌜ w ≡ payloadOf (wordAt (wordsOf (now (s .entry))) (weightAt r)) ⌝ }
+pub(crate) fn spare_bits(road: u32, wide: bool) -> u32
+    ensures { λ r. ⌜ r ≡ spareBits wide road ⌝ }
 {
-    words::payload(words::word_at(s, road_at(r) + 1)) as u64
+    if wide {
+        return road / 16777216 % 16;
+    }
+    road / 65536 % 4096
+}
+
+pub(crate) fn place_pair(road: u32, wide: bool) -> usize
+    ensures { λ r. ⌜ r ≡ placePair wide road ⌝ }
+{
+    if wide {
+        return (road % 16777216) as usize;
+    }
+    (road % 65536) as usize
+}
+
+// The weight in the word after the first, as wide as a distance.
+pub(crate) fn weight(s: &[u8], at: usize) -> u64
+    requires { ⌜ at < length (wordsOf (now s)) ⌝ }
+    ensures { λ w. ⌜ w ≡ payloadOf (wordAt (wordsOf (now (s .entry))) at) ⌝ }
+{
+    words::payload(words::word_at(s, at)) as u64
 }

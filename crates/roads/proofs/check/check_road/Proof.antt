@@ -1,94 +1,116 @@
 -- Spare bits, places, order, weight: each test of the code decides one of the definition's.
 use mathlib.Core.Path.{_≡_, sym, _∙_}
 use Prim.Native.Nat.{ℕ, _+_}
-use mathlib.Core.Bool.{true, _&&_}
+use mathlib.Core.Bool.{Bool, true, _&&_}
 use mathlib.Core.List.{List}
 use native.Mathlib.Omega.{arith}
 use lib.Dec.{ltb, eqb}
 use borrow.Author.Tests.{lt-ltb, le-ltb, eq-eqb, ne-eqb, not-true, not-false}
 use Rattle.words.specs.Bytes.{wordsOf}
-use Rattle.words.specs.Word.{bits, payloadOf}
+use Rattle.words.specs.Word.{payloadOf}
 use Rattle.words.proofs.Words.{words-count}
 use Rattle.checks.specs.Checked.{Checked, accepted, require, wordAt, isKind}
-use Rattle.roads.specs.Roads.{firstPlace, secondPlace, roadChecked}
+use Rattle.checks.specs.Heads.{isWide}
+use Rattle.roads.specs.Roads.{firstPlace, secondPlace, spareBits, roadChecked}
 use borrow.Author.Needs.{needs}
 use Rattle.roads.proofs.check.check_road.Statement.{statement}
 use Rattle.roads.proofs.check.check_road.Tie as tie
 
+-- the word and its layout as they were read
+module _ (c : tie.After-spare-bits) where
+  abbrev start : tie.Start
+  start = c .before .before .before .before
+
+  abbrev sheet : List ℕ
+  sheet = wordsOf (start .args .s .now)
+
+  abbrev word : ℕ
+  word = c .before .before .word-or-zero .result
+
+  abbrev wide : Bool
+  wide = c .before .is-wide .result
+
+  layout : isWide sheet ≡ wide
+  layout = sym (c .before .is-wide .ensures)
+
+  read : wordAt sheet (start .args .at) ≡ word
+  read = sym (c .before .before .word-or-zero .ensures)
+
+  spare : spareBits wide word ≡ c .spare-bits .result
+  spare = sym (c .spare-bits .ensures)
+
 returns : tie.Need-returns
 unfolding roadChecked
-returns c = simp (← c .before .word-or-zero .ensures, ne-eqb _ 0 (c .if1 .taken))
+returns c = simp (read (c .before), layout (c .before), spare (c .before), ne-eqb _ 0 (c .if1 .taken))
 
 -- the places as they were read, where the spare bits have passed
 module _ (c : tie.After-first-place) where
-  abbrev word : ℕ
-  word = c .before .before .before .word-or-zero .result
+  abbrev before : tie.After-spare-bits
+  before = c .before .before .before
 
-  first-read : firstPlace word ≡ c .first-place .result
+  first-read : firstPlace (wide before) (word before) ≡ c .first-place .result
   first-read = sym (c .first-place .ensures)
 
-  second-read : secondPlace word ≡ c .before .second-place .result
+  second-read : secondPlace (wide before) (word before) ≡ c .before .second-place .result
   second-read = sym (c .before .second-place .ensures)
 
-  spare-zero : eqb (bits 16 12 word) 0 ≡ true
+  spare-zero : eqb (before .spare-bits .result) 0 ≡ true
   spare-zero = eq-eqb _ 0 (c .before .before .if1 .left)
 
 returns-2 : tie.Need-returns-2
 unfolding roadChecked
 returns-2 c =
     let p = c .before in
-    simp (← p .before .before .before .word-or-zero .ensures, spare-zero p, first-read p, second-read p, le-ltb _ _ (c .if2 .taken))
+    let b = before p in
+    simp (read b, layout b, spare b, spare-zero p, first-read p, second-read p, le-ltb _ _ (c .if2 .taken))
 
 returns-3 : tie.Need-returns-3
 unfolding roadChecked
 returns-3 c =
     let p = c .before .before in
-    simp (← p .before .before .before .word-or-zero .ensures, spare-zero p, first-read p, second-read p, lt-ltb _ _ (c .before .if2 .left), le-ltb _ _ (c .if3 .taken))
+    let b = before p in
+    simp (read b, layout b, spare b, spare-zero p, first-read p, second-read p, lt-ltb _ _ (c .before .if2 .left), le-ltb _ _ (c .if3 .taken))
 
 -- ---- the places have passed: what is left is the order, and the weight
 
-abbrev bytes : tie.After-payload → List ℕ
-bytes c = c .before .before .before .before .before .before .before .before .args .s .now
+abbrev placed : tie.After-place-pair → tie.After-spare-bits
+placed c = before (c .before .before .before)
 
-abbrev sheet : tie.After-payload → List ℕ
-sheet c = wordsOf (bytes c)
+abbrev index : tie.After-place-pair → ℕ
+index c = start (placed c) .args .at
 
-abbrev index : tie.After-payload → ℕ
-index c = c .before .before .before .before .before .before .before .before .args .at
+abbrev checked : tie.After-place-pair → Checked ℕ
+checked c = roadChecked (sheet (placed c)) (start (placed c) .args .places) (index c) (start (placed c) .args .last)
 
-abbrev places : tie.After-payload → ℕ
-places c = c .before .before .before .before .before .before .before .before .args .places
+abbrev weighed : tie.After-place-pair → Checked ℕ
+weighed c = require (isKind 3 (sheet (placed c)) (index c + 1) && ltb 0 (payloadOf (wordAt (sheet (placed c)) (index c + 1)))) 7 (index c + 1) (accepted (c .place-pair .result))
 
-abbrev last : tie.After-payload → ℕ
-last c = c .before .before .before .before .before .before .before .before .args .last
-
-abbrev weighed : tie.After-payload → Checked ℕ
-weighed c = require (isKind 3 (sheet c) (index c + 1) && ltb 0 (payloadOf (wordAt (sheet c) (index c + 1)))) 7 (index c + 1) (accepted (c .payload .result))
-
-order-next : (c : tie.After-payload) → roadChecked (sheet c) (places c) (index c) (last c) ≡ require (ltb (last c) (c .payload .result)) 6 (index c) (weighed c)
+order-next : (c : tie.After-place-pair) → checked c ≡ require (ltb (start (placed c) .args .last) (c .place-pair .result)) 6 (index c) (weighed c)
 unfolding roadChecked
 order-next c =
-    let placed = c .before in
-    let p = placed .before .before in
+    let p = c .before .before .before in
+    let b = placed c in
     simp (
-      ← p .before .before .before .word-or-zero .ensures,
+      read b,
+      layout b,
+      spare b,
       spare-zero p,
       first-read p,
       second-read p,
-      lt-ltb _ _ (placed .before .if2 .left),
-      lt-ltb _ _ (placed .if3 .left),
-      ← c .payload .ensures,
+      lt-ltb _ _ (c .before .before .if2 .left),
+      lt-ltb _ _ (c .before .if3 .left),
+      ← c .place-pair .ensures,
     )
 
 returns-4 : tie.Need-returns-4
 returns-4 c = sym (order-next (c .before) ∙ simp (le-ltb _ _ (c .if4 .taken)))
 
 add-next : tie.Need-add-next
-add-next c = omega (arith, words-count (bytes (c .before)))
+add-next c = omega (arith, words-count (start (placed (c .before)) .args .s .now))
 
 -- ---- the order has passed
 
-weight-next : (c : tie.Else4) → roadChecked (sheet (c .before)) (places (c .before)) (index (c .before)) (last (c .before)) ≡ weighed (c .before)
+weight-next : (c : tie.Else4) → checked (c .before) ≡ weighed (c .before)
 weight-next c = order-next (c .before) ∙ simp (lt-ltb _ _ (c .if4 .left))
 
 returns-5 : tie.Need-returns-5
@@ -98,26 +120,25 @@ returns-5 c =
 
 -- ---- the weight's word is there: what is left is that it is not 0
 
-abbrev read : tie.After-payload2 → tie.After-payload
-read c = c .before .before .before .before .before
-
-positive-next : (c : tie.After-payload2) → roadChecked (sheet (read c)) (places (read c)) (index (read c)) (last (read c))
-    ≡ require (ltb 0 (c .payload2 .result)) 7 (index (read c) + 1) (accepted (read c .payload .result))
+positive-next : (c : tie.After-payload) → let paired = c .before .before .before .before .before in
+    checked paired ≡ require (ltb 0 (c .payload .result)) 7 (index paired + 1) (accepted (paired .place-pair .result))
 positive-next c =
     let there = c .before .before in
     let kind-3 = sym (there .before .is-kind .ensures) ∙ not-false _ (there .if5 .left) in
-    weight-next (there .before .before) ∙ simp (kind-3, ← c .before .word-or-zero2 .ensures, ← c .payload2 .ensures)
+    weight-next (there .before .before) ∙ simp (kind-3, ← c .before .word-or-zero2 .ensures, ← c .payload .ensures)
 
 returns-6 : tie.Need-returns-6
-returns-6 c = sym (positive-next (c .before) ∙ simp (le-ltb 0 (c .before .payload2 .result) (omega (arith, c .if6 .taken))))
+returns-6 c = sym (positive-next (c .before) ∙ simp (le-ltb 0 (c .before .payload .result) (omega (arith, c .if6 .taken))))
 
 returns-7 : tie.Need-returns-7
-returns-7 c = sym (positive-next (c .before) ∙ simp (lt-ltb 0 (c .before .payload2 .result) (omega (arith, c .if6 .left))))
+returns-7 c = sym (positive-next (c .before) ∙ simp (lt-ltb 0 (c .before .payload .result) (omega (arith, c .if6 .left))))
 
 pub check-road-spec : {M : Type 1} → statement M
 check-road-spec =
     tie.close
     (tie.spec
+    (λ c κs. search needs)
+    (λ c κs. search needs)
     (λ c κs. search needs)
     returns
     (λ c κs. search needs)
@@ -125,7 +146,6 @@ check-road-spec =
     returns-2
     returns-3
     (λ c κs. search needs)
-    (λ c. search needs)
     returns-4
     add-next
     (λ c κs. search needs)

@@ -8,6 +8,7 @@ use lib.ListN.{length}
 use Rattle.words.specs.Bytes.{wordsOf}
 use Rattle.words.proofs.Words.{words-count}
 use Rattle.checks.specs.Checked.{accepted, isKind}
+use Rattle.checks.specs.Heads.{headWords}
 use Rattle.roads.specs.Roads.{roadChecked}
 use Rattle.checks.specs.Stages.{stageSaid}
 use Rattle.checks.proofs.Tests.{kind-told}
@@ -23,18 +24,21 @@ abbrev μ-loop : tie.MeasureT-loop
 μ-loop s places at₀ last₀ at last = length (wordsOf s) - at
 
 loop-holds : tie.Need-loop-holds Inv-loop μ-loop
-loop-holds c = roads-start (wordsOf (c .before .args .s .now)) (c .before .args .places)
+loop-holds c =
+    let start = c .before .before .before in
+    let from = c .head-words .ensures ∙ ap headWords (c .before .is-wide .ensures) in
+    rw from (roads-start (wordsOf (start .args .s .now)) (start .args .places))
 
 -- ---- there is a road
 
 abbrev bytes : tie.Then1 Inv-loop μ-loop → List ℕ
-bytes c = c .before .before .before .before .args .s .now
+bytes c = c .before .before .before .before .before .before .args .s .now
 
 abbrev sheet : tie.Then1 Inv-loop μ-loop → List ℕ
 sheet c = wordsOf (bytes c)
 
 abbrev places : tie.Then1 Inv-loop μ-loop → ℕ
-places c = c .before .before .before .before .args .places
+places c = c .before .before .before .before .before .before .args .places
 
 abbrev index : tie.Then1 Inv-loop μ-loop → ℕ
 index c = c .before .before .loop .at
@@ -57,8 +61,8 @@ abbrev to-road : tie.After-known-told2 Inv-loop μ-loop → tie.Then1 Inv-loop �
 to-road c = c .before .before .before .before
 
 passed : (c : tie.After-known-told2 Inv-loop μ-loop)
-    → roadChecked (sheet (to-road c)) (places (to-road c)) (index (to-road c)) (to-road c .before .before .loop .last) ≡ accepted (c .before .payload .given .0 .0)
-passed c = sym (c .before .before .before .check-road .ensures) ∙ ap stageSaid (c .before .payload .given .1)
+    → roadChecked (sheet (to-road c)) (places (to-road c)) (index (to-road c)) (to-road c .before .before .loop .last) ≡ accepted (c .before .pair .given .0 .0)
+passed c = sym (c .before .before .before .check-road .ensures) ∙ ap stageSaid (c .before .pair .given .1)
 
 fits : (c : tie.After-known-told2 Inv-loop μ-loop) → index (to-road c) + 1 < length (sheet (to-road c))
 fits c = road-there (sheet (to-road c)) (places (to-road c)) (index (to-road c)) (to-road c .before .before .loop .last) (passed c)
@@ -76,7 +80,7 @@ loop-again c =
 
 returns-2 : tie.Need-returns-2 Inv-loop μ-loop
 returns-2 c =
-    let g = c .before .before .before .before .args in
+    let g = c .before .before .before .before .before .before .args in
     sym (roads-done (wordsOf (g .s .now)) (g .places) (c .before .before .loop .inv) (sym (c .before .is-kind .ensures) ∙ c .if1 .left))
 
 pub check-roads-spec : {M : Type 1} → statement M
@@ -85,6 +89,8 @@ check-roads-spec =
     (tie.spec
     Inv-loop
     μ-loop
+    (λ c κs. search needs)
+    (λ c κs. search needs)
     loop-holds
     (λ c κs. search needs)
     check-road-requires

@@ -1,7 +1,7 @@
 -- The loop's invariant, for every network whose table this is: k is let in at the entries before a * n + b. The distance from a to k that
 -- was read before the loop is the same after it.
 use Prim.Native.Nat.{ℕ, suc, _+_, _-_, _*_, _<_, _≤_}
-use mathlib.Core.Path.{_≡_, refl, _∙_, ap}
+use mathlib.Core.Path.{_≡_, refl, sym, _∙_, ap}
 use mathlib.Core.List.{List}
 use native.Mathlib.Omega.{arith}
 use lib.ListN.{length, getD}
@@ -10,7 +10,7 @@ use Rattle.words.proofs.Numbers.{length-numbers, same-count}
 use Rattle.words.proofs.Rows.{in-table}
 use Rattle.network.specs.Distance.{Distance, distance}
 use Rattle.roads.specs.DistanceStages.{saturated, relaxing}
-use Rattle.roads.proofs.DistanceStages.{relaxing-to, relaxing-more}
+use Rattle.roads.proofs.DistanceStages.{relaxing-to, relaxing-more, relaxing-unreached}
 use borrow.Author.Needs.{needs}
 use Rattle.roads.proofs.distances.relax_row.Statement.{statement}
 use Rattle.roads.proofs.distances.relax_row.Tie as tie
@@ -38,26 +38,36 @@ number-at-requires c κs =
     let l : g .a * g .n + g .k < length (numbersOf (wordsOf (g .table .now))) = omega (arith, in-table (c .before .before .pre .1) (c .before .before .pre .0)) in
     l
 
+-- k has no distance from a
+returns : tie.Need-returns Inv-loop μ-loop
+returns c =
+    let start = c .before .before .before .before in
+    let g = start .args in
+    let x = c .before .number-at in
+    λ w e.
+    e ∙ relaxing-unreached w (g .n) (g .k) (g .a) (start .pre .1)
+    (sym (x .ensures ∙ ap (λ (t : List ℕ). getD t (g .a * g .n + g .k) 0) e ∙ relaxing-to w (g .n) (g .k) (g .a * g .n) (g .a) (start .pre .1) (start .pre .0)) ∙ c .if1 .taken)
+
 loop-holds : tie.Need-loop-holds Inv-loop μ-loop
 loop-holds c =
-    let g = c .before .before .before .args in
+    let g = c .before .before .before .before .args in
     let z : g .a * g .n ≡ g .a * g .n + 0 = omega arith in
     (search needs, refl, λ w e. e ∙ ap (relaxing w (g .n) (g .k)) z)
 
 add-relax : tie.Need-add-relax Inv-loop μ-loop
 add-relax c =
-    let o = c .before .before .before .before .before in
+    let o = c .before .before .before .before .before .before in
     omega (arith, in-table (o .pre .0) (c .loop-test .taken), length-numbers (o .args .table .now))
 
 add-relax-2 : tie.Need-add-relax-2 Inv-loop μ-loop
 add-relax-2 c =
-    let o = c .before .before .before .before .before in
+    let o = c .before .before .before .before .before .before in
     omega (arith, in-table (o .pre .1) (c .loop-test .taken), length-numbers (o .args .table .now))
 
 relax-requires : tie.Need-relax-requires Inv-loop μ-loop
 relax-requires c κs =
-    let g = c .before .before .before .before .before .before .args in
-    let p = c .before .before .before .before .before .before .pre in
+    let g = c .before .before .before .before .before .before .before .args in
+    let p = c .before .before .before .before .before .before .before .pre in
     let h = c .before .before .loop in
     let s = same-count (h .table) (g .table .now) (h .inv .1) in
     let from : g .k * g .n + h .b < length (numbersOf (wordsOf (h .table))) = omega (arith, in-table (p .0) (c .before .loop-test .taken)) in
@@ -66,11 +76,11 @@ relax-requires c κs =
 
 loop-again : tie.Need-loop-again Inv-loop μ-loop
 loop-again c =
-    let g = c .before .before .before .before .before .before .before .before .before .args in
-    let p = c .before .before .before .before .before .before .before .before .before .pre in
+    let g = c .before .before .before .before .before .before .before .before .before .before .args in
+    let p = c .before .before .before .before .before .before .before .before .before .before .pre in
     let h = c .before .before .before .before .before .loop in
     let d = c .before .before .relax in
-    let x = c .before .before .before .before .before .before .number-at in
+    let x = c .before .before .before .before .before .before .before .number-at in
     let taken = c .before .before .before .before .loop-test .taken in
     let z : suc (g .a * g .n + h .b) ≡ g .a * g .n + (h .b + 1) = omega arith in (
       omega arith,
@@ -83,9 +93,9 @@ loop-again c =
           ∙ ap (relaxing w (g .n) (g .k)) z,
     )
 
-returns : tie.Need-returns Inv-loop μ-loop
-returns c =
-    let g = c .before .before .before .before .before .args in
+returns-2 : tie.Need-returns-2 Inv-loop μ-loop
+returns-2 c =
+    let g = c .before .before .before .before .before .before .args in
     let h = c .before .loop in
     let q : h .b ≡ g .n = omega arith in
     λ w e. h .inv .2 w e ∙ ap (λ (j : ℕ). relaxing w (g .n) (g .k) (g .a * g .n + j)) q
@@ -100,6 +110,8 @@ relax-row-spec =
     mul-via
     add-number-at
     number-at-requires
+    (λ c. search needs)
+    returns
     loop-holds
     add-relax
     add-relax-2
@@ -108,4 +120,4 @@ relax-row-spec =
     (λ c. search needs)
     loop-again
     (λ c. search needs)
-    returns)
+    returns-2)
