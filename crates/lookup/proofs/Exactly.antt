@@ -15,9 +15,10 @@ use Rattle.formulas.proofs.Extents.{has-e}
 use Rattle.counting.proofs.Tests.{holds, fails, and-l, and-r, decT}
 use Rattle.logic.proofs.Quantifiers.{all-e}
 use Rattle.checks.specs.Checked.{wordAt, isKind}
+use Rattle.checks.specs.Heads.{placesOf}
 use Rattle.values.specs.Said.{Said, says, nothing, saidBy}
 use Rattle.values.proofs.Naturals.{le-or-lt}
-use Rattle.lookup.specs.Lookup.{isSaid, verdictNumber, all, headPlaces, headLines, headSamples, lineStart, lineExtent, wholeHead, wholeLineAt, wholeLine, wholeAnswer, saidAt, lookedUp}
+use Rattle.lookup.specs.Lookup.{isSaid, verdictNumber, all, headLines, headSamples, lineStart, lineExtent, wholeHead, wholeLineAt, wholeLine, wholeAnswer, saidAt, lookedUp}
 
 -- ---- a test decides between a number and 0
 chosen : (b : Bool) (number : ℕ) → T b → cond b number 0 ≡ number
@@ -40,7 +41,7 @@ one-or-two nothing some = absurd some
 module _ (a : List ℕ) (i t l : ℕ) where
   -- the word that is asked for
   abbrev pub asked : ℕ
-  asked = wordAt a (lineStart a i + 1 + ((t - lineExtent a i .first) * headPlaces a + l))
+  asked = wordAt a (lineStart a i + 1 + ((t - lineExtent a i .first) * placesOf a + l))
 
   pub whole-looked : T (wholeAnswer a) → lookedUp a i t l ≡ verdictNumber (saidAt a i t l)
   unfolding lookedUp
@@ -51,7 +52,7 @@ module _ (a : List ℕ) (i t l : ℕ) where
   unfolding wholeAnswer
   whole-line whole line = all-e (λ _. true) (wholeLine a) (headLines a) (and-l (all (wholeLine a) (headLines a)) _ (and-r (wholeHead a) _ whole)) i line tt
 
-  line-says : T (wholeLine a i) → T (has (lineExtent a i) t) → l < headPlaces a → T (isSaid (saidBy asked))
+  line-says : T (wholeLine a i) → T (has (lineExtent a i) t) → l < placesOf a → T (isSaid (saidBy asked))
   unfolding wholeLineAt
   line-says whole sample place =
       let at : ℕ = lineStart a i in
@@ -60,29 +61,29 @@ module _ (a : List ℕ) (i t l : ℕ) where
       let verdicts = and-r (leb (endOf e) (headSamples a)) _ (and-r (leb 1 (e .length)) _ good) in
       let among = has-e e t sample in
       let row : t - e .first < e .length = omega (arith, among .from, among .to) in
-      all-e (λ _. true) (λ j. isSaid (saidBy (wordAt a (at + 1 + j)))) (e .length * headPlaces a) verdicts ((t - e .first) * headPlaces a + l) (in-table row place) tt
+      all-e (λ _. true) (λ j. isSaid (saidBy (wordAt a (at + 1 + j)))) (e .length * placesOf a) verdicts ((t - e .first) * placesOf a + l) (in-table row place) tt
 
-  pub says-there : i < headLines a → T (has (lineExtent a i) t) → l < headPlaces a → saidAt a i t l ≡ saidBy asked
+  pub says-there : i < headLines a → T (has (lineExtent a i) t) → l < placesOf a → saidAt a i t l ≡ saidBy asked
   unfolding saidAt
-  says-there line sample place = simp (lt-ltb i (headLines a) line, holds (has (lineExtent a i) t) sample, lt-ltb l (headPlaces a) place)
+  says-there line sample place = simp (lt-ltb i (headLines a) line, holds (has (lineExtent a i) t) sample, lt-ltb l (placesOf a) place)
 
-  pub verdict-there : T (wholeAnswer a) → i < headLines a → T (has (lineExtent a i) t) → l < headPlaces a → (lookedUp a i t l ≡ 1) ⊎ (lookedUp a i t l ≡ 2)
+  pub verdict-there : T (wholeAnswer a) → i < headLines a → T (has (lineExtent a i) t) → l < placesOf a → (lookedUp a i t l ≡ 1) ⊎ (lookedUp a i t l ≡ 2)
   verdict-there whole line sample place = rw (whole-looked whole, says-there line sample place) (one-or-two (saidBy asked) (line-says (whole-line whole line) sample place))
 
   -- ---- no whole answer, or no such line, sample or place
   abbrev pub NotInIt : Type 0
-  NotInIt = (headLines a ≤ i) ⊎ (T (not (has (lineExtent a i) t)) ⊎ (headPlaces a ≤ l))
+  NotInIt = (headLines a ≤ i) ⊎ (T (not (has (lineExtent a i) t)) ⊎ (placesOf a ≤ l))
 
   pub says-none : NotInIt → verdictNumber (saidAt a i t l) ≡ 0
   unfolding saidAt
   says-none = ⊎-elim (λ line. rw (le-ltb i (headLines a) line) refl) (⊎-elim
       (λ sample. rw (fails (has (lineExtent a i) t) sample, and-false) refl)
-      (λ place. rw (le-ltb l (headPlaces a) place, and-false (has (lineExtent a i) t), and-false) refl))
+      (λ place. rw (le-ltb l (placesOf a) place, and-false (has (lineExtent a i) t), and-false) refl))
 
-  no-place : lookedUp a i t l ≡ 0 → T (wholeAnswer a) → i < headLines a → T (has (lineExtent a i) t) → headPlaces a ≤ l
+  no-place : lookedUp a i t l ≡ 0 → T (wholeAnswer a) → i < headLines a → T (has (lineExtent a i) t) → placesOf a ≤ l
   no-place zero whole line sample = ⊎-elim (λ h. h)
       (λ place. absurd (⊎-elim (λ one. omega (arith, zero, one)) (λ two. omega (arith, zero, two)) (verdict-there whole line sample place)))
-      (le-or-lt (headPlaces a) l)
+      (le-or-lt (placesOf a) l)
 
   pub zero-exactly : (lookedUp a i t l ≡ 0 → T (not (wholeAnswer a)) ⊎ NotInIt) × (T (not (wholeAnswer a)) ⊎ NotInIt → lookedUp a i t l ≡ 0)
   unfolding lookedUp

@@ -1,5 +1,5 @@
 -- What the walk over an answer rests on: a test of all is decided by one that fails, or by each that passes; a word says something where its
--- number is not 0; and no line of 255 begins at an index of more than 28 bits, whatever the words are.
+-- number is not 0; and no line of 255 begins at an index of more than 36 bits, whatever the words are.
 use mathlib.Core.Path.{_≡_, refl}
 use mathlib.Core.Bool.{Bool, true, false}
 use mathlib.Core.List.{List}
@@ -11,8 +11,10 @@ use lib.Dec.{T}
 use Rattle.logic.specs.Lattice.{verdictLattice, leastOver}
 use Rattle.counting.proofs.Tests.{bool-ext}
 use Rattle.logic.proofs.Quantifiers.{all-e, all-i}
+use Rattle.checks.specs.Heads.{isWide, placesOf}
+use Rattle.checks.proofs.Heads.{few-head-words, places-few}
 use Rattle.values.specs.Said.{Said, says, nothing}
-use Rattle.lookup.specs.Lookup.{isSaid, verdictNumber, headPlaces, extentAt, lineStart}
+use Rattle.lookup.specs.Lookup.{isSaid, verdictNumber, extentAt, lineStart}
 
 -- ---- all numbers below n that pass the test t
 pub one-fails : (t f : ℕ → Bool) (n l : ℕ) → l < n → T (t l) → f l ≡ false → leastOver verdictLattice t f n ≡ false
@@ -33,18 +35,18 @@ says-nothing nothing none = refl
 
 -- ---- where the lines begin
 module _ (a : List ℕ) where
-  pub next-start : {at : ℕ} (i : ℕ) → at ≡ lineStart a i → at + 1 + extentAt a at .length * headPlaces a ≡ lineStart a (i + 1)
+  pub next-start : {at : ℕ} (i : ℕ) → at ≡ lineStart a i → at + 1 + extentAt a at .length * placesOf a ≡ lineStart a (i + 1)
   unfolding lineStart
   next-start i here = rw (here, add-one i) refl
 
-  -- a length has 12 bits and a count of places 8
-  pub line-size : {m n : ℕ} (at : ℕ) → m ≤ extentAt a at .length → n ≤ headPlaces a → m * n ≤ 4095 * 255
-  line-size at samples places = mul-le-mul {n₂ = 4095} {m₂ = 255} (omega arith) (omega arith)
+  -- a length has 12 bits, and the places have at most 16
+  pub line-size : {m n : ℕ} (at : ℕ) → m ≤ extentAt a at .length → n ≤ placesOf a → m * n ≤ 4095 * 65535
+  line-size at samples places = mul-le-mul {n₂ = 4095} {m₂ = 65535} (omega arith) (omega (arith, places-few a))
 
-  start-bound : (i : ℕ) → lineStart a i ≤ 1 + i * (1 + 4095 * 255)
+  start-bound : (i : ℕ) → lineStart a i ≤ 2 + i * (1 + 4095 * 65535)
   unfolding lineStart
-  start-bound zero = omega arith
-  start-bound (suc i) = omega (arith, start-bound i, line-size {m = extentAt a (lineStart a i) .length} {n = headPlaces a} (lineStart a i) (omega arith) (omega arith))
+  start-bound zero = omega (arith, few-head-words (isWide a))
+  start-bound (suc i) = omega (arith, start-bound i, line-size {m = extentAt a (lineStart a i) .length} {n = placesOf a} (lineStart a i) (omega arith) (omega arith))
 
-  pub start-small : {at : ℕ} (i : ℕ) → at ≡ lineStart a i → i < 2 ^ 8 → at < 2 ^ 28
+  pub start-small : {at : ℕ} (i : ℕ) → at ≡ lineStart a i → i < 2 ^ 8 → at < 2 ^ 36
   start-small i here few = omega (arith, start-bound i)

@@ -1,4 +1,4 @@
--- Document 01, "The answer", and request M-100: whether words are a whole answer as laid out, and what the lookup in it gives at a line, sample and place.
+-- Document 01, "The answer", and requests M-100 and M-104: whether words are a whole answer as laid out, and what the lookup in it gives at a line, sample and place.
 use Prim.Native.Nat.{ℕ, zero, suc, _+_, _-_, _*_}
 use mathlib.Core.Bool.{Bool, true, false, cond, _&&_}
 use mathlib.Core.List.{List}
@@ -7,8 +7,9 @@ use lib.ListN.{length}
 use Rattle.words.specs.Word.{bits, payloadOf}
 use Rattle.formulas.specs.Formulas.{Extent, span, endOf, has}
 use Rattle.logic.specs.Lattice.{verdictLattice, leastOver}
-use Rattle.checks.specs.Limits.{mostPlaces, mostSamples, mostLines}
+use Rattle.checks.specs.Limits.{mostNarrow, mostSamples, mostLines}
 use Rattle.checks.specs.Checked.{between, wordAt, isKind}
+use Rattle.checks.specs.Heads.{headWords, isWide, headOf, placesOf, wideCounted, wideFollowed}
 use Rattle.values.specs.Said.{Said, says, nothing, saidBy}
 
 abbrev pub isSaid : Said → Bool
@@ -26,14 +27,11 @@ abbrev pub all : (ℕ → Bool) → ℕ → Bool
 all test n = leastOver verdictLattice (λ _. true) test n
 
 module _ (a : List ℕ) where
-  abbrev pub headPlaces : ℕ
-  headPlaces = bits 20 8 (wordAt a 0)
-
   abbrev pub headLines : ℕ
-  headLines = bits 12 8 (wordAt a 0)
+  headLines = bits 12 8 (headOf a)
 
   abbrev pub headSamples : ℕ
-  headSamples = bits 0 12 (wordAt a 0)
+  headSamples = bits 0 12 (headOf a)
 
   -- the first sample and the length that a line's first word gives
   abbrev pub extentAt : ℕ → Extent
@@ -41,21 +39,25 @@ module _ (a : List ℕ) where
 
   -- the index of line i's first word, by the lengths that the earlier lines' words give; of the end, where i is the line count
   unfoldable pub lineStart : ℕ → ℕ
-  lineStart zero = 1
-  lineStart (suc i) = lineStart i + 1 + extentAt (lineStart i) .length * headPlaces
+  lineStart zero = headWords (isWide a)
+  lineStart (suc i) = lineStart i + 1 + extentAt (lineStart i) .length * placesOf a
 
   abbrev pub lineExtent : ℕ → Extent
   lineExtent i = extentAt (lineStart i)
 
+  -- kind 13, with the places in their limits, or after a word that tells them
+  unfoldable pub wholePlaces : Bool
+  wholePlaces = cond (isWide a) (wideCounted a && wideFollowed a 13) (isKind 13 a 0 && between 1 mostNarrow (placesOf a))
+
   unfoldable pub wholeHead : Bool
-  wholeHead = isKind 13 a 0 && (between 1 mostPlaces headPlaces && (between 1 mostLines headLines && between 1 mostSamples headSamples))
+  wholeHead = wholePlaces && (between 1 mostLines headLines && between 1 mostSamples headSamples)
 
   -- a line whose first word stands at this index: kind 14, bits 27..24 zero, at least one sample and none beyond T, and a verdict for each sample
   -- and place
   unfoldable pub wholeLineAt : ℕ → Bool
   wholeLineAt at =
       isKind 14 a at && (eqb (bits 24 4 (wordAt a at)) 0 && (leb 1 (extentAt at .length) && (leb (endOf (extentAt at)) headSamples
-      && all (λ j. isSaid (saidBy (wordAt a (at + 1 + j)))) (extentAt at .length * headPlaces))))
+      && all (λ j. isSaid (saidBy (wordAt a (at + 1 + j)))) (extentAt at .length * placesOf a))))
 
   abbrev pub wholeLine : ℕ → Bool
   wholeLine i = wholeLineAt (lineStart i)
@@ -69,8 +71,8 @@ module _ (a : List ℕ) where
 
   -- what the answer says at a line, sample and place, nothing where it has no such line, sample or place
   unfoldable pub saidAt : ℕ → ℕ → ℕ → Said
-  saidAt i t l = cond (ltb i headLines && (has (lineExtent i) t && ltb l headPlaces))
-      (saidBy (wordAt a (lineStart i + 1 + ((t - lineExtent i .first) * headPlaces + l)))) nothing
+  saidAt i t l = cond (ltb i headLines && (has (lineExtent i) t && ltb l (placesOf a)))
+      (saidBy (wordAt a (lineStart i + 1 + ((t - lineExtent i .first) * placesOf a + l)))) nothing
 
   unfoldable pub lookedUp : ℕ → ℕ → ℕ → ℕ
   lookedUp i t l = cond wholeAnswer (verdictNumber (saidAt i t l)) 0

@@ -1,8 +1,14 @@
 // The lookup: whether bytes hold a whole answer, and the verdict that it has at a line, sample and place. Every slice of bytes is taken: a word
-// that is missing is read as 0, which is no word of an answer up to its end. First samples and lengths are fields of 12 bits and counts of 8, so
-// even by words that are no answer the index of a line stays below 2^28, and none wraps.
+// that is missing is read as 0, which is no word of an answer up to its end. First samples and lengths are fields of 12 bits, counts of 8, and
+// places of at most 16, so even by words that are no answer the index of a line stays below 2^36, and none wraps.
+use checks::head::head;
+use checks::head::head_words;
+use checks::head::is_wide;
+use checks::head::places;
+use checks::head::wide_counted;
+use checks::head::wide_followed;
 use checks::limits::MOST_LINES;
-use checks::limits::MOST_PLACES;
+use checks::limits::MOST_NARROW;
 use checks::limits::MOST_SAMPLES;
 use checks::limits::within;
 use checks::word::is_end;
@@ -14,8 +20,9 @@ ghost use lib.ListN.{length};
 ghost use Rattle.words.specs.Bytes.{wordsOf};
 ghost use Rattle.logic.specs.Lattice.{verdictLattice, leastOver};
 ghost use Rattle.checks.specs.Checked.{wordAt};
+ghost use Rattle.checks.specs.Heads.{placesOf};
 ghost use Rattle.values.specs.Said.{saidBy};
-ghost use Rattle.lookup.specs.Lookup.{isSaid, verdictNumber, all, headPlaces, headLines, headSamples, extentAt, lineStart, wholeHead, wholeLineAt, wholeLine, wholeEnd, wholeAnswer, saidAt, lookedUp};
+ghost use Rattle.lookup.specs.Lookup.{isSaid, verdictNumber, all, headLines, headSamples, extentAt, lineStart, wholePlaces, wholeHead, wholeLineAt, wholeLine, wholeEnd, wholeAnswer, saidAt, lookedUp};
 
 // The payload -2^27, which no margin has: below it stand the margins from 0 up, above it those below 0.
 const NO_MARGIN: u32 = 134217728;
@@ -41,16 +48,10 @@ fn verdict(w: u32) -> u64
 }
 
 // The fields of an answer's head, and of a line's first word, whatever the words are.
-pub fn places(answer: &[u8]) -> usize
-    ensures { λ r. ⌜ r ≡ headPlaces (wordsOf (now (answer .entry))) ⌝ }
-{
-    (words::word_or_zero(answer, 0) / 1048576 % 256) as usize
-}
-
 pub fn lines(answer: &[u8]) -> usize
     ensures { λ r. ⌜ r ≡ headLines (wordsOf (now (answer .entry))) ⌝ }
 {
-    (words::word_or_zero(answer, 0) / 4096 % 256) as usize
+    (head(answer) / 4096 % 256) as usize
 }
 
 pub fn first_at(answer: &[u8], at: usize) -> usize
@@ -65,20 +66,26 @@ pub fn length_at(answer: &[u8], at: usize) -> usize
     (words::word_or_zero(answer, at) % 4096) as usize
 }
 
-// The samples stand in the head where a length stands in a line's first word.
 fn samples(answer: &[u8]) -> usize
     ensures { λ r. ⌜ r ≡ headSamples (wordsOf (now (answer .entry))) ⌝ }
 {
-    length_at(answer, 0)
+    (head(answer) % 4096) as usize
+}
+
+// Whether the places are told as they should be, in the head of a narrow answer or before that of a wide one.
+fn whole_places(answer: &[u8]) -> bool
+    ensures { λ r. ⌜ r ≡ wholePlaces (wordsOf (now (answer .entry))) ⌝ }
+{
+    if is_wide(answer) {
+        return wide_counted(answer) && wide_followed(answer, 13);
+    }
+    is_kind(answer, 0, 13) && within(places(answer), MOST_NARROW)
 }
 
 fn whole_head(answer: &[u8]) -> bool
     ensures { λ r. ⌜ r ≡ wholeHead (wordsOf (now (answer .entry))) ⌝ }
 {
-    if !is_kind(answer, 0, 13) {
-        return false;
-    }
-    if !within(places(answer), MOST_PLACES) {
+    if !whole_places(answer) {
         return false;
     }
     if !within(lines(answer), MOST_LINES) {
@@ -89,7 +96,7 @@ fn whole_head(answer: &[u8]) -> bool
 
 // Whether each of so many words from an index on says a verdict.
 fn whole_verdicts(answer: &[u8], start: usize, count: usize) -> bool
-    requires { ⌜ start + count < 2 ^ 32 ⌝ }
+    requires { ⌜ start + count < 2 ^ 40 ⌝ }
     ensures { λ r. ⌜ r ≡ all (λ j. isSaid (saidBy (wordAt (wordsOf (now (answer .entry))) (start + j)))) count ⌝ }
 {
     for j in 0..count {
@@ -102,7 +109,7 @@ fn whole_verdicts(answer: &[u8], start: usize, count: usize) -> bool
 
 // Whether a line begins at an index, with samples that the recording has and a verdict for each sample and place.
 fn whole_line(answer: &[u8], at: usize) -> bool
-    requires { ⌜ at < 2 ^ 28 ⌝ }
+    requires { ⌜ at < 2 ^ 36 ⌝ }
     ensures { λ r. ⌜ r ≡ wholeLineAt (wordsOf (now (answer .entry))) at ⌝ }
 {
     if !is_kind(answer, at, 14) {
@@ -124,8 +131,8 @@ fn whole_line(answer: &[u8], at: usize) -> bool
 
 // The index after a line, by its length.
 fn next_line(answer: &[u8], at: usize) -> usize
-    requires { ⌜ at < 2 ^ 28 ⌝ }
-    ensures { λ r. ⌜ r ≡ at + 1 + extentAt (wordsOf (now (answer .entry))) at .length * headPlaces (wordsOf (now (answer .entry))) ⌝ }
+    requires { ⌜ at < 2 ^ 36 ⌝ }
+    ensures { λ r. ⌜ r ≡ at + 1 + extentAt (wordsOf (now (answer .entry))) at .length * placesOf (wordsOf (now (answer .entry))) ⌝ }
 {
     at + 1 + length_at(answer, at) * places(answer)
 }
@@ -135,7 +142,7 @@ fn line_start(answer: &[u8], i: usize) -> usize
     requires { ⌜ i < 2 ^ 8 ⌝ }
     ensures { λ r. ⌜ r ≡ lineStart (wordsOf (now (answer .entry))) i ⌝ }
 {
-    let mut at: usize = 1;
+    let mut at: usize = head_words(is_wide(answer));
     for k in 0..i {
         at = next_line(answer, at);
     }
@@ -146,7 +153,7 @@ fn line_start(answer: &[u8], i: usize) -> usize
 fn whole_lines(answer: &[u8]) -> bool
     ensures { λ r. ⌜ r ≡ all (wholeLine (wordsOf (now (answer .entry)))) (headLines (wordsOf (now (answer .entry)))) ⌝ }
 {
-    let mut at: usize = 1;
+    let mut at: usize = head_words(is_wide(answer));
     for i in 0..lines(answer) {
         if !whole_line(answer, at) {
             return false;

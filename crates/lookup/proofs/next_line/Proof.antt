@@ -1,4 +1,4 @@
--- A line has at most 4,095 samples of 255 places, whatever its words are.
+-- A line has at most 4,095 samples of 65,535 places, whatever its words are.
 use mathlib.Core.Path.{ap₂}
 use Prim.Native.Nat.{ℕ, _+_, _*_, _≤_}
 use native.Mathlib.Omega.{arith}
@@ -8,7 +8,7 @@ use borrow.Author.Needs.{needs}
 use Rattle.lookup.proofs.next_line.Statement.{statement}
 use Rattle.lookup.proofs.next_line.Tie as tie
 
-few-words : (c : tie.After-places) → c .before .length-at .result * c .places .result ≤ 4095 * 255
+few-words : (c : tie.After-places) → c .before .length-at .result * c .places .result ≤ 4095 * 65535
 few-words c =
     let g = c .before .before .before .args in
     line-size (wordsOf (g .answer .now)) (g .at) (omega arith) (omega arith)

@@ -9,8 +9,10 @@ use Rattle.words.specs.Bytes.{wordsOf}
 use Rattle.formulas.specs.Formulas.{Extent, has}
 use Rattle.formulas.proofs.Extents.{has-e, has-i}
 use Rattle.checks.specs.Checked.{wordAt}
+use Rattle.checks.specs.Heads.{placesOf}
+use Rattle.checks.proofs.Heads.{places-few}
 use Rattle.values.specs.Said.{saidBy}
-use Rattle.lookup.specs.Lookup.{verdictNumber, headPlaces, extentAt, lineStart, lineExtent, saidAt}
+use Rattle.lookup.specs.Lookup.{verdictNumber, extentAt, lineStart, lineExtent, saidAt}
 use Rattle.lookup.proofs.Exactly.{says-there, says-none}
 use Rattle.lookup.proofs.Walk.{line-size, start-small}
 use borrow.Author.Needs.{needs}
@@ -68,11 +70,14 @@ module _ (c : tie.Else4) where
   abbrev row : ℕ
   row = start (sized line) .args .sample - sized line .first-at .result
 
-  early : sized line .before .line-start .result < 2 ^ 28
+  early : sized line .before .line-start .result < 2 ^ 36
   early = start-small (answer (sized line)) (start (sized line) .args .line) (sized line .before .line-start .ensures) (omega arith)
 
-  few-words : row * c .before .places .result ≤ 4095 * 255
+  few-words : row * c .before .places .result ≤ 4095 * 65535
   few-words = line-size (answer (sized line)) (sized line .before .line-start .result) (omega arith) (omega arith)
+
+  near-place : start (sized line) .args .place < 2 ^ 16
+  near-place = omega (arith, places-few (answer (sized line)))
 
 add-at : tie.Need-add-at
 add-at c = omega (arith, early c)
@@ -81,10 +86,10 @@ mul-at : tie.Need-mul-at
 mul-at c = omega (arith, few-words c)
 
 add-at-2 : tie.Need-add-at-2
-add-at-2 c = omega (arith, few-words c)
+add-at-2 c = omega (arith, few-words c, near-place c)
 
 add-at-3 : tie.Need-add-at-3
-add-at-3 c = omega (arith, early c, few-words c)
+add-at-3 c = omega (arith, early c, few-words c, near-place c)
 
 returns-5 : tie.Need-returns-5
 returns-5 c =
@@ -95,7 +100,7 @@ returns-5 c =
     c .verdict .ensures
     ∙ ap (λ (w : ℕ). verdictNumber (saidBy w)) (c .before .word-or-zero .ensures)
     ∙ ap₂ (λ (at n : ℕ). verdictNumber (saidBy (wordAt (answer s) (at + 1 + (row placed * n + g .place))))) (s .before .line-start .ensures) (placed .before .places .ensures)
-    ∙ ap (λ (first : ℕ). verdictNumber (saidBy (wordAt (answer s) (lineStart (answer s) (g .line) + 1 + ((g .sample - first) * headPlaces (answer s) + g .place))))) (first-read s)
+    ∙ ap (λ (first : ℕ). verdictNumber (saidBy (wordAt (answer s) (lineStart (answer s) (g .line) + 1 + ((g .sample - first) * placesOf (answer s) + g .place))))) (first-read s)
     ∙ sym (ap verdictNumber (says-there (answer s) (g .line) (g .sample) (g .place) (omega arith) sample (omega arith)))
 
 pub verdict-at-spec : {M : Type 1} → statement M

@@ -59,7 +59,7 @@ returns-4 c =
     let late : headSamples (wordsOf (start line .args .answer .now)) < endOf (extent line) = omega arith in
     simp (kind-14 (spare line .before .before), spare-zero (spare line), some-sample line, lt-leb _ _ late)
 
-few-words : (c : tie.After-places) → c .before .before .before .before .before .length-at .result * c .places .result ≤ 4095 * 255
+few-words : (c : tie.After-places) → c .before .before .before .before .before .length-at .result * c .places .result ≤ 4095 * 65535
 few-words c =
     let g = start (c .before .before .before .before) .args in
     line-size (wordsOf (g .answer .now)) (g .at) (omega arith) (omega arith)
