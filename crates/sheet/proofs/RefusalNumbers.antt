@@ -1,18 +1,19 @@
--- Every refusal of the check of a sheet has a number from 1 to 14, so the number 0 says that the sheet was accepted.
-use mathlib.Core.Bool.{Bool, true, false}
+-- Every refusal of the check of a sheet has a number from 1 to 14 or 17, so the number 0 says that the sheet was accepted.
+use mathlib.Core.Bool.{Bool, true, false, cond, _||_}
 use mathlib.Core.List.{List, [], _∷_, _++_}
 use Prim.Native.Nat.{ℕ, zero, suc, _+_}
-use lib.Dec.{T}
+use lib.Dec.{T, eqb}
 use lib.ListN.{length}
 use Rattle.formulas.specs.Formulas.{Extent, Line, lineIn}
 use Rattle.checks.specs.Checked.{Checked, accepted, refused, _>>=_, require, between, isKind}
 use Rattle.lines.specs.Codes.{Code, constant, atom, unary, binary, unaryBounded, binaryBounded, unknown}
 use Rattle.lines.specs.Lines.{constantAt, boundsAt, operatorBy, operatorAt, lineAt, linesFrom}
-use Rattle.sheet.specs.Layout.{Layout, headChecked, samplesFrom, endChecked, checked}
+use Rattle.checks.specs.Heads.{isWide}
+use Rattle.sheet.specs.Layout.{Layout, narrowChecked, wideChecked, headChecked, samplesFrom, endChecked, checked}
 use Rattle.roads.specs.Roads.{roadAt, roadChecked, roadsFrom}
 
-abbrev Number : ℕ → Type 0
-Number k = T (between 1 14 k)
+abbrev pub Number : ℕ → Type 0
+Number k = T (between 1 14 k || eqb k 17)
 
 pub data Numbered {A : Type 0} : Checked A → Type 0 where
   accepts : {a : A} → Numbered (accepted a)
@@ -27,14 +28,18 @@ module _ {A : Type 0} where
   chosen true a b h k = h
   chosen false a b h k = k
 
+  either : (t : Bool) (a b : Checked A) → Numbered a → Numbered b → Numbered (cond t a b)
+  either true a b h k = h
+  either false a b h k = k
+
 bound : {A B : Type 0} (c : Checked A) (f : A → Checked B) → Numbered c → ((a : A) → Numbered (f a)) → Numbered (c >>= f)
 bound (accepted a) f h k = k a
 bound (refused number place) f (refuses n) k = refuses n
 
 module _ (s : List ℕ) where
-  head-numbered : Numbered (headChecked s)
-  unfolding headChecked
-  head-numbered = search (required, accepts)
+  head-numbered : (distances : ℕ) → Numbered (headChecked s distances)
+  unfolding headChecked narrowChecked wideChecked
+  head-numbered distances = either (isWide s) _ _ (search (required, accepts)) (search (required, accepts))
 
   constant-numbered : (at : ℕ) → Numbered (constantAt s at)
   unfolding constantAt
@@ -78,7 +83,7 @@ module _ (s : List ℕ) where
   roads-numbered n zero r last = accepts
   roads-numbered n (suc words) r last =
       let onward = roads-numbered n words (suc r) in
-      chosen (isKind 2 s (roadAt r)) _ _ (bound _ _ (road-numbered n (roadAt r) last) onward) accepts
+      chosen (isKind 2 s (roadAt (isWide s) r)) _ _ (bound _ _ (road-numbered n (roadAt (isWide s) r) last) onward) accepts
 
   end-numbered : (at : ℕ) (L : Layout) → Numbered (endChecked s at L)
   unfolding endChecked

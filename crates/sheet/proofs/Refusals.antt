@@ -1,4 +1,4 @@
--- Every refusal 1 to 14 with its number and place, computed on small sheets. They pin how document 01 is read where it leaves a choice:
+-- Every refusal 1 to 14 and 17 with its number and place, computed on small sheets. They pin how the documents are read where they leave a choice:
 -- docs/DECISIONS.md has the reasons.
 use mathlib.Core.Path.{_≡_, refl}
 use mathlib.Core.List.{List, [], _∷_, _++_}
@@ -7,12 +7,13 @@ use lib.ListN.{replicate}
 use Rattle.checks.specs.Checked.{Checked, refused, isKind}
 use Rattle.lines.specs.Codes.{codes}
 use Rattle.lines.specs.Lines.{constantAt, boundsAt, operatorAt, lineAt, linesFrom}
-use Rattle.sheet.specs.Layout.{Layout, sizesOf, headChecked, samplesFrom, endChecked, checked}
+use Rattle.checks.specs.Heads.{isWide, headOf, placesOf, wideCounted, wideFollowed}
+use Rattle.sheet.specs.Layout.{Layout, sizesOf, narrowChecked, wideChecked, headChecked, samplesFrom, endChecked, checked}
 use Rattle.roads.specs.Roads.{roadChecked, roadsFrom}
 
 -- the check with enough distances lent
 outcome : List ℕ → Checked Layout
-unfolding isKind codes constantAt boundsAt operatorAt lineAt linesFrom sizesOf headChecked roadChecked roadsFrom samplesFrom endChecked checked
+unfolding isKind codes constantAt boundsAt operatorAt lineAt linesFrom isWide headOf placesOf wideCounted wideFollowed sizesOf narrowChecked wideChecked headChecked roadChecked roadsFrom samplesFrom endChecked checked
 outcome s = checked s 4096
 
 -- what one place with one signal and one sample begins with, and three places
@@ -26,6 +27,11 @@ three rest = 0x10301001 ∷ rest
 refusal-1 : checked [] 4095 ≡ refused 1 0
 unfolding outcome
 refusal-1 = refl
+
+-- of a wide sheet, after its sizes: one fewer than the places squared
+refusal-1-wide : (checked (0xA0000003 ∷ 0x10001001 ∷ []) 8 ≡ refused 1 0) × (checked (0xA0000003 ∷ 0x10001001 ∷ []) 9 ≡ refused 8 2) × (checked (0xA0000003 ∷ 0x10000001 ∷ []) 8 ≡ refused 3 1)
+unfolding outcome
+refusal-1-wide = (refl, refl, refl)
 
 -- no head; another kind
 refusal-2 : (outcome [] ≡ refused 2 0) × (outcome (0x40000000 ∷ []) ≡ refused 2 0)
@@ -100,3 +106,19 @@ refusal-14 : (outcome (one (0x50000000 ∷ [])) ≡ refused 14 3) × (outcome (o
     × (outcome (one (0x50000000 ∷ 0xF0000004 ∷ 0 ∷ [])) ≡ refused 14 3) × (outcome (one (0x50000000 ∷ 0xF0000003 ∷ 0 ∷ [])) ≡ refused 14 4)
 unfolding outcome
 refusal-14 = (refl, refl, refl, refl, refl)
+
+-- a wide head: no place, 1,025 places, a spare bit; nothing after it, another kind, and a head that has places itself. The places come first.
+refusal-17 : (outcome (0xA0000000 ∷ 0x10001001 ∷ []) ≡ refused 17 0) × (outcome (0xA0000401 ∷ 0x10001001 ∷ []) ≡ refused 17 0) × (outcome (0xA0010002 ∷ []) ≡ refused 17 0)
+    × (outcome (0xA0000002 ∷ []) ≡ refused 17 1) × (outcome (0xA0000002 ∷ 0x20000001 ∷ []) ≡ refused 17 1) × (outcome (0xA0000002 ∷ 0x10201002 ∷ []) ≡ refused 17 1)
+unfolding outcome
+refusal-17 = (refl, refl, refl, refl, refl, refl)
+
+-- a wide road: bit 24 is spare, and the second place has twelve bits
+refusals-wide-road : (outcome (0xA0000002 ∷ 0x10001002 ∷ 0x21000001 ∷ []) ≡ refused 4 2) × (outcome (0xA0000002 ∷ 0x10001002 ∷ 0x20000100 ∷ []) ≡ refused 5 2)
+unfolding outcome
+refusals-wide-road = (refl, refl)
+
+-- a road between the first and the last of 300 places passes, and one to a place beyond them does not
+far-road : (checked (0xA000012C ∷ 0x10001001 ∷ 0x2000012B ∷ 0x30000007 ∷ []) 90000 ≡ refused 8 4) × (checked (0xA000012C ∷ 0x10001001 ∷ 0x2000012C ∷ 0x30000007 ∷ []) 90000 ≡ refused 5 2)
+unfolding outcome
+far-road = (refl, refl)

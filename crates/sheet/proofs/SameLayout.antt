@@ -2,26 +2,26 @@
 -- The check reads every other word alike, and of the samples it keeps only their count.
 use mathlib.Core.Path.{_≡_, refl, sym, ap, ap₂, subst, _∙_}
 use mathlib.Core.Logic.{_⊎_, inl, ⊎-elim}
-use mathlib.Core.Bool.{Bool, true, false, not, _&&_, and-false}
+use mathlib.Core.Bool.{Bool, true, false, not, cond, _&&_, and-false}
 use mathlib.Core.List.{List, [], _∷_, _++_}
-use Prim.Native.Nat.{ℕ, zero, suc, _+_, _≤_}
+use Prim.Native.Nat.{ℕ, zero, suc, _+_}
 use lib.Dec.{T, eqb, ltb, leb}
 use lib.ListN.{length}
 use lib.IntN.{ℤ}
-use borrow.Author.Tests.{le-leb}
 use Rattle.words.specs.Word.{kindOf, payloadOf, bits}
 use Rattle.formulas.specs.Formulas.{Operator, Extent, Line, lineIn}
-use Rattle.checks.specs.Limits.{mostLines, leastDistances}
-use Rattle.checks.specs.Checked.{Checked, accepted, _>>=_, require, wordAt, isKind}
+use Rattle.checks.specs.Limits.{mostPlaces, mostLines, leastDistances}
+use Rattle.checks.specs.Checked.{Checked, accepted, _>>=_, require, between, wordAt, isKind}
 use Rattle.lines.specs.Codes.{Code, constant, atom, unary, binary, unaryBounded, binaryBounded, unknown, codeOf}
 use Rattle.lines.specs.Lines.{codeField, leftField, rightField, constantAt, boundsAt, operatorBy, operatorAt, lineAt, linesFrom}
-use Rattle.sheet.specs.Layout.{Layout, headChecked, sampleCount, samplesFrom, endChecked, checked}
+use Rattle.checks.specs.Heads.{isWide, headOf, placesOf, wideCounted, wideFollowed}
+use Rattle.sheet.specs.Layout.{Sizes, Layout, sizesOf, narrowChecked, wideChecked, headChecked, sampleCount, samplesFrom, endChecked, checked}
 use Rattle.roads.specs.Roads.{roadAt, roadChecked, roadsFrom}
 use Rattle.sheet.specs.Alike.{BothSamples, AlikeButSamples}
-use Rattle.counting.proofs.Tests.{fails}
+use Rattle.counting.proofs.Tests.{and-l, fails}
 use Rattle.counting.proofs.Lists.{each-at, each-length}
-use Rattle.checks.proofs.Checks.{same-accepted}
-use Rattle.sheet.proofs.Whole.{accepted-sheet}
+use Rattle.checks.proofs.Checks.{same-accepted, bind-accepted}
+use Rattle.sheet.proofs.Accepted.{head-passed}
 
 -- ---- the same checks from the same parts
 bind-same : {A B : Type 0} (c d : Checked A) (f g : A → Checked B) → c ≡ d → ((a : A) → f a ≡ g a) → (c >>= f) ≡ (d >>= g)
@@ -41,7 +41,7 @@ choice-same t false a b c e h = rw e refl
 
 -- road r, and then the roads after it
 abbrev roadThen : List ℕ → ℕ → ℕ → ℕ → ℕ → Checked ℕ
-roadThen s n words r last = roadChecked s n (roadAt r) last >>= λ payload. roadsFrom s n words (suc r) payload
+roadThen s n words r last = roadChecked s n (roadAt (isWide s) r) last >>= λ pair. roadsFrom s n words (suc r) pair
 
 -- the line at an index, and then the lines after it
 abbrev lineThen : List ℕ → ℕ → ℕ → ℕ → List Line → ℕ → Checked (List Line × ℕ)
@@ -88,20 +88,53 @@ module _ (Related : ℤ → ℤ → Type 0) (X Y : List ℕ) (alike : AlikeButSa
       go false e h = rw e refl
 
   -- ---- the stages
-  head-same : headChecked X ≡ headChecked Y
+  pub layout-same : isWide X ≡ isWide Y
+  unfolding isWide
+  layout-same = kind-same 10 0
+
+  narrow-same : (d : ℕ) → isWide Y ≡ false → narrowChecked X d ≡ narrowChecked Y d
+  unfolding narrowChecked sizesOf headOf placesOf
+  narrow-same d narrow = require-same (leb leastDistances d) (leb leastDistances d) 1 0 _ _ refl (λ _.
+      require-same (isKind 1 X 0) (isKind 1 Y 0) 2 0 _ _ (kind-same 1 0) (λ h. rw (layout-same, narrow, word-same 1 0 tt h) refl))
+
+  wide-first : isWide Y ≡ true → wordAt X 0 ≡ wordAt Y 0
+  unfolding isWide
+  wide-first e = word-same 10 0 tt (rw e tt)
+
+  followed-same : wideFollowed X 1 ≡ wideFollowed Y 1
+  unfolding wideFollowed
+  followed-same = test-same 1 1 (λ w. eqb (bits 20 8 w) 0) tt
+
+  wide-head : T (wideFollowed Y 1) → wordAt X 1 ≡ wordAt Y 1
+  unfolding wideFollowed
+  wide-head h = word-same 1 1 tt (and-l (isKind 1 Y 1) _ h)
+
+  wide-same : (d : ℕ) → isWide Y ≡ true → wideChecked X d ≡ wideChecked Y d
+  unfolding wideChecked wideCounted sizesOf headOf placesOf
+  wide-same d wide = rw (layout-same, wide, wide-first wide) (require-same (between 1 mostPlaces (bits 0 16 (wordAt Y 0)) && eqb (bits 16 12 (wordAt Y 0)) 0) (between 1 mostPlaces (bits 0 16 (wordAt Y 0)) && eqb (bits 16 12 (wordAt Y 0)) 0) 17 0 _ _ refl (λ _.
+      require-same (wideFollowed X 1) (wideFollowed Y 1) 17 1 _ _ followed-same (λ h. rw (wide-head h) refl)))
+
+  head-same : (d : ℕ) → headChecked X d ≡ headChecked Y d
   unfolding headChecked
-  head-same = require-same (isKind 1 X 0) (isKind 1 Y 0) 2 0 _ _ (kind-same 1 0) (λ h. rw (word-same 1 0 tt h) refl)
+  head-same d = rw layout-same (go (isWide Y) refl)
+    where
+      go : (wide : Bool) → isWide Y ≡ wide → cond wide (wideChecked X d) (narrowChecked X d) ≡ cond wide (wideChecked Y d) (narrowChecked Y d)
+      go true e = wide-same d e
+      go false e = narrow-same d e
 
   road-same : (n at last : ℕ) → wordAt X at ≡ wordAt Y at → roadChecked X n at last ≡ roadChecked Y n at last
   unfolding roadChecked
-  road-same n at last e = rw (e, test-same 3 (at + 1) (λ w. ltb 0 (payloadOf w)) tt) refl
+  road-same n at last e = rw (e, layout-same, test-same 3 (at + 1) (λ w. ltb 0 (payloadOf w)) tt) refl
 
   roads-same : (n words r last : ℕ) → roadsFrom X n words r last ≡ roadsFrom Y n words r last
   unfolding roadsFrom
   roads-same n zero r last = refl
-  roads-same n (suc words) r last = choice-same (isKind 2 X (roadAt r)) (isKind 2 Y (roadAt r)) (roadThen X n words r last) (roadThen Y n words r last) (accepted r)
-      (kind-same 2 (roadAt r))
-      (λ h. bind-same _ _ _ _ (road-same n (roadAt r) last (word-same 2 (roadAt r) tt h)) (λ payload. roads-same n words (suc r) payload))
+  roads-same n (suc words) r last =
+      let at : ℕ = roadAt (isWide Y) r in
+      choice-same (isKind 2 X (roadAt (isWide X) r)) (isKind 2 Y at) (roadThen X n words r last) (roadThen Y n words r last) (accepted r)
+      (rw layout-same (kind-same 2 at))
+      (λ h. bind-same (roadChecked X n (roadAt (isWide X) r) last) (roadChecked Y n at last) (λ pair. roadsFrom X n words (suc r) pair) (λ pair. roadsFrom Y n words (suc r) pair)
+      (rw layout-same (road-same n at last (word-same 2 at tt h))) (λ pair. roads-same n words (suc r) pair))
 
   constant-same : (at : ℕ) → constantAt X at ≡ constantAt Y at
   unfolding constantAt
@@ -149,19 +182,27 @@ module _ (Related : ℤ → ℤ → Type 0) (X Y : List ℕ) (alike : AlikeButSa
   -- ---- the whole
   pub checked-alike : (d : ℕ) → checked X d ≡ checked Y d
   unfolding checked
-  checked-alike d = require-same (leb leastDistances d) (leb leastDistances d) 1 0 _ _ refl (λ _.
-      bind-same _ _ _ _ head-same (λ sizes.
+  checked-alike d =
+      bind-same _ _ _ _ (head-same d) (λ sizes.
       bind-same _ _ _ _ (roads-same (sizes .places) (length X) 0 0 ∙ ap (λ n. roadsFrom Y (sizes .places) n 0 0) same-length) (λ roads.
-      bind-same _ _ _ _ (samples-same (sampleCount sizes) (roadAt roads)) (λ begins.
-      bind-same _ _ _ _ (lines-same (sizes .signals) (sizes .samples) mostLines [] begins) (λ found. end-same (found .1) _)))))
+      bind-same _ _ _ _ (ap (λ wide. samplesFrom X (sampleCount sizes) (roadAt wide roads)) layout-same ∙ samples-same (sampleCount sizes) (roadAt (isWide Y) roads)) (λ begins.
+      bind-same _ _ _ _ (lines-same (sizes .signals) (sizes .samples) mostLines [] begins) (λ found. end-same (found .1) _))))
 
--- so where both are accepted they have the same layout, whatever was lent to either: what is lent is tested against the least that is asked for alone
-checked-enough : (s : List ℕ) (d e : ℕ) → leastDistances ≤ d → leastDistances ≤ e → checked s d ≡ checked s e
-unfolding checked
-checked-enough s d e enough enough′ = rw (le-leb _ _ enough, le-leb _ _ enough′) refl
+-- so where both are accepted they have the same layout, whatever was lent to either: what is lent decides of the head alone
+afterHead : List ℕ → Sizes → Checked Layout
+afterHead s sizes = do
+  roads ← roadsFrom s (sizes .places) (length s) 0 0
+  linesAt ← samplesFrom s (sampleCount sizes) (roadAt (isWide s) roads)
+  found ← linesFrom s (sizes .signals) (sizes .samples) mostLines [] linesAt
+  endChecked s (found .1) (record { sizes = sizes; roads = roads; lines = found .0 })
+
+lent-otherwise : (s : List ℕ) (d e : ℕ) {L M : Layout} → checked s d ≡ accepted L → checked s e ≡ accepted M → L ≡ M
+unfolding checked afterHead
+lent-otherwise s d e x y =
+    let a = bind-accepted (headChecked s d) (afterHead s) x in
+    let b = bind-accepted (headChecked s e) (afterHead s) y in
+    same-accepted (sym (a .2) ∙ ap (afterHead s) (sym (head-passed s d (a .1) .0) ∙ head-passed s e (b .1) .0) ∙ b .2)
 
 pub same-layout : (Related : ℤ → ℤ → Type 0) (X Y : List ℕ) → AlikeButSamples Related X Y → (dx dy : ℕ) {L M : Layout}
     → checked X dx ≡ accepted L → checked Y dy ≡ accepted M → L ≡ M
-same-layout Related X Y alike dx dy x y = same-accepted
-    (sym x ∙ checked-alike Related X Y alike dx
-    ∙ checked-enough Y dx dy (accepted-sheet X dx _ x .distances) (accepted-sheet Y dy _ y .distances) ∙ y)
+same-layout Related X Y alike dx dy x y = lent-otherwise Y dx dy (sym (checked-alike Related X Y alike dx) ∙ x) y

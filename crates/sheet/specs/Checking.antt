@@ -1,5 +1,6 @@
 -- For contracts alone, with nothing of document 01: what the code's answers of the check say, in the terms of `Layout`.
-use Prim.Native.Nat.{_+_}
+use Prim.Native.Nat.{ℕ, _+_}
+use mathlib.Core.List.{List}
 use lib.ListN.{length}
 use Rattle.sheet.specs.declared.stages.Sizes as S
 use Rattle.sheet.specs.declared.stages.Head.{Head}
@@ -9,6 +10,7 @@ use Rattle.sheet.specs.declared.check.Check.{Check}
 use Rattle.sheet.specs.declared.check.Check.the-variants as C
 use Rattle.checks.specs.Faults.{faultNumber}
 use Rattle.checks.specs.Checked.{Checked, accepted, refused}
+use Rattle.checks.specs.Heads.{isWide}
 use Rattle.sheet.specs.Layout.{Sizes, Layout, sampleCount}
 use Rattle.roads.specs.Roads.{roadAt}
 
@@ -21,17 +23,17 @@ abbrev pub headSaid : Head → Checked Sizes
 headSaid (H.Sizes z) = accepted (sizesSaid z)
 headSaid (H.Refused fault place) = refused (faultNumber fault) place
 
--- ---- the whole sheet
+-- ---- the whole sheet, by its words and what its check finds
 
-abbrev pub layoutOf : Layout → F.Layout
-layoutOf L = record {
+abbrev pub layoutOf : List ℕ → Layout → F.Layout
+layoutOf s L = record {
   places = L.sizes.places;
   signals = L.sizes.signals;
   samples = L.sizes.samples;
   roads = L.roads;
   lines = length (L.lines);
-  recording = roadAt (L.roads);
-  table = roadAt (L.roads) + sampleCount (L.sizes);
+  recording = roadAt (isWide s) (L.roads);
+  table = roadAt (isWide s) (L.roads) + sampleCount (L.sizes);
 }
 
 abbrev pub checkSaid : Check → Checked F.Layout

@@ -1,13 +1,14 @@
--- The check of a whole sheet, front to back: head, roads, samples, lines, end ("The sheet" and "Where a sheet is turned back").
+-- The check of a whole sheet, narrow or wide, front to back: head, roads, samples, lines, end ("The sheet", "Where a sheet is turned back", request M-104).
 use Prim.Native.Nat.{ℕ, zero, suc, _+_, _*_}
-use mathlib.Core.Bool.{_&&_}
+use mathlib.Core.Bool.{Bool, cond, _&&_}
 use mathlib.Core.List.{List, []}
 use lib.Dec.{leb, eqb}
 use lib.ListN.{length}
 use Rattle.words.specs.Word.{bits, payloadOf}
 use Rattle.formulas.specs.Formulas.{Line}
-use Rattle.checks.specs.Limits.{mostPlaces, mostSignals, mostSamples, mostLines, leastDistances}
+use Rattle.checks.specs.Limits.{mostNarrow, mostSignals, mostSamples, mostLines, leastDistances}
 use Rattle.checks.specs.Checked.{Checked, accepted, _>>=_, require, between, wordAt, isKind}
+use Rattle.checks.specs.Heads.{isWide, headOf, placesOf, wideCounted, wideFollowed}
 use Rattle.lines.specs.Lines.{linesFrom}
 use Rattle.roads.specs.Roads.{roadAt, roadsFrom}
 
@@ -26,18 +27,33 @@ pub record Layout : Type 0 where
 abbrev pub sampleCount : Sizes → ℕ
 sampleCount z = z .signals * z .places * z .samples
 
--- the head: bits 27..20 places, 19..12 signals, 11..0 samples
-unfoldable pub sizesOf : ℕ → Sizes
-sizesOf w = record { places = bits 20 8 w; signals = bits 12 8 w; samples = bits 0 12 w }
-
 module _ (s : List ℕ) where
-  -- kind 1, each size in its limits
-  unfoldable pub headChecked : Checked Sizes
-  headChecked =
-      let sizes : Sizes = sizesOf (wordAt s 0) in
-      require (isKind 1 s 0) 2 0
-      (require (between 1 mostPlaces (sizes .places) && (between 1 mostSignals (sizes .signals) && between 1 mostSamples (sizes .samples))) 3 0
-      (accepted sizes))
+  -- the places, and of the head bits 19..12 the signals, 11..0 the samples
+  unfoldable pub sizesOf : Sizes
+  sizesOf = record { places = placesOf s; signals = bits 12 8 (headOf s); samples = bits 0 12 (headOf s) }
+
+  abbrev recorded : Bool
+  recorded = between 1 mostSignals (sizesOf .signals) && between 1 mostSamples (sizesOf .samples)
+
+  -- Given how many distances are lent. Narrow: as many as 64 places have, kind 1, each size in its limits. Wide (M-104): the places and a head with none, the
+  -- other sizes, and a distance for each two places.
+  unfoldable pub narrowChecked : ℕ → Checked Sizes
+  narrowChecked distances =
+      require (leb leastDistances distances) 1 0
+      (require (isKind 1 s 0) 2 0
+      (require (between 1 mostNarrow (sizesOf .places) && recorded) 3 0
+      (accepted sizesOf)))
+
+  unfoldable pub wideChecked : ℕ → Checked Sizes
+  wideChecked distances =
+      require (wideCounted s) 17 0
+      (require (wideFollowed s 1) 17 1
+      (require recorded 3 1
+      (require (leb (sizesOf .places * sizesOf .places) distances) 1 0
+      (accepted sizesOf))))
+
+  unfoldable pub headChecked : ℕ → Checked Sizes
+  headChecked distances = cond (isWide s) (wideChecked distances) (narrowChecked distances)
 
   -- `count` samples from an index on, and the index after them: kind 4, bit 27 zero
   unfoldable pub samplesFrom : ℕ → ℕ → Checked ℕ
@@ -52,9 +68,9 @@ module _ (s : List ℕ) where
 
   -- the whole check, given how many distances are lent
   unfoldable pub checked : ℕ → Checked Layout
-  checked distances = require (leb leastDistances distances) 1 0 (do
-    sizes ← headChecked
+  checked distances = do
+    sizes ← headChecked distances
     roads ← roadsFrom s (sizes .places) (length s) 0 0
-    linesAt ← samplesFrom (sampleCount sizes) (roadAt roads)
+    linesAt ← samplesFrom (sampleCount sizes) (roadAt (isWide s) roads)
     found ← linesFrom s (sizes .signals) (sizes .samples) mostLines [] linesAt
-    endChecked (found .1) (record { sizes = sizes; roads = roads; lines = found .0 }))
+    endChecked (found .1) (record { sizes = sizes; roads = roads; lines = found .0 })

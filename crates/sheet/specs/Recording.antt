@@ -5,6 +5,7 @@ use Rattle.words.specs.Word.{sampleOf}
 use Rattle.network.specs.Network.{Network}
 use Rattle.formulas.specs.Formulas.{Recording}
 use Rattle.checks.specs.Checked.{wordAt}
+use Rattle.checks.specs.Heads.{isWide}
 use Rattle.roads.specs.Roads.{roadAt, networkOf}
 use Rattle.sheet.specs.Layout.{Layout}
 
@@ -19,4 +20,4 @@ module _ (s : List ℕ) where
 
     -- samples stand after the roads
     unfoldable pub recording : Recording
-    recording = recordingOf (roadAt (L.roads)) (L.sizes.places) (L.sizes.signals)
+    recording = recordingOf (roadAt (isWide s) (L.roads)) (L.sizes.places) (L.sizes.signals)

@@ -3,7 +3,6 @@ use crate::stages::Head;
 use crate::stages::check_head;
 use crate::stages::check_samples;
 use checks::fault::Fault;
-use checks::limits::LEAST_DISTANCES;
 use checks::stage::Stage;
 use checks::word::is_end;
 use lines::table::Table;
@@ -49,12 +48,9 @@ fn check_end(s: &[u8], at: usize, found: Layout) -> Check
 
 // Checks a sheet front to back, given how many distances are lent.
 pub fn check_sheet(s: &[u8], distances: usize) -> Check
-    ensures { λ r. ⌜ checkSaid r ≡ mapped layoutOf (checked (wordsOf (now (s .entry))) distances) ⌝ }
+    ensures { λ r. ⌜ checkSaid r ≡ mapped (layoutOf (wordsOf (now (s .entry)))) (checked (wordsOf (now (s .entry))) distances) ⌝ }
 {
-    if distances < LEAST_DISTANCES {
-        return Check::Refused(Fault::DistancesShort, 0);
-    }
-    let sizes = match check_head(s) {
+    let sizes = match check_head(s, distances) {
         Head::Refused(fault, place) => return Check::Refused(fault, place),
         Head::Sizes(sizes) => sizes,
     };
@@ -76,7 +72,7 @@ pub fn check_sheet(s: &[u8], distances: usize) -> Check
                 places: sizes.places,
                 signals: sizes.signals,
                 samples: sizes.samples,
-                // after the head, two words for each road
+                // after a head of one word or of two, two words for each road
                 roads: (recording - 1) / 2,
                 lines,
                 recording,

@@ -12,7 +12,7 @@ ghost use Rattle.sheet.specs.Survey.{surveyed};
 
 // On a refusal the whole table is zero, whatever it held.
 pub fn survey(s: &[u8], distances: &mut [u8]) -> Check
-    ensures decided { λ r. ⌜ checkSaid r ≡ mapped layoutOf (checked (wordsOf (now (s .entry))) (length (numbersOf (wordsOf (now (distances .entry)))))) ⌝ }
+    ensures decided { λ r. ⌜ checkSaid r ≡ mapped (layoutOf (wordsOf (now (s .entry)))) (checked (wordsOf (now (s .entry))) (length (numbersOf (wordsOf (now (distances .entry)))))) ⌝ }
     ensures measured { λ _. ⌜ numbersOf (wordsOf (now (distances .exit))) ≡ surveyed (wordsOf (now (s .entry))) (length (numbersOf (wordsOf (now (distances .entry))))) ⌝ }
     ensures tail { λ _. ⌜ afterNumbers (now (distances .exit)) ≡ replicate (length (afterNumbers (now (distances .entry)))) 0 ⌝ }
 {

@@ -1,17 +1,15 @@
 -- Each part decides one step of the definition, in its order. The places are named by what has passed there.
 use mathlib.Core.Path.{_≡_, sym, _∙_, ap}
 use Prim.Native.Nat.{ℕ, _-_, _/_}
-use mathlib.Core.Bool.{true}
 use mathlib.Core.List.{List, []}
 use native.Mathlib.Omega.{arith}
-use lib.Dec.{leb}
 use lib.ListN.{length}
-use borrow.Author.Tests.{le-leb, lt-leb}
 use Rattle.words.specs.Bytes.{wordsOf}
 use Rattle.sheet.specs.declared.check.Layout as Code
 use Rattle.sheet.specs.declared.stages.Sizes.{Sizes}
-use Rattle.checks.specs.Limits.{mostLines, leastDistances}
+use Rattle.checks.specs.Limits.{mostLines}
 use Rattle.checks.specs.Checked.{accepted}
+use Rattle.checks.specs.Heads.{isWide}
 use Rattle.lines.specs.Lines.{linesFrom}
 use Rattle.sheet.specs.Layout.{sampleCount, headChecked, samplesFrom, endChecked, checked}
 use Rattle.roads.specs.Roads.{roadAt, roadsFrom}
@@ -21,52 +19,43 @@ use Rattle.lines.specs.Decoding.{tableSaid, lineCount}
 use Rattle.sheet.specs.Checking.{sizesSaid, headSaid, layoutOf}
 use Rattle.sheet.proofs.Accepted.{SizesWithin, head-accepted, sample-count}
 use Rattle.checks.proofs.Checks.{mapped-accepted, mapped-refused}
+use Rattle.checks.proofs.Heads.{few-head-words}
 use Rattle.sheet.proofs.Whole.{lines-refused, end-next}
 use borrow.Author.Needs.{needs}
 use Rattle.sheet.proofs.check.check_sheet.Statement.{statement}
 use Rattle.sheet.proofs.check.check_sheet.Tie as tie
 
-returns : tie.Need-returns
-unfolding checked
-returns c = simp (lt-leb _ _ (c .if1 .taken))
-
 -- ---- the head has passed
 
-abbrev tested : tie.After-known-told2 → tie.Else1
-tested c = c .before .before .before .before
-
 abbrev bytes : tie.After-known-told2 → List ℕ
-bytes c = c .before .before .before .before .before .before .args .s .now
+bytes c = c .before .before .before .before .before .args .s .now
 
 abbrev sheet : tie.After-known-told2 → List ℕ
 sheet c = wordsOf (bytes c)
 
 abbrev lent : tie.After-known-told2 → ℕ
-lent c = c .before .before .before .before .before .before .args .distances
+lent c = c .before .before .before .before .before .args .distances
 
 abbrev sizes : tie.After-known-told2 → Sizes
 sizes c = c .before .sizes .given .0 .0
 
-enough : (c : tie.Else1) → leb leastDistances (c .before .before .args .distances) ≡ true
-enough c = le-leb _ _ (c .if1 .left)
-
-head-found : (c : tie.After-known-told2) → headChecked (sheet c) ≡ accepted (sizesSaid (sizes c))
+head-found : (c : tie.After-known-told2) → headChecked (sheet c) (lent c) ≡ accepted (sizesSaid (sizes c))
 head-found c = sym (c .before .before .before .check-head .ensures) ∙ ap headSaid (c .before .sizes .given .1)
 
 within : (c : tie.After-known-told2) → SizesWithin (sizesSaid (sizes c))
-within c = head-accepted (sheet c) (head-found c)
+within c = head-accepted (sheet c) (lent c) (head-found c)
+
+returns : tie.Need-returns
+unfolding checked
+returns c = simp (sym (c .before .before .before .check-head .ensures) ∙ ap headSaid (c .before .fault .given .1))
 
 returns-2 : tie.Need-returns-2
 unfolding checked
-returns-2 c = simp (enough (c .before .before .before .before), sym (c .before .before .before .check-head .ensures) ∙ ap headSaid (c .before .fault .given .1))
-
-returns-3 : tie.Need-returns-3
-unfolding checked
-returns-3 c =
+returns-2 c =
     let head = c .before .before .before .before in
-    let refused-roads = mapped-refused roadAt (roadsFrom (sheet head) (sizes head .places) (length (sheet head)) 0 0)
+    let refused-roads = mapped-refused (roadAt (isWide (sheet head))) (roadsFrom (sheet head) (sizes head .places) (length (sheet head)) 0 0)
     (sym (c .before .before .before .check-roads .ensures) ∙ ap stageSaid (c .before .fault2 .given .1)) in
-    simp (enough (tested head), head-found head, refused-roads)
+    simp (head-found head, refused-roads)
 
 -- ---- the roads have passed
 
@@ -77,10 +66,10 @@ abbrev recording : tie.After-known-told4 → ℕ
 recording c = c .before .after .given .0 .0
 
 roads-passed : (c : tie.After-known-told4)
-    → (r : ℕ) × (roadsFrom (sheet (to-head c)) (sizes (to-head c) .places) (length (sheet (to-head c))) 0 0 ≡ accepted r) × (roadAt r ≡ recording c)
+    → (r : ℕ) × (roadsFrom (sheet (to-head c)) (sizes (to-head c) .places) (length (sheet (to-head c))) 0 0 ≡ accepted r) × (roadAt (isWide (sheet (to-head c))) r ≡ recording c)
 roads-passed c =
     let head = to-head c in
-    mapped-accepted roadAt (roadsFrom (sheet head) (sizes head .places) (length (sheet head)) 0 0)
+    mapped-accepted (roadAt (isWide (sheet head))) (roadsFrom (sheet head) (sizes head .places) (length (sheet head)) 0 0)
     (sym (c .before .before .before .check-roads .ensures) ∙ ap stageSaid (c .before .after .given .1))
 
 mul-count : tie.Need-mul-count
@@ -89,13 +78,13 @@ mul-count c = let few = sample-count (within (to-head (c .before))) in omega ari
 mul-count-2 : tie.Need-mul-count-2
 mul-count-2 c = let few = sample-count (within (to-head (c .before .before))) in omega arith
 
-returns-4 : tie.Need-returns-4
+returns-3 : tie.Need-returns-3
 unfolding checked
-returns-4 c =
+returns-3 c =
     let roads = c .before .before .before .before .before .before in
     let head = to-head roads in
     let passed = roads-passed roads in
-    simp (enough (tested head), head-found head, passed .1, passed .2, sym (c .before .before .before .check-samples .ensures) ∙ ap stageSaid (c .before .fault3 .given .1))
+    simp (head-found head, passed .1, passed .2, sym (c .before .before .before .check-samples .ensures) ∙ ap stageSaid (c .before .fault3 .given .1))
 
 -- ---- the samples have passed
 
@@ -141,49 +130,48 @@ layout c =
       table = table (to-samples c);
     }
 
-whole : (c : tie.After-known-told8) → mapped layoutOf (checked (sheet (first c)) (lent (first c))) ≡ endChecked (sheet (first c)) (next c) (layout c)
+whole : (c : tie.After-known-told8) → mapped (layoutOf (sheet (first c))) (checked (sheet (first c)) (lent (first c))) ≡ endChecked (sheet (first c)) (next c) (layout c)
 unfolding layout
 whole c =
-    end-next (sheet (first c)) (lent (first c)) (enough (tested (first c))) (head-found (first c)) (roads-passed (to-roads (to-samples c)) .1)
+    end-next (sheet (first c)) (lent (first c)) (head-found (first c)) (roads-passed (to-roads (to-samples c)) .1)
     (roads-passed (to-roads (to-samples c)) .2) (samples-found (to-samples c)) (lines-found c)
 
-sub-t31 : tie.Need-sub-t31
-sub-t31 c = let begins = roads-passed (to-roads (to-samples c)) .2 in omega arith
+sub-t29 : tie.Need-sub-t29
+sub-t29 c = let begins = roads-passed (to-roads (to-samples c)) .2 in omega (arith, few-head-words (isWide (sheet (first c))))
 
-returns-5 : tie.Need-returns-5
-returns-5 c =
+returns-4 : tie.Need-returns-4
+returns-4 c =
     let samples = c .before .before .before .before in
     let read = sym (c .before .before .before .check-lines .ensures) ∙ ap tableSaid (c .before .fault4 .given .1) in
-    sym (ap (mapped layoutOf) (lines-refused (sheet (to-head (to-roads samples))) (lent (to-head (to-roads samples)))
-    (enough (tested (to-head (to-roads samples)))) (head-found (to-head (to-roads samples))) (roads-passed (to-roads samples) .1) (roads-passed (to-roads samples) .2) (samples-found samples) read))
+    sym (ap (mapped (layoutOf (sheet (to-head (to-roads samples))))) (lines-refused (sheet (to-head (to-roads samples))) (lent (to-head (to-roads samples)))
+    (head-found (to-head (to-roads samples))) (roads-passed (to-roads samples) .1) (roads-passed (to-roads samples) .2) (samples-found samples) read))
 
-returns-6 : tie.Need-returns-6
+returns-5 : tie.Need-returns-5
 unfolding layout
-returns-6 c = c .check-end .ensures ∙ sym (whole (c .before))
+returns-5 c = c .check-end .ensures ∙ sym (whole (c .before))
 
 pub check-sheet-spec : {M : Type 1} → statement M
 check-sheet-spec =
     tie.close
     (tie.spec
+    (λ c κs. search needs)
+    (λ c. search needs)
     returns
+    (λ c. search needs)
     (λ c κs. search needs)
     (λ c. search needs)
     returns-2
-    (λ c. search needs)
-    (λ c κs. search needs)
-    (λ c. search needs)
-    returns-3
     (λ c. search needs)
     mul-count
     mul-count-2
     (λ c κs. search needs)
     (λ c. search needs)
-    returns-4
+    returns-3
     (λ c. search needs)
     check-lines-requires
     (λ c. search needs)
     (λ c. search needs)
-    sub-t31
+    sub-t29
     (λ c κs. search needs)
-    returns-5
-    returns-6)
+    returns-4
+    returns-5)

@@ -15,8 +15,8 @@ use Rattle.sheet.proofs.survey.survey.Statement.{statement}
 use Rattle.sheet.proofs.survey.survey.Tie as tie
 
 -- the outcome of the check, by the room that was counted
-decided : (c : tie.After-check-sheet) → checkSaid (c .check-sheet .result) ≡ mapped layoutOf (checked (wordsOf (c .before .before .before .before .before .args .s .now)) (length (numbersOf (wordsOf (c .before .before .before .before .before .args .distances .now)))))
-decided c = c .check-sheet .ensures ∙ ap (λ (d : ℕ). mapped layoutOf (checked (wordsOf (c .before .before .before .before .before .args .s .now)) d)) (c .before .number-count .ensures)
+decided : (c : tie.After-check-sheet) → checkSaid (c .check-sheet .result) ≡ mapped (layoutOf (wordsOf (c .before .before .before .before .before .args .s .now))) (checked (wordsOf (c .before .before .before .before .before .args .s .now)) (length (numbersOf (wordsOf (c .before .before .before .before .before .args .distances .now)))))
+decided c = c .check-sheet .ensures ∙ ap (λ (d : ℕ). mapped (layoutOf (wordsOf (c .before .before .before .before .before .args .s .now))) (checked (wordsOf (c .before .before .before .before .before .args .s .now)) d)) (c .before .number-count .ensures)
 
 fill-distances-requires : tie.Need-fill-distances-requires
 fill-distances-requires c κs =
