@@ -1,6 +1,7 @@
--- Rows that are written strip by strip, masks and flags, and where the words of a signal and the distances of a centre stand.
-use mathlib.Core.Path.{_≡_, refl, ap, subst, _∙_}
-use mathlib.Core.Bool.{Bool, true, false, cond}
+-- Rows of a buffer: where their strips lie, a row that is written strip by strip, rows that are kept; masks and flags; and where the words of a signal and
+-- the distances of a centre stand.
+use mathlib.Core.Path.{_≡_, refl, subst, _∙_}
+use mathlib.Core.Bool.{Bool, true, false}
 use mathlib.Core.List.{List}
 use Prim.Native.Nat.{ℕ, _+_, _*_, _<_, _≤_}
 use native.Mathlib.Nat.{le-mul-of-pos-right}
@@ -15,60 +16,94 @@ use Rattle.words.proofs.Rows.{in-table}
 use Rattle.logic.specs.Iteration.{masked}
 use Rattle.values.specs.Signals.{signalIn}
 use Rattle.lanes.specs.declared.rows.Block.{Block}
-use Rattle.lanes.specs.Lanes.{lanes, laneOf}
+use Rattle.lanes.specs.Lanes.{lanes, rowCount, stripOf, Numbers, rowIn}
 use Rattle.lanes.specs.Strips.{Written}
-use Rattle.lanes.specs.Rows.{RowOf, RowWritten, laneSignal, flagged, Marked, maskedBy}
-use Rattle.lanes.proofs.StripLaws.{written-already}
+use Rattle.lanes.specs.Rows.{RowOf, RowWritten, KeptBelow, laneSignal, flagged, Marked, maskedBy}
 
-row-none : (f : ℕ → ℕ → ℕ) (row : List ℕ) → RowOf f row 0
-row-none f row = record { at = λ place lane b l. absurd (omega arith) }
+-- ---- the strips of a buffer
 
-pub row-more : (f : ℕ → ℕ → ℕ) (g : ℕ → ℕ) (row row′ : List ℕ) (k : ℕ) → RowOf f row k → Written k lanes g row row′
-    → ((lane : ℕ) → lane < lanes → g lane ≡ f lane k) → RowOf f row′ (k + 1)
-row-more f g row row′ k w s e = record {
-  at = λ place lane b l. below-more (λ p. laneOf row′ lane p ≡ f lane p) k
-      (λ p c. s .kept p lane l (λ q. absurd (omega arith)) ∙ w .at p lane c l)
-      (s .written lane l ∙ e lane l)
-      place b;
-}
+-- a strip is that of one row at one place
+same-strip : (row place other k : ℕ) → row < rowCount → other < rowCount → stripOf row place ≡ stripOf other k → (row ≡ other) × (place ≡ k)
+same-strip row place other k b c e = (omega arith, omega arith)
+
+-- a strip of a row is written: what the row then has there, and that all else is kept
+module _ (row place : ℕ) {f : ℕ → ℕ} {before after : List ℕ} (w : Written (stripOf row place) lanes f before after) where
+  pub strip-written : (lane : ℕ) → lane < lanes → rowIn after row lane place ≡ f lane
+  unfolding rowIn
+  strip-written lane l = w .written lane l
+
+  pub strip-kept : row < rowCount → (other k lane : ℕ) → other < rowCount → lane < lanes → (other ≡ row → k ≡ place → ⊥) → rowIn after other lane k ≡ rowIn before other lane k
+  unfolding rowIn
+  strip-kept b other k lane c l h =
+      w .kept (stripOf other k) lane l (λ e. let (same, here) = same-strip other k row place c b e in absurd (h same here))
+
+-- ---- a row that is written strip by strip
 
 -- what a loop over the places knows, after k of them
-pub row-written-none : (f : ℕ → ℕ → ℕ) (row : List ℕ) → RowWritten 0 f row row
-row-written-none f row = record { written = row-none f row; kept = λ _ _ _ _. refl; long = refl }
+pub row-written-none : (row : ℕ) (f : Numbers) (buffer : List ℕ) → RowWritten row 0 f buffer buffer
+row-written-none row f buffer = record {
+  written = record { at = λ place lane b l. absurd (omega arith) };
+  kept = λ _ _ _ _ _ _. refl;
+  long = refl;
+}
 
-module _ {k : ℕ} {f : ℕ → ℕ → ℕ} {before row : List ℕ} (w : RowWritten k f before row) where
-  pub row-written-more : {g : ℕ → ℕ} {row′ : List ℕ} → Written k lanes g row row′ → length row′ ≡ length row → ((lane : ℕ) → lane < lanes → g lane ≡ f lane k)
-      → RowWritten (k + 1) f before row′
-  row-written-more {g} {row′} s long e = record {
-    written = row-more f g row row′ k (w .written) s e;
-    kept = λ place lane b l. s .kept place lane l (λ q. absurd (omega arith)) ∙ w .kept place lane (omega arith) l;
+module _ {row k : ℕ} {f : Numbers} {before buffer : List ℕ} (w : RowWritten row k f before buffer) where
+  pub row-written-more : row < rowCount → {g : ℕ → ℕ} {after : List ℕ} → Written (stripOf row k) lanes g buffer after → length after ≡ length buffer
+      → ((lane : ℕ) → lane < lanes → g lane ≡ f lane k) → RowWritten row (k + 1) f before after
+  row-written-more b {after = after} s long e = record {
+    written = record {
+      at = λ place lane c l. below-more (λ p. rowIn after row lane p ≡ f lane p) k
+          (λ p d. strip-kept row k s b row p lane b l (λ _ q. absurd (omega arith)) ∙ w .written .at p lane d l)
+          (strip-written row k s lane l ∙ e lane l)
+          place c;
+    };
+    kept = λ other place lane c l h. strip-kept row k s b other place lane c l (λ same q. absurd (omega (arith, h same)))
+        ∙ w .kept other place lane c l (λ same. omega (arith, h same));
     long = long ∙ w .long;
   }
 
-  pub row-written-strip : {row′ : List ℕ} → Written k lanes (λ lane. f lane k) row row′ → length row′ ≡ length row → RowWritten (k + 1) f before row′
-  row-written-strip s long = row-written-more s long (λ _ _. refl)
+  pub row-written-strip : row < rowCount → {after : List ℕ} → Written (stripOf row k) lanes (λ lane. f lane k) buffer after → length after ≡ length buffer → RowWritten row (k + 1) f before after
+  row-written-strip b s long = row-written-more b s long (λ _ _. refl)
 
-  -- a strip that holds already what would be written
-  pub row-written-already : ((lane : ℕ) → laneOf before lane k ≡ f lane k) → RowWritten (k + 1) f before row
-  row-written-already e = row-written-more (written-already (λ lane l. w .kept k lane (omega arith) l)) refl (λ lane _. e lane)
+  pub row-written-all : {n : ℕ} → k ≡ n → RowWritten row n f before buffer
+  row-written-all e = subst (λ i. RowWritten row i f before buffer) e w
 
-  pub row-written-all : {n : ℕ} → k ≡ n → RowWritten n f before row
-  row-written-all e = subst (λ i. RowWritten i f before row) e w
+  -- another row is kept
+  pub other-row-kept : (other : ℕ) → other < rowCount → (other ≡ row → ⊥) → (place lane : ℕ) → lane < lanes → rowIn buffer other lane place ≡ rowIn before other lane place
+  other-row-kept other b h place lane l = w .kept other place lane b l (λ same. absurd (h same))
+
+-- ---- rows below one that are kept
+pub kept-below-refl : (row : ℕ) (buffer : List ℕ) → KeptBelow row buffer buffer
+kept-below-refl row buffer = record { kept = λ _ _ _ _ _. refl; long = refl }
+
+module _ {row : ℕ} {before buffer : List ℕ} (w : KeptBelow row before buffer) where
+  pub kept-below-trans : {after : List ℕ} → KeptBelow row buffer after → KeptBelow row before after
+  kept-below-trans v = record { kept = λ other place lane b l. v .kept other place lane b l ∙ w .kept other place lane b l; long = v .long ∙ w .long }
+
+  pub kept-below-lower : {lower : ℕ} → lower ≤ row → KeptBelow lower before buffer
+  kept-below-lower h = record { kept = λ other place lane b l. w .kept other place lane (omega arith) l; long = w .long }
+
+pub kept-below-strip : (row written place : ℕ) {f : ℕ → ℕ} {before after : List ℕ} → row ≤ written → written < rowCount → Written (stripOf written place) lanes f before after
+    → length after ≡ length before → KeptBelow row before after
+kept-below-strip row written place h b w long = record {
+  kept = λ other k lane c l. strip-kept written place w b other k lane (omega arith) l (λ same _. absurd (omega arith));
+  long = long;
+}
+
+pub kept-below-row : {row written k : ℕ} {f : Numbers} {before after : List ℕ} → row ≤ written → written < rowCount → RowWritten written k f before after → KeptBelow row before after
+kept-below-row h b w = record {
+  kept = λ other place lane c l. other-row-kept w other (omega arith) (λ same. absurd (omega arith)) place lane l;
+  long = w .long;
+}
 
 -- ---- masks and flags
-pub masked-in : (test : ℕ → Bool) (row : List ℕ) (lane place : ℕ) → test place ≡ true → laneOf row lane place ≡ maskedBy test row lane place
+pub masked-in : (test : ℕ → Bool) (row : Numbers) (lane place : ℕ) → test place ≡ true → row lane place ≡ maskedBy test row lane place
 unfolding masked
 masked-in test row lane place e = rw e refl
 
-pub masked-out : (test : ℕ → Bool) (row : List ℕ) (lane place : ℕ) → test place ≡ false → 0 ≡ maskedBy test row lane place
+pub masked-out : (test : ℕ → Bool) (row : Numbers) (lane place : ℕ) → test place ≡ false → 0 ≡ maskedBy test row lane place
 unfolding masked
 masked-out test row lane place e = rw e refl
-
--- one strip more, masked by the outcome of the test
-pub masked-strip : (test : ℕ → Bool) (from : List ℕ) {k : ℕ} {before row row′ : List ℕ} {r : Bool} → RowWritten k (maskedBy test from) before row
-    → Written k lanes (λ lane. cond r (laneOf from lane k) 0) row row′ → length row′ ≡ length row → r ≡ test k → RowWritten (k + 1) (maskedBy test from) before row′
-unfolding masked
-masked-strip test from {k} w s long e = row-written-more w s long (λ lane _. ap (λ (t : Bool). cond t (laneOf from lane k) 0) e)
 
 pub marked-none : (test : ℕ → Bool) (flags : List Bool) → Marked test flags 0
 marked-none test flags = record { flag = λ p l. absurd (omega arith) }
@@ -97,9 +132,9 @@ pub distance-there : (bytes : List ℕ) {n centre place : ℕ} → centre < n �
 distance-there bytes b c room = let t = in-table b c in (omega arith, omega (arith, length-numbers bytes))
 
 -- ---- a row that was read from the words: its lanes below `count` have the samples, and the others are lowest
-module _ (words : List ℕ) (start n : ℕ) (block : Block) (row : List ℕ) (w : RowOf (laneSignal words start n block) row n) where
-  pub lane-signal : (lane l : ℕ) → block .count ≤ lanes → lane < block .count → l < n → laneOf row lane l ≡ signalIn words start n (block .first + lane) l
+module _ (words : List ℕ) (start n : ℕ) (block : Block) (row : Numbers) (w : RowOf (laneSignal words start n block) row n) where
+  pub lane-signal : (lane l : ℕ) → block .count ≤ lanes → lane < block .count → l < n → row lane l ≡ signalIn words start n (block .first + lane) l
   lane-signal lane l h c b = w .at l lane b (omega arith) ∙ simp (lt-ltb lane (block .count) c)
 
-  pub lane-zero : (lane l : ℕ) → lane < lanes → block .count ≤ lane → l < n → laneOf row lane l ≡ 0
+  pub lane-zero : (lane l : ℕ) → lane < lanes → block .count ≤ lane → l < n → row lane l ≡ 0
   lane-zero lane l h c b = w .at l lane b h ∙ simp (le-ltb lane (block .count) c)

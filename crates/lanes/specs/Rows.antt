@@ -1,5 +1,5 @@
--- Rows of lanes that are written strip by strip, from the words of an answer or masked by a test. These are for contracts inside the engine: no
--- promise to a host speaks of them.
+-- Rows of a buffer that are written strip by strip, from the words of an answer, and masks. These are for contracts inside the engine: no promise to a host
+-- speaks of them.
 use mathlib.Core.Path.{_≡_}
 use mathlib.Core.Bool.{Bool, false, cond}
 use mathlib.Core.List.{List}
@@ -12,16 +12,25 @@ use Rattle.lines.specs.declared.operator.Bounds.{Bounds}
 use Rattle.values.specs.Chain.{chainLattice}
 use Rattle.values.specs.Signals.{signalIn, inTable}
 use Rattle.lanes.specs.declared.rows.Block.{Block}
-use Rattle.lanes.specs.Lanes.{lanes, laneOf}
+use Rattle.lanes.specs.Lanes.{lanes, rowCount, Numbers, rowIn}
 
--- a row by its numbers, as far as the first k places
-pub record RowOf (f : ℕ → ℕ → ℕ) (row : List ℕ) (k : ℕ) : Type 0 where
-  pub at : (place lane : ℕ) → place < k → lane < lanes → laneOf row lane place ≡ f lane place
+-- a buffer has room for n places
+abbrev pub Room : ℕ → List ℕ → Type 0
+Room n buffer = n * rowCount * lanes ≤ length buffer
 
--- the strips of the first k places are written, and nothing else is
-pub record RowWritten (k : ℕ) (f : ℕ → ℕ → ℕ) (before after : List ℕ) : Type 0 where
-  pub written : RowOf f after k
-  pub kept : (place lane : ℕ) → k ≤ place → lane < lanes → laneOf after lane place ≡ laneOf before lane place
+-- numbers that are those of another row, as far as the first k places
+pub record RowOf (f row : Numbers) (k : ℕ) : Type 0 where
+  pub at : (place lane : ℕ) → place < k → lane < lanes → row lane place ≡ f lane place
+
+-- a row is written at the first k places, and nothing else is
+pub record RowWritten (row k : ℕ) (f : Numbers) (before after : List ℕ) : Type 0 where
+  pub written : RowOf f (rowIn after row) k
+  pub kept : (other place lane : ℕ) → other < rowCount → lane < lanes → (other ≡ row → k ≤ place) → rowIn after other lane place ≡ rowIn before other lane place
+  pub long : length after ≡ length before
+
+-- the rows below one are kept
+pub record KeptBelow (row : ℕ) (before after : List ℕ) : Type 0 where
+  pub kept : (other place lane : ℕ) → other < row → lane < lanes → rowIn after other lane place ≡ rowIn before other lane place
   pub long : length after ≡ length before
 
 -- ---- signals: n words to a sample from index `start` on
@@ -31,7 +40,7 @@ abbrev pub BlockThere : List ℕ → ℕ → ℕ → Block → Type 0
 BlockThere words start n b = start + (b .first + b .count) * n ≤ length (wordsOf words)
 
 -- a lane holds the signal at one sample, and the lowest number past the last of the samples
-abbrev pub laneSignal : List ℕ → ℕ → ℕ → Block → ℕ → ℕ → ℕ
+abbrev pub laneSignal : List ℕ → ℕ → ℕ → Block → Numbers
 laneSignal words start n b lane place = cond (ltb lane (b .count)) (signalIn words start n (b .first + lane) place) 0
 
 -- ---- tests on places
@@ -53,5 +62,5 @@ pub record Marked (test : ℕ → Bool) (flags : List Bool) (k : ℕ) : Type 0 w
   pub flag : (place : ℕ) → place < k → flagged flags place ≡ test place
 
 -- the numbers of a row, by lane and place, the lowest where the test fails
-abbrev pub maskedBy : (ℕ → Bool) → List ℕ → ℕ → ℕ → ℕ
-maskedBy test row lane = masked chainLattice test (laneOf row lane)
+abbrev pub maskedBy : (ℕ → Bool) → Numbers → Numbers
+maskedBy test row lane = masked chainLattice test (row lane)

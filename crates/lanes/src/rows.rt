@@ -1,15 +1,12 @@
-// Rows of lanes from the words of an answer, and rows masked by distance.
+// A row of lanes from the words of an answer, and the range of a centre.
 ghost use mathlib.Core.Path.{_≡_};
-ghost use mathlib.Core.Bool.{cond};
-ghost use Prim.Native.Nat.{_+_, _*_, _≤_, _<_};
-ghost use lib.ListN.{length};
+ghost use Prim.Native.Nat.{_<_};
 ghost use Rattle.words.specs.Bytes.{wordsOf};
-ghost use Rattle.lanes.specs.Lanes.{lanes, laneOf};
+ghost use Rattle.lanes.specs.Lanes.{lanes, rowCount, stripOf};
 ghost use Rattle.lanes.specs.Strips.{Written};
-ghost use Rattle.lanes.specs.Rows.{RowWritten, BlockThere, laneSignal, within, TableThere, flagged, Marked, maskedBy};
+ghost use Rattle.lanes.specs.Rows.{Room, RowWritten, BlockThere, laneSignal, within, TableThere};
 use crate::LANES;
-use crate::strips::clear_strip;
-use crate::strips::copy_strip;
+use crate::ROWS;
 use lines::operator::Bounds;
 
 // Samples first to first + count - 1, side by side.
@@ -43,23 +40,25 @@ fn load_strip(
     places: usize,
     block: Block,
     place: usize,
-    row: &mut [u32],
+    row: usize,
+    rows: &mut [u32],
 )
-    requires { ⌜ BlockThere (now words) start places block × (place < places) × (place * lanes + lanes ≤ length (now row)) ⌝ }
-    ensures { λ _. ⌜ Written place lanes (λ lane. laneSignal (wordsOf (now (words .entry))) start places block lane place) (now (row .entry)) (now (row .exit)) ⌝ }
+    requires { ⌜ BlockThere (now words) start places block × (place < places) × (row < rowCount) × Room places (now rows) ⌝ }
+    ensures { λ _. ⌜ Written (stripOf row place) lanes (λ lane. laneSignal (wordsOf (now (words .entry))) start places block lane place) (now (rows .entry)) (now (rows .exit)) ⌝ }
 {
+    let strip = place * ROWS + row;
     for lane in 0..LANES {
-        row[place * LANES + lane] = lane_signal(words, start, places, block, place, lane);
+        rows[strip * LANES + lane] = lane_signal(words, start, places, block, place, lane);
     }
 }
 
-// Decodes a signal at the samples of a block, once for all centres.
-pub fn load(words: &[u8], start: usize, places: usize, block: Block, row: &mut [u32])
-    requires { ⌜ BlockThere (now words) start places block × (places * lanes ≤ length (now row)) ⌝ }
-    ensures { λ _. ⌜ RowWritten places (laneSignal (wordsOf (now (words .entry))) start places block) (now (row .entry)) (now (row .exit)) ⌝ }
+// Decodes a signal at the samples of a block into a row, once for all centres.
+pub fn load(words: &[u8], start: usize, places: usize, block: Block, row: usize, rows: &mut [u32])
+    requires { ⌜ BlockThere (now words) start places block × (row < rowCount) × Room places (now rows) ⌝ }
+    ensures { λ _. ⌜ RowWritten row places (laneSignal (wordsOf (now (words .entry))) start places block) (now (rows .entry)) (now (rows .exit)) ⌝ }
 {
     for place in 0..places {
-        load_strip(words, start, places, block, place, row);
+        load_strip(words, start, places, block, place, row, rows);
     }
 }
 
@@ -79,56 +78,4 @@ pub fn in_range(
         return false;
     }
     distance <= bounds.upper as u64
-}
-
-// Flags the places of the ball about a centre.
-pub fn mark_ball(inside: &mut [bool], distances: &[u8], centre: usize, ball: Bounds)
-    requires { ⌜ (centre < length (now inside)) × TableThere (now distances) (length (now inside)) ⌝ }
-    ensures { λ _. ⌜ Marked (within (now (distances .entry)) (length (now (inside .entry))) centre ball) (now (inside .exit)) (length (now (inside .entry))) ⌝ }
-{
-    let places = inside.len();
-    for place in 0..places {
-        inside[place] = in_range(distances, places, centre, place, ball);
-    }
-}
-
-// Outside this ball a row has what another centre's ball left there, and a pull would bring it in.
-pub fn clear_outside(inside: &[bool], row: &mut [u32])
-    requires { ⌜ length (now inside) * lanes ≤ length (now row) ⌝ }
-    ensures { λ _. ⌜ RowWritten (length (now (inside .entry))) (maskedBy (flagged (now (inside .entry))) (now (row .entry))) (now (row .entry)) (now (row .exit)) ⌝ }
-{
-    for place in 0..inside.len() {
-        if !inside[place] {
-            clear_strip(row, place);
-        }
-    }
-}
-
-fn mask_strip(from: &[u32], to: &mut [u32], place: usize, inside: bool)
-    requires { ⌜ (place * lanes + lanes ≤ length (now from)) × (place * lanes + lanes ≤ length (now to)) ⌝ }
-    ensures { λ _. ⌜ Written place lanes (λ lane. cond inside (laneOf (now (from .entry)) lane place) 0) (now (to .entry)) (now (to .exit)) ⌝ }
-{
-    if inside {
-        copy_strip(from, to, place);
-    } else {
-        clear_strip(to, place);
-    }
-}
-
-// Corollary 4.6: a number outside its range about the centre counts as the lowest.
-pub fn mask(
-    from: &[u32],
-    to: &mut [u32],
-    distances: &[u8],
-    centre: usize,
-    places: usize,
-    bounds: Bounds,
-)
-    requires { ⌜ (centre < places) × TableThere (now distances) places × (places * lanes ≤ length (now from)) × (places * lanes ≤ length (now to)) ⌝ }
-    ensures { λ _. ⌜ RowWritten places (maskedBy (within (now (distances .entry)) places centre bounds) (now (from .entry))) (now (to .entry)) (now (to .exit)) ⌝ }
-{
-    for place in 0..places {
-        let inside = in_range(distances, places, centre, place, bounds);
-        mask_strip(from, to, place, inside);
-    }
 }

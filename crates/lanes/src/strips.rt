@@ -1,50 +1,50 @@
-// Loops over the lanes of one place, a strip. Their count is a constant, so that the compiler unrolls them.
+// Loops over the lanes of one strip. Their count is a constant, so that the compiler unrolls them. What is read of a strip is held in an array of its own
+// before a strip is written: that lets all lanes be worked on at once, though both strips lie in one buffer.
 ghost use mathlib.Core.Path.{_≡_};
 ghost use Prim.Native.Nat.{_+_, _*_, _/_, _≤_};
-ghost use lib.ListN.{length};
-ghost use Rattle.values.specs.Chain.{chainLattice};
+ghost use lib.ListN.{length, getD};
 ghost use Rattle.lanes.specs.Lanes.{lanes, laneOf};
-ghost use Rattle.lanes.specs.Strips.{ofTwo, Written, StripsApart};
+ghost use Rattle.lanes.specs.Strips.{ofTwo, Held, Written, StripsApart};
 use crate::LANES;
-use values::bottom;
 use values::greater;
 use values::lesser;
 
-pub fn fill_strip(row: &mut [u32], place: usize, value: u32)
-    requires { ⌜ place * lanes + lanes ≤ length (now row) ⌝ }
-    ensures { λ _. ⌜ Written place lanes (λ _. value) (now (row .entry)) (now (row .exit)) ⌝ }
+// The numbers of a strip.
+fn strip_at(rows: &[u32], strip: usize) -> [u32; LANES]
+    requires { ⌜ strip * lanes + lanes ≤ length (now rows) ⌝ }
+    ensures { λ r. ⌜ Held lanes (λ lane. laneOf (now (rows .entry)) lane strip) r ⌝ }
+{
+    let mut numbers: [u32; LANES] = [0; LANES];
+    for lane in 0..LANES {
+        numbers[lane] = rows[strip * LANES + lane];
+    }
+    numbers
+}
+
+fn put_strip(rows: &mut [u32], strip: usize, numbers: &[u32; LANES])
+    requires { ⌜ strip * lanes + lanes ≤ length (now rows) ⌝ }
+    ensures { λ _. ⌜ Written strip lanes (λ lane. getD (now (numbers .entry)) lane 0) (now (rows .entry)) (now (rows .exit)) ⌝ }
 {
     for lane in 0..LANES {
-        row[place * LANES + lane] = value;
+        rows[strip * LANES + lane] = numbers[lane];
     }
 }
 
-// The lanes of a place become lowest.
-pub(crate) fn clear_strip(row: &mut [u32], place: usize)
-    requires { ⌜ place * lanes + lanes ≤ length (now row) ⌝ }
-    ensures { λ _. ⌜ Written place lanes (λ _. 0) (now (row .entry)) (now (row .exit)) ⌝ }
-{
-    fill_strip(row, place, bottom());
-}
-
-pub fn copy_strip(from: &[u32], to: &mut [u32], place: usize)
-    requires { ⌜ (place * lanes + lanes ≤ length (now from)) × (place * lanes + lanes ≤ length (now to)) ⌝ }
-    ensures { λ _. ⌜ Written place lanes (λ lane. laneOf (now (from .entry)) lane place) (now (to .entry)) (now (to .exit)) ⌝ }
+pub fn fill_strip(rows: &mut [u32], strip: usize, value: u32)
+    requires { ⌜ strip * lanes + lanes ≤ length (now rows) ⌝ }
+    ensures { λ _. ⌜ Written strip lanes (λ _. value) (now (rows .entry)) (now (rows .exit)) ⌝ }
 {
     for lane in 0..LANES {
-        let at = place * LANES + lane;
-        to[at] = from[at];
+        rows[strip * LANES + lane] = value;
     }
 }
 
-pub fn greater_strip(x: &[u32], right: &[u32], both: &mut [u32], place: usize)
-    requires { ⌜ (place * lanes + lanes ≤ length (now x)) × (place * lanes + lanes ≤ length (now right)) × (place * lanes + lanes ≤ length (now both)) ⌝ }
-    ensures { λ _. ⌜ Written place lanes (λ lane. chainLattice .join (laneOf (now (x .entry)) lane place) (laneOf (now (right .entry)) lane place)) (now (both .entry)) (now (both .exit)) ⌝ }
+pub fn copy_strip(rows: &mut [u32], from: usize, to: usize)
+    requires { ⌜ (from * lanes + lanes ≤ length (now rows)) × (to * lanes + lanes ≤ length (now rows)) ⌝ }
+    ensures { λ _. ⌜ Written to lanes (λ lane. laneOf (now (rows .entry)) lane from) (now (rows .entry)) (now (rows .exit)) ⌝ }
 {
-    for lane in 0..LANES {
-        let at = place * LANES + lane;
-        both[at] = greater(x[at], right[at]);
-    }
+    let numbers = strip_at(rows, from);
+    put_strip(rows, to, &numbers);
 }
 
 fn of_two(a: u32, b: u32, least: bool) -> u32
@@ -53,26 +53,35 @@ fn of_two(a: u32, b: u32, least: bool) -> u32
     if least { lesser(a, b) } else { greater(a, b) }
 }
 
-// What stands at another place of a row comes to this place of x, which has both places: the lesser of both stays here, or the greater.
-pub fn pull_strip(x: &mut [u32], from: &[u32], place: usize, other: usize, least: bool)
-    requires { ⌜ (place * lanes + lanes ≤ length (now x)) × (other * lanes + lanes ≤ length (now x)) × (other * lanes + lanes ≤ length (now from)) ⌝ }
-    ensures { λ _. ⌜ Written place lanes (λ lane. ofTwo least (laneOf (now (x .entry)) lane place) (laneOf (now (from .entry)) lane other)) (now (x .entry)) (now (x .exit)) ⌝ }
+fn of_two_strips(a: &[u32; LANES], b: &[u32; LANES], least: bool) -> [u32; LANES]
+    ensures { λ r. ⌜ Held lanes (λ lane. ofTwo least (getD (now (a .entry)) lane 0) (getD (now (b .entry)) lane 0)) r ⌝ }
 {
+    let mut numbers: [u32; LANES] = [0; LANES];
     for lane in 0..LANES {
-        let at = place * LANES + lane;
-        x[at] = of_two(x[at], from[other * LANES + lane], least);
+        numbers[lane] = of_two(a[lane], b[lane], least);
     }
+    numbers
 }
 
-// Whether a chain number is another in one of the lanes, with so many as `unit` says taken as one.
-pub fn strip_changed(old: &[u32], x: &[u32], place: usize, unit: u32) -> bool
-    requires { ⌜ (1 ≤ unit) × (place * lanes + lanes ≤ length (now old)) × (place * lanes + lanes ≤ length (now x)) ⌝ }
-    ensures { λ r. ⌜ StripsApart r (λ c. c / unit) (now (old .entry)) (now (x .entry)) place lanes ⌝ }
+// The lesser of two strips, lane by lane, or the greater, comes to a third, which may be one of them.
+pub fn combine_strips(rows: &mut [u32], first: usize, second: usize, to: usize, least: bool)
+    requires { ⌜ (first * lanes + lanes ≤ length (now rows)) × (second * lanes + lanes ≤ length (now rows)) × (to * lanes + lanes ≤ length (now rows)) ⌝ }
+    ensures { λ _. ⌜ Written to lanes (λ lane. ofTwo least (laneOf (now (rows .entry)) lane first) (laneOf (now (rows .entry)) lane second)) (now (rows .entry)) (now (rows .exit)) ⌝ }
+{
+    let a = strip_at(rows, first);
+    let b = strip_at(rows, second);
+    let numbers = of_two_strips(&a, &b, least);
+    put_strip(rows, to, &numbers);
+}
+
+// Whether two strips differ in one of the lanes, with so many chain numbers as `unit` says taken as one.
+pub fn strip_changed(rows: &[u32], former: usize, strip: usize, unit: u32) -> bool
+    requires { ⌜ (1 ≤ unit) × (former * lanes + lanes ≤ length (now rows)) × (strip * lanes + lanes ≤ length (now rows)) ⌝ }
+    ensures { λ r. ⌜ StripsApart r (λ c. c / unit) (now (rows .entry)) former strip lanes ⌝ }
 {
     let mut changed = false;
     for lane in 0..LANES {
-        let at = place * LANES + lane;
-        if old[at] / unit != x[at] / unit {
+        if rows[former * LANES + lane] / unit != rows[strip * LANES + lane] / unit {
             changed = true;
         }
     }

@@ -1,40 +1,11 @@
--- Each turn copies one lane more.
-use mathlib.Core.Path.{refl}
-use Prim.Native.Nat.{_-_}
-use native.Mathlib.Omega.{arith}
-use Rattle.lanes.specs.Lanes.{lanes, laneOf}
-use Rattle.lanes.proofs.StripLaws.{Writing, writing-more, writing-all}
+-- The strip that was read is written.
+use Rattle.lanes.proofs.StripLaws.{written-as}
 use borrow.Author.Needs.{needs}
 use Rattle.lanes.proofs.strips.copy_strip.Statement.{statement}
 use Rattle.lanes.proofs.strips.copy_strip.Tie as tie
 
-abbrev Inv-loop : tie.InvT-loop
-Inv-loop from to₀ place lane₀ to lane = Writing place lane (λ l. laneOf from l place) to₀ to
-
-abbrev μ-loop : tie.MeasureT-loop
-μ-loop from to₀ place lane₀ to lane = lanes - lane
-
-loop-again : tie.Need-loop-again Inv-loop μ-loop
-loop-again c = writing-more (c .before .before .loop .inv) (omega arith) (omega arith) refl
-
-returns : tie.Need-returns Inv-loop μ-loop
-returns c = writing-all (c .before .loop .inv) (omega arith)
+returns : tie.Need-returns
+returns c = written-as (c .before .before .put-strip .ensures) (c .before .before .before .before .before .strip-at .ensures .at)
 
 pub copy-strip-spec : {M : Type 1} → statement M
-copy-strip-spec =
-    tie.close
-    (tie.spec
-    Inv-loop
-    μ-loop
-    (λ c. search needs)
-    (λ c. search needs)
-    (λ c. search needs)
-    (λ c. search needs)
-    (λ c. search needs)
-    (λ c. search needs)
-    (λ c. search needs)
-    (λ c. search needs)
-    (λ c. search needs)
-    loop-again
-    (λ c. search needs)
-    returns)
+copy-strip-spec = tie.close (tie.spec (λ c κs. search needs) (λ c κs. search needs) (λ c. search needs) returns)

@@ -9,10 +9,10 @@ use Rattle.lanes.proofs.strips.fill_strip.Statement.{statement}
 use Rattle.lanes.proofs.strips.fill_strip.Tie as tie
 
 abbrev Inv-loop : tie.InvT-loop
-Inv-loop row₀ place value lane₀ row lane = Writing place lane (λ _. value) row₀ row
+Inv-loop rows₀ strip value lane₀ rows lane = Writing strip lane (λ _. value) rows₀ rows
 
 abbrev μ-loop : tie.MeasureT-loop
-μ-loop row₀ place value lane₀ row lane = lanes - lane
+μ-loop rows₀ strip value lane₀ rows lane = lanes - lane
 
 loop-again : tie.Need-loop-again Inv-loop μ-loop
 loop-again c = writing-more (c .before .loop .inv) (omega arith) (omega arith) refl
