@@ -11,7 +11,7 @@ use Rattle.checks.specs.Limits.{mostPlaces}
 use Rattle.lines.specs.declared.operator.Bounds.{Bounds}
 use Rattle.values.specs.Chain.{chains, chainLattice, highest}
 use Rattle.values.specs.Signals.{signalIn, turned, inTable}
-use Rattle.lanes.specs.Lanes.{lanes, laneOf}
+use Rattle.lanes.specs.Lanes.{lanes, outRow, Numbers, rowIn}
 use Rattle.lanes.specs.Rows.{within}
 
 -- somewhere, or its dual, everywhere: the opposite of somewhere of the opposite
@@ -29,8 +29,8 @@ gathered true test f n = leastOver chainLattice test f n
 gathered false test f n = greatestOver chainLattice test f n
 
 -- of a row's lane, by the places within bounds of a centre
-abbrev pub gatheredIn : Bool → List ℕ → ℕ → Bounds → List ℕ → ℕ → ℕ → ℕ
-gatheredIn least distances n b row lane centre = gathered least (within distances n centre b) (laneOf row lane) n
+abbrev pub gatheredIn : Bool → List ℕ → ℕ → Bounds → Numbers → Numbers
+gatheredIn least distances n b row lane centre = gathered least (within distances n centre b) (row lane) n
 
 -- words with a signal, n to a sample, which begins at `left`; samples `first` to first + count - 1
 module _ (words : List ℕ) (left n : ℕ) (distances : List ℕ) (first count : ℕ) where
@@ -41,11 +41,10 @@ module _ (words : List ℕ) (left n : ℕ) (distances : List ℕ) (first count :
     pub there : left + (first + count) * n ≤ length words
     pub distances-there : n * n ≤ length distances
 
-  -- entry centre · lanes + lane is the value of sample first + lane at the centre; a lane without a sample has the value of the lowest signal, and
-  -- what stands past the n places is kept
+  -- row `outRow` has the value of sample first + lane at each centre; a lane without a sample has the value of the lowest signal
   pub record RangeDone (lower upper : ℕ) (dual : Bool) (before after : List ℕ) : Type 0 where
     pub values : (centre lane : ℕ) → centre < n → lane < count
-        → laneOf after lane centre ≡ somewhereIn dual distances n (signalIn words left n) lower upper (first + lane) centre
-    pub idle : (centre lane : ℕ) → centre < n → count ≤ lane → lane < lanes → laneOf after lane centre ≡ somewhereIn dual distances n (λ _ _. 0) lower upper lane centre
-    pub kept : (place lane : ℕ) → n ≤ place → lane < lanes → laneOf after lane place ≡ laneOf before lane place
+        → rowIn after outRow lane centre ≡ somewhereIn dual distances n (signalIn words left n) lower upper (first + lane) centre
+    pub idle : (centre lane : ℕ) → centre < n → count ≤ lane → lane < lanes
+        → rowIn after outRow lane centre ≡ somewhereIn dual distances n (λ _ _. 0) lower upper lane centre
     pub long : length after ≡ length before
