@@ -7,6 +7,7 @@ use Prim.Native.Nat.{ℕ, _+_, _<_, _≤_}
 use native.Mathlib.Nat.{le-trans}
 use native.Mathlib.Omega.{arith}
 use lib.Dec.{T, eqb, ltb, ltb→lt}
+use lib.ListN.{length}
 use Rattle.network.specs.Network.{Network, joined, within, other}
 use Rattle.logic.specs.Margin.{Margin, minusInfinity, marginLattice}
 use Rattle.logic.specs.Iteration.{iterate, masked, except, rounds}
@@ -19,9 +20,9 @@ use Rattle.values.specs.Chain.{marginAt, chainLattice, chainMargin, Valid}
 use Rattle.values.specs.Signals.{signalIn}
 use Rattle.values.proofs.Valid.{valid-kept}
 use Rattle.lanes.specs.declared.rows.Block.{Block}
-use Rattle.lanes.specs.Lanes.{lanes, laneOf}
-use Rattle.lanes.specs.Rows.{RowOf, laneSignal}
-use Rattle.lanes.proofs.RowLaws.{lane-signal, lane-zero}
+use Rattle.lanes.specs.Lanes.{lanes, Numbers, leftRow, rightRow, outRow, rowIn}
+use Rattle.lanes.specs.Rows.{RowOf, RowWritten, laneSignal}
+use Rattle.lanes.proofs.RowLaws.{other-row-kept, lane-signal, lane-zero}
 use Rattle.surrounds.specs.declared.surround.Surround.{Surround}
 use Rattle.surrounds.specs.Surround.{surroundIn, surroundRoundsIn, blockRounds}
 use Rattle.surrounds.specs.Steps.{ValidRow}
@@ -32,7 +33,12 @@ use Rattle.counting.proofs.Totals.{over-le, le-over, most-same, most-front}
 use Rattle.surrounds.proofs.Lowest.{surround-low}
 
 -- ---- one row
-module _ (words : List ℕ) (start n : ℕ) (block : Block) (row : List ℕ) (w : RowOf (laneSignal words start n block) row n) where
+
+-- the left one is there when the right one has been read too
+pub left-loaded : {f g : Numbers} {n : ℕ} {before rows after : List ℕ} → RowWritten leftRow n f before rows → RowWritten rightRow n g rows after → RowOf f (rowIn after leftRow) n
+left-loaded v w = record { at = λ p lane b l. other-row-kept w leftRow (omega arith) (λ e. absurd (omega arith)) p lane l ∙ v .written .at p lane b l }
+
+module _ (words : List ℕ) (start n : ℕ) (block : Block) (row : Numbers) (w : RowOf (laneSignal words start n block) row n) where
   pub row-valid : ((t l : ℕ) → block .first ≤ t → t < block .first + block .count → l < n → Valid (signalIn words start n t l)) → ValidRow row n
   row-valid v = record {
     valid = λ l lane b h. subst Valid (sym (w .at l lane b h))
@@ -44,7 +50,7 @@ module _ (words : List ℕ) (start n : ℕ) (block : Block) (row : List ℕ) (w 
       either false c h = valid-kept .keeps-bottom
 
   -- the margins of a lane past the last sample are all minus infinity
-  low : (lane l : ℕ) → lane < lanes → block .count ≤ lane → l < n → chainMargin (laneOf row lane l) ≡ minusInfinity
+  low : (lane l : ℕ) → lane < lanes → block .count ≤ lane → l < n → chainMargin (row lane l) ≡ minusInfinity
   unfolding marginAt
   low lane l h c b = rw (lane-zero words start n block row w lane l h c b) refl
 
@@ -78,7 +84,7 @@ module _ (N : Network) (lower upper centre : ℕ) where
       (le-over (other N centre) (λ k. runRounds N lower upper (except marginLattice k p′) q′ centre) N.places k b t))
 
 -- ---- the block
-module _ (words : List ℕ) (s : Surround) (n : ℕ) (sheet : List ℕ) (roads : ℕ) (distances : List ℕ) (block : Block) (l r : List ℕ)
+module _ (words : List ℕ) (s : Surround) (n : ℕ) (sheet : List ℕ) (roads : ℕ) (distances : List ℕ) (block : Block) (l r : Numbers)
     (ready : BlockReady words s n sheet roads (block .first) (block .count) distances)
     (wl : RowOf (laneSignal words (s .left) n block) l n) (wr : RowOf (laneSignal words (s .right) n block) r n) where
   abbrev N : Network
@@ -99,20 +105,19 @@ module _ (words : List ℕ) (s : Surround) (n : ℕ) (sheet : List ℕ) (roads :
   unfolding laneRounds
   no-rounds centre lane c h = low-rounds N (s .bounds .lower) (s .bounds .upper) centre (s .islands) _ _ _ _ (λ k b. low words (s .left) n block l wl lane k h c b)
 
-  pub block-done : (before after : List ℕ) (m : ℕ) → CentresDone l r N (s .bounds) (s .islands) before after m
+  pub block-done : (before after : List ℕ) (m : ℕ) → length after ≡ length before → CentresDone l r N (s .bounds) (s .islands) (rowIn after outRow) m
       → BlockDone words s n sheet roads (block .first) (block .count) before after m
   unfolding laneSurround surroundIn surroundAt blockRounds
-  block-done before after m done = record {
+  block-done before after m long done = record {
     values = λ centre lane b c.
-        done .values .written .at centre lane b (omega (arith, ready .few))
+        done .values .at centre lane b (omega (arith, ready .few))
         ∙ surround-kept chainLattice chainLattice (λ u v. u ≡ v) (same-kept chainLattice) (joined N) n _ _ _ _
         (λ k d. lane-signal words (s .left) n block l wl lane k (ready .few) c d) (λ k d. lane-signal words (s .right) n block r wr lane k (ready .few) c d)
         (s .islands) _ _ centre;
     idle = λ centre lane b c h.
-        done .values .written .at centre lane b h
-        ∙ surround-low (joined N) n (s .islands) _ _ (laneOf l lane) (laneOf r lane) centre b (lane-zero words (s .left) n block l wl lane centre h c b);
-    kept = done .values .kept;
-    long = done .values .long;
+        done .values .at centre lane b h
+        ∙ surround-low (joined N) n (s .islands) _ _ (l lane) (r lane) centre b (lane-zero words (s .left) n block l wl lane centre h c b);
+    long = long;
     rounds = done .rounds ∙ most-same _ _ n (λ centre b.
         most-front (roundsAt centre) (block .count) lanes 0 (ready .few) (ready .some) (no-rounds centre)
         ∙ most-same (roundsAt centre) _ (block .count) (same-rounds centre));

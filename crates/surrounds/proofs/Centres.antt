@@ -1,10 +1,10 @@
 -- A run about a centre: its masked rows, without what it leaves out, are what the iteration starts from, and what settling gives is the run's
 -- surround of every lane, and the greatest rounds of a lane.
-use mathlib.Core.Path.{_≡_, refl, sym, ap, subst, _∙_}
+use mathlib.Core.Path.{_≡_, refl, sym, ap, ap₂, subst, _∙_}
 use mathlib.Core.Logic.{⊎-elim}
 use mathlib.Core.Bool.{Bool, true, false, not, cond, _&&_, _||_}
 use mathlib.Core.List.{List}
-use Prim.Native.Nat.{ℕ, zero, suc, _*_, _<_, _≤_}
+use Prim.Native.Nat.{ℕ, zero, suc, _<_, _≤_}
 use native.Mathlib.Omega.{arith}
 use lib.Dec.{T-not, eqb, eqb→eq, eqb-refl}
 use lib.ListN.{length}
@@ -18,6 +18,7 @@ use Rattle.logic.specs.Iteration.{iterate, masked, except}
 use Rattle.logic.specs.Counts.{runRounds}
 use Rattle.logic.proofs.Keeps.{same-kept, greatest-same, masked-kept, iterate-kept}
 use Rattle.logic.proofs.Rounds.{rounds-same}
+use Rattle.counting.specs.Totals.{mostBelow}
 use Rattle.counting.proofs.Tests.{holds, fails, decT}
 use Rattle.counting.proofs.Totals.{most-same}
 use Rattle.roads.specs.Roads.{networkOf}
@@ -26,14 +27,16 @@ use Rattle.values.specs.Signals.{inTable}
 use Rattle.values.proofs.Valid.{valid-kept}
 use Rattle.values.proofs.Projections.{margin-kept}
 use Rattle.values.proofs.ChainSurround.{surround-rested}
-use Rattle.lanes.specs.Lanes.{lanes, laneOf}
+use Rattle.lanes.specs.Lanes.{lanes, leftRow, rightRow, outRow, laneOf, stripOf, Numbers, rowIn}
 use Rattle.lanes.specs.Strips.{Written}
-use Rattle.lanes.specs.Rows.{RowOf, within, maskedBy}
+use Rattle.lanes.specs.Rows.{RowOf, KeptBelow, within, maskedBy}
+use Rattle.lanes.proofs.RowLaws.{strip-written, strip-kept, kept-below-trans, kept-below-lower, kept-below-strip}
 use Rattle.surrounds.specs.Surround.{joinedBy}
-use Rattle.surrounds.specs.Steps.{RoadsIn, ValidRow, LowOutside, Start, Settled, roundsIn}
+use Rattle.surrounds.specs.WorkRows.{ringRow, xRow, Worked, KeptBut}
+use Rattle.surrounds.specs.Steps.{RoadsIn, ValidRow, Start, Settled, roundsIn}
 use Rattle.surrounds.specs.Runs.{leftOut, LeftOut, beyond, isMade, runSurround, runRoundsAt, CentreRun}
 use Rattle.surrounds.specs.Blocks.{ballOf, reachedBy, CentreMasked, RowsReady}
-use Rattle.surrounds.proofs.Outside.{masked-low}
+use Rattle.surrounds.proofs.Outside.{but-below, low-fallen}
 use Rattle.surrounds.proofs.Tables.{range-at, reached-at}
 
 -- ---- which runs are made, by tests that are the same below n
@@ -56,18 +59,22 @@ left-out-either P (suc k) f p h low = go (not (eqb p k))
     go false = low
 
 -- run 0 leaves all as it is, and any other writes the lowest to the strip of its place
-pub left-out-none : {row : List ℕ} → LeftOut 0 row row
+pub left-out-none : {row : Numbers} → LeftOut 0 row row
 unfolding leftOut
 left-out-none = record { at = λ _ _ _. refl }
 
-pub left-out-strip : {k v : ℕ} {before after : List ℕ} → v ≡ 0 → Written k lanes (λ _. v) before after → LeftOut (suc k) before after
-unfolding leftOut except masked
-left-out-strip {k} e w = record {
-  at = λ p lane l. ⊎-elim
-      (λ t. let same = eqb→eq p k t in rw (holds (eqb p k) t) (rw same (w .written lane l ∙ e)))
-      (λ t. rw (fails (eqb p k) t) (w .kept p lane l (λ same. absurd (T-not (eqb p k) t (rw same (eqb-refl k))))))
-      (decT (eqb p k));
-}
+module _ (k : ℕ) {v : ℕ} {before after : List ℕ} (w : Written (stripOf xRow k) lanes (λ _. v) before after) where
+  pub left-out-strip : v ≡ 0 → LeftOut (suc k) (rowIn before xRow) (rowIn after xRow)
+  unfolding leftOut except masked
+  left-out-strip e = record {
+    at = λ p lane l. ⊎-elim
+        (λ t. let same = eqb→eq p k t in rw (holds (eqb p k) t) (rw same (strip-written xRow k w lane l ∙ e)))
+        (λ t. rw (fails (eqb p k) t) (strip-kept xRow k w (omega arith) xRow p lane (omega arith) l (λ _ same. absurd (T-not (eqb p k) t (rw same (eqb-refl k))))))
+        (decT (eqb p k));
+  }
+
+  pub left-out-kept : length after ≡ length before → KeptBut xRow before after
+  left-out-kept long = record { kept = λ row p lane c l other. strip-kept xRow k w (omega arith) row p lane c l (λ same _. other same); long = long }
 
 -- leaving out after masking is masking after leaving out
 left-out-masked : (run : ℕ) (test : ℕ → Bool) (f g : ℕ → ℕ) (p : ℕ) → f p ≡ masked chainLattice test g p
@@ -88,7 +95,7 @@ left-out-margin zero f p = refl
 left-out-margin (suc k) f p = masked-kept chainLattice marginLattice (λ u v. chainMargin u ≡ v) margin-kept (λ l. not (eqb l k)) f _ (suc p) (λ _ _. refl) p (omega arith)
 
 -- ---- tests by the table and by the network
-module _ {left right : List ℕ} {n : ℕ} {sheet : List ℕ} {roads : ℕ} (distances : List ℕ) {bounds : Bounds} (ready : RowsReady left right n sheet roads (numbersOf (wordsOf distances)) bounds)
+module _ {left right : Numbers} {n : ℕ} {sheet : List ℕ} {roads : ℕ} (distances : List ℕ) {bounds : Bounds} (ready : RowsReady left right n sheet roads (numbersOf (wordsOf distances)) bounds)
     {centre : ℕ} (here : centre < n) where
   range-by : (lower k : ℕ) → k < n
       → inTable (numbersOf (wordsOf distances)) n centre lower (bounds .upper) k ≡ Roads.within (networkOf sheet n roads) centre lower (bounds .upper) k
@@ -101,22 +108,29 @@ module _ {left right : List ℕ} {n : ℕ} {sheet : List ℕ} {roads : ℕ} (dis
 
 -- ---- masked rows
 
-module _ (test : ℕ → Bool) (from to : List ℕ) (n : ℕ) (m : RowOf (maskedBy test from) to n) where
+module _ (test : ℕ → Bool) (from to : Numbers) (n : ℕ) (m : RowOf (maskedBy test from) to n) where
   masked-valid : ValidRow from n → ValidRow to n
   masked-valid v = record {
     valid = λ place lane b l.
         subst Valid (sym (m .at place lane b l))
-        (masked-kept chainLattice chainLattice (λ c _. Valid c) valid-kept test (laneOf from lane) (laneOf from lane) n (λ p c. v .valid p lane c l) place b);
+        (masked-kept chainLattice chainLattice (λ c _. Valid c) valid-kept test (from lane) (from lane) n (λ p c. v .valid p lane c l) place b);
   }
 
   -- masked by a test that is the same below n
-  masked-at : (test′ : ℕ → Bool) → ((k : ℕ) → k < n → test k ≡ test′ k) → (lane : ℕ) → lane < lanes → (p : ℕ) → p < n → laneOf to lane p ≡ masked chainLattice test′ (laneOf from lane) p
+  masked-at : (test′ : ℕ → Bool) → ((k : ℕ) → k < n → test k ≡ test′ k) → (lane : ℕ) → lane < lanes → (p : ℕ) → p < n → to lane p ≡ masked chainLattice test′ (from lane) p
   unfolding masked
-  masked-at test′ same lane l p b = m .at p lane b l ∙ ap (λ t. cond t (laneOf from lane p) 0) (same p b)
+  masked-at test′ same lane l p b = m .at p lane b l ∙ ap (λ t. cond t (from lane p) 0) (same p b)
 
-module _ {left right : List ℕ} {n : ℕ} {sheet : List ℕ} {roads : ℕ} {distances : List ℕ} {bounds : Bounds} {centre : ℕ} {inside : List Bool} {x ring : List ℕ}
-    (ready : RowsReady left right n sheet roads (numbersOf (wordsOf distances)) bounds) (m : CentreMasked n left right distances bounds centre inside x ring)
-    {run : ℕ} {start : List ℕ} (out : LeftOut run x start) where
+-- ---- the iteration, from masked rows without what the run leaves out
+
+-- what a run gives a centre in every lane, and the greatest rounds of a lane
+pub record RunGiven (left right : Numbers) (N : Network) (b : Bounds) (islands : Bool) (run centre : ℕ) (y : Numbers) (r : ℕ) : Type 0 where
+  pub values : (lane : ℕ) → lane < lanes → y lane centre ≡ runSurround left right N b islands run lane centre
+  pub rounds : r ≡ mostBelow (runRoundsAt left right N b islands run centre) lanes
+
+module _ {rows masked-rows start : List ℕ} {n : ℕ} {sheet : List ℕ} {roads : ℕ} {distances : List ℕ} {bounds : Bounds} {centre : ℕ} {inside : List Bool} {run : ℕ}
+    (ready : RowsReady (rowIn rows leftRow) (rowIn rows rightRow) n sheet roads (numbersOf (wordsOf distances)) bounds) (m : CentreMasked n distances bounds centre n rows inside masked-rows)
+    (out : LeftOut run (rowIn masked-rows xRow) (rowIn start xRow)) (kept : KeptBut xRow masked-rows start) where
   abbrev N : Network
   N = networkOf sheet n roads
 
@@ -126,58 +140,98 @@ module _ {left right : List ℕ} {n : ℕ} {sheet : List ℕ} {roads : ℕ} {dis
   abbrev about : ℕ → Bool
   about = Roads.within N centre (bounds .lower) (bounds .upper)
 
+  abbrev left : Numbers
+  left = rowIn rows leftRow
+
+  abbrev right : Numbers
+  right = rowIn rows rightRow
+
+  -- what it starts from
+  abbrev x : Numbers
+  x = rowIn start xRow
+
+  abbrev ring : Numbers
+  ring = rowIn start ringRow
+
+  ring-masked : RowOf (maskedBy (within distances n centre bounds) right) ring n
+  ring-masked = record { at = λ p lane b l. kept .kept ringRow p lane (omega arith) l (λ e. absurd (omega arith)) ∙ m .right-masked .at p lane b l }
+
   -- the iteration can start
-  pub run-start : length inside ≡ n → n * lanes ≤ length x → n * lanes ≤ length ring → length start ≡ length x → Start sheet roads inside start ring
-  run-start all x-room ring-room long =
-      let low : LowOutside inside x = masked-low _ n centre 0 (bounds .upper) inside left x all x-room (m .ball) (m .left-masked) in
-      let valid : ValidRow x n = masked-valid _ left x n (m .left-masked) (ready .left-valid) in
+  pub run-start : length inside ≡ n → Start sheet roads inside start
+  run-start all =
+      let valid : ValidRow (rowIn masked-rows xRow) n = masked-valid _ left (rowIn masked-rows xRow) n (m .left-masked) (ready .left-valid) in
       record {
         few-places = omega (arith, ready .few-places);
         roads-in = subst (RoadsIn sheet roads) (sym all) (ready .roads-in);
-        valid = record { valid = λ p lane b l. subst Valid (sym (out .at p lane l)) (left-out-either Valid run (laneOf x lane) p (valid .valid p lane (omega arith) l) (valid-kept .keeps-bottom)) };
-        right-valid = subst (ValidRow ring) (sym all) (masked-valid _ right ring n (m .right-masked) (ready .right-valid));
-        low = record {
-          room = omega arith;
-          low = λ p lane b l e. out .at p lane l ∙ left-out-either (λ c. c ≡ 0) run (laneOf x lane) p (low .low p lane b l e) refl;
-        };
-        right-low = masked-low _ n centre (bounds .lower) (bounds .upper) inside right ring all ring-room (m .ball) (m .right-masked);
+        valid = record { valid = λ p lane b l. subst Valid (sym (out .at p lane l)) (left-out-either Valid run (rowIn masked-rows xRow lane) p (valid .valid p lane (omega arith) l) (valid-kept .keeps-bottom)) };
+        ring-valid = subst (ValidRow ring) (sym all) (masked-valid _ right ring n ring-masked (ready .right-valid));
+        low = low-fallen kept
+            (λ p lane l. subst (λ (v : ℕ). v ≤ rowIn masked-rows xRow lane p) (sym (out .at p lane l)) (left-out-either (λ v. v ≤ rowIn masked-rows xRow lane p) run (rowIn masked-rows xRow lane) p (omega arith) (omega arith)))
+            (m .worked .low);
       }
 
   module _ (here : centre < n) where
     -- the rows that it starts from
-    left-at : (lane : ℕ) → lane < lanes → (p : ℕ) → p < n → laneOf start lane p ≡ masked chainLattice ball (leftOut chainLattice run (laneOf left lane)) p
-    left-at lane l p b = out .at p lane l ∙ left-out-masked run ball (laneOf x lane) (laneOf left lane) p (masked-at _ left x n (m .left-masked) ball (range-by distances ready here 0) lane l p b)
+    left-at : (lane : ℕ) → lane < lanes → (p : ℕ) → p < n → x lane p ≡ masked chainLattice ball (leftOut chainLattice run (left lane)) p
+    left-at lane l p b = out .at p lane l ∙ left-out-masked run ball (rowIn masked-rows xRow lane) (left lane) p (masked-at _ left (rowIn masked-rows xRow) n (m .left-masked) ball (range-by distances ready here 0) lane l p b)
 
-    right-at : (lane : ℕ) → lane < lanes → (p : ℕ) → p < n → laneOf ring lane p ≡ masked chainLattice about (laneOf right lane) p
-    right-at = masked-at _ right ring n (m .right-masked) about (range-by distances ready here (bounds .lower))
+    right-at : (lane : ℕ) → lane < lanes → (p : ℕ) → p < n → ring lane p ≡ masked chainLattice about (right lane) p
+    right-at = masked-at _ right ring n ring-masked about (range-by distances ready here (bounds .lower))
 
     -- a lane of them steps as the masked lane
     same : (lane : ℕ) → lane < lanes → (i p : ℕ) → p < n
-        → iterate chainLattice (joinedBy sheet roads) n (laneOf start lane) (laneOf ring lane) i p
-        ≡ iterate chainLattice (joinedBy sheet roads) n (masked chainLattice ball (leftOut chainLattice run (laneOf left lane))) (masked chainLattice about (laneOf right lane)) i p
+        → iterate chainLattice (joinedBy sheet roads) n (x lane) (ring lane) i p
+        ≡ iterate chainLattice (joinedBy sheet roads) n (masked chainLattice ball (leftOut chainLattice run (left lane))) (masked chainLattice about (right lane)) i p
     same lane l = iterate-kept chainLattice chainLattice (λ u v. u ≡ v) (same-kept chainLattice) (joinedBy sheet roads) n _ _ _ _ (left-at lane l) (right-at lane l)
 
     left-margin : (lane : ℕ) → lane < lanes → (p : ℕ) → p < n
-        → chainMargin (laneOf start lane p) ≡ masked marginLattice ball (leftOut marginLattice run (λ k. chainMargin (laneOf left lane k))) p
+        → chainMargin (x lane p) ≡ masked marginLattice ball (leftOut marginLattice run (λ k. chainMargin (left lane k))) p
     left-margin lane l p b = ap chainMargin (left-at lane l p b)
-        ∙ masked-kept chainLattice marginLattice (λ u v. chainMargin u ≡ v) margin-kept ball _ _ n (λ k _. left-out-margin run (laneOf left lane) k) p b
+        ∙ masked-kept chainLattice marginLattice (λ u v. chainMargin u ≡ v) margin-kept ball _ _ n (λ k _. left-out-margin run (left lane) k) p b
 
-    right-margin : (lane : ℕ) → lane < lanes → (p : ℕ) → p < n → chainMargin (laneOf ring lane p) ≡ masked marginLattice about (λ k. chainMargin (laneOf right lane k)) p
+    right-margin : (lane : ℕ) → lane < lanes → (p : ℕ) → p < n → chainMargin (ring lane p) ≡ masked marginLattice about (λ k. chainMargin (right lane k)) p
     right-margin lane l p b = ap chainMargin (right-at lane l p b)
-        ∙ masked-kept chainLattice marginLattice (λ u v. chainMargin u ≡ v) margin-kept about (laneOf right lane) _ n (λ _ _. refl) p b
+        ∙ masked-kept chainLattice marginLattice (λ u v. chainMargin u ≡ v) margin-kept about (right lane) _ n (λ _ _. refl) p b
 
     -- what settling leaves is the run's surround
-    pub run-settled : {y : List ℕ} {r : ℕ} {islands : Bool} → isMade ball (Roads.reached N centre) n centre islands run ≡ true → Settled sheet roads n ring start r y
-        → CentreRun left right N bounds islands run centre y r
+    pub run-settled : {y : Numbers} {r : ℕ} {islands : Bool} → isMade ball (Roads.reached N centre) n centre islands run ≡ true → Settled sheet roads n ring x r y
+        → RunGiven left right N bounds islands run centre y r
     unfolding runSurround runRoundsAt runRounds joinedBy joined
     run-settled made s = record {
       values = λ lane l.
           s .reached centre lane here l ∙ same lane l (s .steps) centre here
-          ∙ surround-rested (joinedBy sheet roads) n ball about (leftOut chainLattice run (laneOf left lane)) (laneOf right lane)
-          (λ p c. left-out-either Valid run (laneOf left lane) p (ready .left-valid .valid p lane c l) (valid-kept .keeps-bottom))
+          ∙ surround-rested (joinedBy sheet roads) n ball about (leftOut chainLattice run (left lane)) (right lane)
+          (λ p c. left-out-either Valid run (left lane) p (ready .left-valid .valid p lane c l) (valid-kept .keeps-bottom))
           (λ p c. ready .right-valid .valid p lane c l) (s .steps)
           (λ p c. sym (same lane l (suc (s .steps)) p c) ∙ s .rests p lane c l ∙ same lane l (s .steps) p c) centre here
           ∙ rw made refl;
-      rounds = s .counted ∙ most-same (roundsIn sheet roads n ring start) _ lanes
+      rounds = s .counted ∙ most-same (roundsIn sheet roads n ring x) _ lanes
           (λ lane l. rounds-same (joinedBy sheet roads) n _ _ _ _ (left-margin lane l) (right-margin lane l) ∙ rw made refl);
     }
+
+-- ---- the centre is raised to what the run gives
+module _ {n : ℕ} {distances : List ℕ} {bounds : Bounds} {centre : ℕ} {rows masked-rows start settled after : List ℕ} {inside : List Bool} (m : CentreMasked n distances bounds centre n rows inside masked-rows)
+    (kept : KeptBut xRow masked-rows start) (s : Worked xRow inside start settled)
+    (w : Written (stripOf outRow centre) lanes (λ lane. chainLattice .join (laneOf settled lane (stripOf outRow centre)) (laneOf settled lane (stripOf xRow centre))) settled after)
+    (long : length after ≡ length settled) where
+  -- the rows of the operands, and of what comes of them, till then
+  untouched : KeptBelow ringRow rows settled
+  untouched = kept-below-trans (m .worked .kept) (kept-below-trans (but-below (omega arith) (omega arith) kept) (kept-below-lower (s .kept) (omega arith)))
+
+  pub raised-worked : Worked outRow inside rows after
+  raised-worked = record {
+    kept = kept-below-trans (kept-below-lower untouched (omega arith)) (kept-below-strip outRow outRow centre (omega arith) (omega arith) w long);
+    low = record {
+      room = omega (arith, s .low .room);
+      low = λ row p lane c d h l e. strip-kept outRow centre w (omega arith) row p lane d l (λ same _. absurd (omega arith)) ∙ s .low .low row p lane c d h l e;
+    };
+  }
+
+  pub raised-run : {left right : Numbers} {N : Network} {b : Bounds} {islands : Bool} {run r : ℕ} → RunGiven left right N b islands run centre (rowIn settled xRow) r
+      → CentreRun left right N b islands run centre (rowIn rows outRow) (rowIn after outRow) r
+  unfolding rowIn
+  raised-run g = record {
+    raised = λ lane l. strip-written outRow centre w lane l ∙ ap₂ (chainLattice .join) (untouched .kept outRow centre lane (omega arith) l) (g .values lane l);
+    kept = λ p lane l other. strip-kept outRow centre w (omega arith) outRow p lane (omega arith) l (λ _ e. other e) ∙ untouched .kept outRow p lane (omega arith) l;
+    rounds = g .rounds;
+  }

@@ -1,4 +1,4 @@
--- The least of a number and of what lies at the other ends of roads: one road more, and all roads together as the definition has it.
+-- The least of a number and of what lies at the other ends of roads: one road more, all roads together as the definition has it, and the round that they make.
 use mathlib.Core.Path.{_≡_, refl, sym, ap, subst, _∙_}
 use mathlib.Core.Bool.{Bool, true, false, cond, _&&_, _||_}
 use mathlib.Core.List.{List}
@@ -9,20 +9,22 @@ use native.Mathlib.Decide.{ℕ-discrete}
 use native.Mathlib.Numerals.{add-one}
 use native.Mathlib.Omega.{arith}
 use lib.Dec.{T, eqb, eqb→eq, eqb-refl}
-use Rattle.words.specs.Word.{payloadOf}
+use lib.ListN.{length}
 use Rattle.logic.specs.Lattice.{leastOver}
 use Rattle.network.specs.Distance.{Distance, dist}
 use Rattle.network.specs.Network.{isRoad}
 use Rattle.logic.proofs.Keeps.{same-kept, least-kept}
 use Rattle.counting.proofs.Tests.{below, and-i, and-l, and-r, or-l, or-r, or-e}
-use Rattle.checks.specs.Checked.{wordAt}
-use Rattle.roads.specs.Roads.{roadAt, weightAt, firstPlace, secondPlace, joins, weightAmong}
+use Rattle.roads.specs.Roads.{firstOf, secondOf, weightOf, joins, weightAmong}
 use Rattle.values.specs.Chain.{chainLattice, highest}
 use Rattle.values.proofs.Naturals.{meet-min}
-use Rattle.lanes.specs.Lanes.{lanes, laneOf}
-use Rattle.lanes.specs.Strips.{Written}
+use Rattle.lanes.specs.Lanes.{lanes, Numbers, rowIn}
+use Rattle.lanes.specs.Rows.{KeptBelow}
+use Rattle.lanes.proofs.RowLaws.{kept-below-trans, kept-below-lower}
 use Rattle.surrounds.specs.Surround.{joinedBy}
+use Rattle.surrounds.specs.WorkRows.{ringRow, xRow, oldRow, bothRow, Worked, KeptBut}
 use Rattle.surrounds.specs.Steps.{RoadsIn, Bounded, Joined, RoadPulled, LeastOf, Stepped, Round}
+use Rattle.surrounds.proofs.Outside.{row-same, but-below, stepped-low}
 
 -- ---- leastOver on chain numbers
 cond-le : (t : Bool) (z a b : ℕ) → (T t → z ≤ a) → z ≤ b → z ≤ cond t a b
@@ -78,7 +80,7 @@ module _ (sheet : List ℕ) (r a b : ℕ) where
   unfolding joinedBy weightAmong
   joined-more = go (joins sheet r a b)
     where
-      go : (t : Bool) → isRoad (elim t as (λ _. Distance) [ true ↦ dist (payloadOf (wordAt sheet (weightAt r))) | false ↦ weightAmong sheet r a b ]) ≡ (t || isRoad (weightAmong sheet r a b))
+      go : (t : Bool) → isRoad (elim t as (λ _. Distance) [ true ↦ dist (weightOf sheet r) | false ↦ weightAmong sheet r a b ]) ≡ (t || isRoad (weightAmong sheet r a b))
       go true = refl
       go false = refl
 
@@ -92,10 +94,10 @@ module _ (sheet : List ℕ) (r a b : ℕ) where
   joined-either h = or-e (joins sheet r a b) _ (rw joined-more at h)
 
   abbrev first : ℕ
-  first = firstPlace (wordAt sheet (roadAt r))
+  first = firstOf sheet r
 
   abbrev second : ℕ
-  second = secondPlace (wordAt sheet (roadAt r))
+  second = secondOf sheet r
 
   joins-e : T (joins sheet r a b) → ((first ≡ a) × (second ≡ b)) ⊎ ((first ≡ b) × (second ≡ a))
   unfolding joins
@@ -104,12 +106,12 @@ module _ (sheet : List ℕ) (r a b : ℕ) where
       (λ k. inr (eqb→eq first b (and-l (eqb first b) _ k), eqb→eq second a (and-r (eqb first b) _ k)))
       (or-e (eqb first a && eqb second b) _ h)
 
-module _ (sheet : List ℕ) (r : ℕ) (both x x′ : List ℕ) where
+module _ (sheet : List ℕ) (r : ℕ) (both x x′ : Numbers) where
   abbrev a : ℕ
-  a = firstPlace (wordAt sheet (roadAt r))
+  a = firstOf sheet r
 
   abbrev b : ℕ
-  b = secondPlace (wordAt sheet (roadAt r))
+  b = secondOf sheet r
 
   there : T (joins sheet r a b)
   unfolding joins
@@ -139,40 +141,29 @@ module _ (sheet : List ℕ) (r : ℕ) (both x x′ : List ℕ) where
         (λ k. k)
         (joined-either sheet r q p h)
 
-    pub road-more : (x₀ : List ℕ) → RoadPulled a b both x x′ → Stepped sheet r both x₀ x → Stepped sheet (r + 1) both x₀ x′
+    pub road-more : (x₀ : Numbers) → RoadPulled a b both x x′ → Stepped sheet r both x₀ x → Stepped sheet (r + 1) both x₀ x′
     road-more x₀ w s = rw add-one (record { least = λ q lane l. at q lane l (ℕ-discrete q a) (ℕ-discrete q b) })
       where
-        at : (q lane : ℕ) → lane < lanes → Dec (q ≡ a) → Dec (q ≡ b) → LeastOf (laneOf x′ lane q) (laneOf x₀ lane q) (joinedBy sheet (suc r) q) (laneOf both lane)
+        at : (q lane : ℕ) → lane < lanes → Dec (q ≡ a) → Dec (q ≡ b) → LeastOf (x′ lane q) (x₀ lane q) (joinedBy sheet (suc r) q) (both lane)
         at q lane l (yes e) v =
             rw (e, w .first lane l)
-            (least-more (laneOf x lane a) (laneOf x₀ lane a) b (joinedBy sheet r a) (joinedBy sheet (suc r) a) (laneOf both lane)
+            (least-more (x lane a) (x₀ lane a) b (joinedBy sheet r a) (joinedBy sheet (suc r) a) (both lane)
             (joined-before sheet r a) (joined-now sheet r a b there) from-first (s .least a lane l))
         at q lane l (no u) (yes e) =
             rw (e, w .second lane l)
-            (least-more (laneOf x lane b) (laneOf x₀ lane b) a (joinedBy sheet r b) (joinedBy sheet (suc r) b) (laneOf both lane)
+            (least-more (x lane b) (x₀ lane b) a (joinedBy sheet r b) (joinedBy sheet (suc r) b) (both lane)
             (joined-before sheet r b) (joined-now sheet r b a back) from-second (s .least b lane l))
         at q lane l (no u) (no v) =
             rw (w .other q lane l u v)
-            (least-same (laneOf x lane q) (laneOf x₀ lane q) (joinedBy sheet r q) (joinedBy sheet (suc r) q) (laneOf both lane)
+            (least-same (x lane q) (x₀ lane q) (joinedBy sheet r q) (joinedBy sheet (suc r) q) (both lane)
             (joined-before sheet r q) (λ p h. from-other q p u v h) (s .least q lane l))
-
--- ---- two pulls along a road
-pub road-pulled : (a b : ℕ) (both x y z : List ℕ) → (a ≡ b → ⊥)
-    → Written a lanes (λ lane. chainLattice .meet (laneOf x lane a) (laneOf both lane b)) x y
-    → Written b lanes (λ lane. chainLattice .meet (laneOf y lane b) (laneOf both lane a)) y z
-    → RoadPulled a b both x z
-road-pulled a b both x y z ne v w = record {
-  first = λ lane l. w .kept a lane l (λ e. absurd (ne e)) ∙ v .written lane l;
-  second = λ lane l. w .written lane l ∙ ap (λ (u : ℕ). chainLattice .meet u (laneOf both lane a)) (v .kept b lane l (λ e. absurd (ne (sym e))));
-  other = λ p lane l u t. w .kept p lane l (λ e. absurd (t e)) ∙ v .kept p lane l (λ e. absurd (u e));
-}
 
 -- ---- no road, and all roads
 not-joined : (sheet : List ℕ) (a b : ℕ) → T (joinedBy sheet 0 a b) → ⊥
 unfolding joinedBy weightAmong
 not-joined sheet a b h = h
 
-pub stepped-none : (sheet both x : List ℕ) → Stepped sheet 0 both x x
+pub stepped-none : (sheet : List ℕ) (both x : Numbers) → Stepped sheet 0 both x x
 stepped-none sheet both x = record {
   least = λ q lane l. record {
     below = omega arith;
@@ -188,13 +179,32 @@ joined-inside sheet roads n i (suc r) l q p h = ⊎-elim
     (λ k. joined-inside sheet roads n i r (omega arith) q p k)
     (joined-either sheet r q p h)
 
-pub round-made : (sheet : List ℕ) (roads n : ℕ) (right x old both x′ : List ℕ) → RoadsIn sheet roads n → Bounded x n
-    → Joined x right old both n → Stepped sheet roads both x x′ → Round sheet roads n right x old x′
-round-made sheet roads n right x old both x′ i b j s = record {
-  former = j .former;
-  stepped = λ place lane l m.
-      least-over (joinedBy sheet roads place) (laneOf both lane) (laneOf x′ lane place) (laneOf x lane place) n
-      (b .bound place lane l m) (joined-inside sheet roads n i roads (omega arith) place) (s .least place lane m)
-      ∙ ap (chainLattice .meet (laneOf x lane place))
-      (least-kept chainLattice chainLattice (λ u v. u ≡ v) (same-kept chainLattice) (joinedBy sheet roads place) _ _ n (λ k c _. j .handed k lane c m));
+-- ---- a round, in which x is joined and then steps
+module _ {sheet : List ℕ} {roads : ℕ} {inside : List Bool} {before middle after : List ℕ} (i : RoadsIn sheet roads (length inside)) (b : Bounded (rowIn before xRow) (length inside))
+    (j : Joined (rowIn before xRow) (rowIn before ringRow) (rowIn middle oldRow) (rowIn middle bothRow) (length inside)) (w : Worked oldRow inside before middle)
+    (s : Stepped sheet roads (rowIn middle bothRow) (rowIn middle xRow) (rowIn after xRow)) (k : KeptBut xRow middle after) where
+  from-before : (place lane : ℕ) → lane < lanes → LeastOf (rowIn after xRow lane place) (rowIn before xRow lane place) (joinedBy sheet roads place) (rowIn middle bothRow lane)
+  from-before place lane l = subst (λ (v : ℕ). LeastOf (rowIn after xRow lane place) v (joinedBy sheet roads place) (rowIn middle bothRow lane)) (w .kept .kept xRow place lane (omega arith) l) (s .least place lane l)
+
+  pub round-made : Round sheet roads (length inside) (rowIn before ringRow) (rowIn before xRow) (rowIn after oldRow) (rowIn after xRow)
+  round-made = record {
+    former = λ place lane l m. k .kept oldRow place lane (omega arith) m (λ e. absurd (omega arith)) ∙ j .former place lane l m;
+    stepped = λ place lane l m.
+        least-over (joinedBy sheet roads place) (rowIn middle bothRow lane) (rowIn after xRow lane place) (rowIn before xRow lane place) (length inside)
+        (b .bound place lane l m) (joined-inside sheet roads (length inside) i roads (omega arith) place) (from-before place lane m)
+        ∙ ap (chainLattice .meet (rowIn before xRow lane place))
+        (least-kept chainLattice chainLattice (λ u v. u ≡ v) (same-kept chainLattice) (joinedBy sheet roads place) _ _ (length inside) (λ p c _. j .handed p lane c m));
+  }
+
+  pub round-worked : Worked xRow inside before after
+  round-worked = record { kept = kept-below-trans (kept-below-lower (w .kept) (omega arith)) (but-below (omega arith) (omega arith) k); low = stepped-low s k (w .low) }
+
+-- the ring has not changed since the first round
+pub round-as : {sheet : List ℕ} {roads n : ℕ} {before rows : List ℕ} {x old y : Numbers} → KeptBelow xRow before rows → Round sheet roads n (rowIn rows ringRow) x old y
+    → Round sheet roads n (rowIn before ringRow) x old y
+round-as {sheet} {roads} {n} {x = x} {y = y} k w = record {
+  former = w .former;
+  stepped = λ place lane b l. subst
+      (λ (q : ℕ → ℕ). y lane place ≡ chainLattice .meet (x lane place) (leastOver chainLattice (joinedBy sheet roads place) (λ p. chainLattice .join (x lane p) (q p)) n))
+      (row-same k ringRow (omega arith) lane l) (w .stepped place lane b l);
 }

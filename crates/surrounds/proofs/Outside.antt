@@ -1,135 +1,186 @@
--- Places outside a ball: all rows are lowest there and stay so, so that a round, and a comparison of rows, is the same whether or not it touches
+-- Places outside a ball: the rows to work in are lowest there and stay so, so that a round, and a comparison of rows, is the same whether or not it touches
 -- them.
-use mathlib.Core.Path.{_≡_, refl, sym, ap, _∙_}
-use mathlib.Core.Bool.{Bool, true, false, _&&_, _||_, and-false, false≢true}
+use mathlib.Core.Path.{_≡_, refl, sym, ap, ap₂, _∙_}
+use mathlib.Core.Bool.{Bool, true, false, _||_, false≢true}
 use mathlib.Core.List.{List}
-use Prim.Native.Nat.{ℕ, _+_, _*_, _<_, _≤_}
+use Prim.Native.Nat.{ℕ, _+_, _<_, _≤_}
+use native.Mathlib.Decide.{ℕ-discrete}
 use native.Mathlib.Omega.{arith}
 use borrow.Author.Count.{below-more}
-use borrow.Author.Tests.{le-leb}
-use lib.Dec.{leb}
-use lib.ListN.{length, getD}
+use lib.ListN.{length}
 use Rattle.values.specs.Chain.{chainLattice}
-use Rattle.values.specs.Signals.{inTable}
-use Rattle.lanes.specs.Lanes.{lanes, laneOf}
+use Rattle.lanes.specs.Lanes.{lanes, rowCount, laneOf, stripOf, Numbers, rowIn}
 use Rattle.lanes.specs.Strips.{Written, StripsApart}
-use Rattle.lanes.specs.Rows.{RowOf, RowWritten, flagged, Marked, maskedBy}
-use Rattle.lanes.proofs.StripLaws.{written-already}
-use Rattle.lanes.proofs.RowLaws.{row-more, masked-out}
-use Rattle.surrounds.specs.Steps.{LowOutside, LowRows, Joined, RoadPulled, Stepped, RowsApart}
+use Rattle.lanes.specs.Rows.{KeptBelow, flagged}
+use Rattle.lanes.proofs.RowLaws.{strip-written, strip-kept, kept-below-refl, kept-below-trans, kept-below-strip}
+use Rattle.surrounds.specs.WorkRows.{ringRow, xRow, oldRow, bothRow, LowOutside, Worked, KeptBut}
+use Rattle.surrounds.specs.Steps.{Joined, RoadPulled, Stepped, RowsApart}
 use Rattle.surrounds.proofs.Lowest.{meet-low}
 
--- outside a ball nothing is in a range that ends with it
-outside-range : (distances : List ℕ) (n centre lower upper place : ℕ) → inTable distances n centre 0 upper place ≡ false → inTable distances n centre lower upper place ≡ false
-unfolding inTable
-outside-range distances n centre lower upper place e = ap (λ t. leb lower d && t) (sym (ap (λ t. t && leb d upper) (le-leb 0 d (omega arith))) ∙ e) ∙ and-false (leb lower d)
-  where
-    d : ℕ
-    d = getD distances (centre * n + place) 0
+-- ---- rows that are kept
+
+-- one is the same function of the places
+pub row-same : {row : ℕ} {before after : List ℕ} → KeptBelow row before after → (other : ℕ) → other < row → (lane : ℕ) → lane < lanes → rowIn after other lane ≡ rowIn before other lane
+row-same k other b lane l = λ i p. k .kept other p lane b l i
+
+pub nothing-written : {row : ℕ} {rows : List ℕ} → KeptBut row rows rows
+nothing-written = record { kept = λ _ _ _ _ _ _. refl; long = refl }
+
+pub but-trans : {row : ℕ} {before rows after : List ℕ} → KeptBut row before rows → KeptBut row rows after → KeptBut row before after
+but-trans v w = record { kept = λ row p lane c l other. w .kept row p lane c l other ∙ v .kept row p lane c l other; long = w .long ∙ v .long }
+
+pub but-below : {row written : ℕ} {before after : List ℕ} → row ≤ written → written < rowCount → KeptBut written before after → KeptBelow row before after
+but-below b c k = record { kept = λ other p lane d l. k .kept other p lane (omega arith) l (λ e. absurd (omega arith)); long = k .long }
 
 -- ---- rows that are lowest outside
-
--- a row masked by a range that ends with the ball, or by the flags themselves
-pub masked-low : (distances : List ℕ) (n centre lower upper : ℕ) (inside : List Bool) (from to : List ℕ) → length inside ≡ n → n * lanes ≤ length to
-    → Marked (inTable distances n centre 0 upper) inside n → RowOf (maskedBy (inTable distances n centre lower upper) from) to n → LowOutside inside to
-masked-low distances n centre lower upper inside from to all room m w = record {
-  room = omega arith;
-  low = λ place lane b l e.
-      let c : place < n = omega arith in
-      w .at place lane c l ∙ sym (masked-out _ from lane place (outside-range distances n centre lower upper place (sym (m .flag place c) ∙ e)));
-}
-
-pub cleared-low : {inside : List Bool} {before after : List ℕ} → RowWritten (length inside) (maskedBy (flagged inside) before) before after
-    → length inside * lanes ≤ length before → LowOutside inside after
-cleared-low {inside} {before} w room = record {
-  room = omega (arith, w .long);
-  low = λ place lane b l e. w .written .at place lane b l ∙ sym (masked-out (flagged inside) before lane place e);
-}
-
 module _ {inside : List Bool} where
   -- a strip inside is written
-  low-kept : {place : ℕ} {f : ℕ → ℕ} {s t : List ℕ} → flagged inside place ≡ true → Written place lanes f s t → length t ≡ length s → LowOutside inside s → LowOutside inside t
-  low-kept i w long s = record {
+  low-inside : (row place : ℕ) {f : ℕ → ℕ} {s t : List ℕ} → row < rowCount → flagged inside place ≡ true → Written (stripOf row place) lanes f s t → length t ≡ length s
+      → LowOutside inside s → LowOutside inside t
+  low-inside row place b i w long s = record {
     room = omega (arith, s .room);
-    low = λ p lane b l e. w .kept p lane l (λ q. absurd (false≢true (sym e ∙ ap (flagged inside) q ∙ i))) ∙ s .low p lane b l e;
+    low = λ other p lane c d h l e.
+        strip-kept row place w b other p lane d l (λ _ q. absurd (false≢true (sym e ∙ ap (flagged inside) q ∙ i)))
+        ∙ s .low other p lane c d h l e;
   }
 
-  -- numbers that fall stay lowest
-  pub stepped-low : {roads : ℕ} {sheet both x y : List ℕ} → Stepped sheet roads both x y → length y ≡ length x → LowOutside inside x → LowOutside inside y
-  stepped-low s long o = record {
-    room = omega (arith, o .room);
-    low = λ p lane b l e. omega (arith, s .least p lane l .below, o .low p lane b l e);
+  -- numbers of x that fall stay lowest
+  pub low-fallen : {before after : List ℕ} → KeptBut xRow before after → ((place lane : ℕ) → lane < lanes → rowIn after xRow lane place ≤ rowIn before xRow lane place)
+      → LowOutside inside before → LowOutside inside after
+  low-fallen {before} {after} k fallen o = record {
+    room = omega (arith, o .room, k .long);
+    low = λ row p lane c d h l e. at row p lane d l (ℕ-discrete row xRow) (o .low row p lane c d h l e);
   }
-
-  -- a road with both ends outside brings nothing
-  pub road-outside : (a b : ℕ) (both : List ℕ) {x : List ℕ} → LowOutside inside x → a < length inside → b < length inside → (flagged inside a || flagged inside b) ≡ false → RoadPulled a b both x x
-  road-outside a b both o i j e =
-      let (out, away) = neither (flagged inside a) (flagged inside b) e in
-      record {
-        first = λ lane l. let low = o .low a lane i l out in low ∙ sym (meet-low _ _ low);
-        second = λ lane l. let low = o .low b lane j l away in low ∙ sym (meet-low _ _ low);
-        other = λ _ _ _ _ _. refl;
-      }
     where
-      neither : (t u : Bool) → (t || u) ≡ false → (t ≡ false) × (u ≡ false)
-      neither true u h = absurd (false≢true (sym h))
-      neither false u h = (refl, h)
+      at : (row p lane : ℕ) → row < rowCount → lane < lanes → Dec (row ≡ xRow) → rowIn before row lane p ≡ 0 → rowIn after row lane p ≡ 0
+      at row p lane d l (yes same) low = let x : rowIn before xRow lane p ≡ 0 = ap (λ (r : ℕ). rowIn before r lane p) (sym same) ∙ low in
+          ap (λ (r : ℕ). rowIn after r lane p) same ∙ omega (arith, fallen p lane l)
+      at row p lane d l (no other) low = k .kept row p lane d l other ∙ low
+
+  pub stepped-low : {roads : ℕ} {sheet before after : List ℕ} {both : Numbers} → Stepped sheet roads both (rowIn before xRow) (rowIn after xRow) → KeptBut xRow before after
+      → LowOutside inside before → LowOutside inside after
+  stepped-low s k o = low-fallen k (λ p lane l. s .least p lane l .below) o
+
+-- ---- a road
+
+-- two pulls along it
+module _ (a b : ℕ) {x y z : List ℕ} (v : Written (stripOf xRow a) lanes (λ lane. chainLattice .meet (laneOf x lane (stripOf xRow a)) (laneOf x lane (stripOf bothRow b))) x y)
+    (w : Written (stripOf xRow b) lanes (λ lane. chainLattice .meet (laneOf y lane (stripOf xRow b)) (laneOf y lane (stripOf bothRow a))) y z) where
+  pub road-pulled : (a ≡ b → ⊥) → RoadPulled a b (rowIn x bothRow) (rowIn x xRow) (rowIn z xRow)
+  unfolding rowIn
+  road-pulled ne = record {
+    first = λ lane l. strip-kept xRow b w (omega arith) xRow a lane (omega arith) l (λ _ e. ne e) ∙ strip-written xRow a v lane l;
+    second = λ lane l. strip-written xRow b w lane l ∙ ap₂ (chainLattice .meet)
+        (strip-kept xRow a v (omega arith) xRow b lane (omega arith) l (λ _ e. ne (sym e)))
+        (strip-kept xRow a v (omega arith) bothRow a lane (omega arith) l (λ e _. absurd (omega arith)));
+    other = λ p lane l u t. strip-kept xRow b w (omega arith) xRow p lane (omega arith) l (λ _ e. t e) ∙ strip-kept xRow a v (omega arith) xRow p lane (omega arith) l (λ _ e. u e);
+  }
+
+  pub pulled-kept : length y ≡ length x → length z ≡ length y → KeptBut xRow x z
+  pulled-kept long again = record {
+    kept = λ row p lane c l other. strip-kept xRow b w (omega arith) row p lane c l (λ e _. other e) ∙ strip-kept xRow a v (omega arith) row p lane c l (λ e _. other e);
+    long = again ∙ long;
+  }
+
+-- what is handed over has not changed
+pub pulled-as : {a b : ℕ} {before rows : List ℕ} {x y : Numbers} → KeptBut xRow before rows → RoadPulled a b (rowIn rows bothRow) x y → RoadPulled a b (rowIn before bothRow) x y
+pulled-as {a} {b} {x = x} k p = record {
+  first = λ lane l. p .first lane l ∙ ap (chainLattice .meet (x lane a)) (k .kept bothRow b lane (omega arith) l (λ e. absurd (omega arith)));
+  second = λ lane l. p .second lane l ∙ ap (chainLattice .meet (x lane b)) (k .kept bothRow a lane (omega arith) l (λ e. absurd (omega arith)));
+  other = p .other;
+}
+
+-- one with both ends outside brings nothing
+pub road-outside : (a b : ℕ) {inside : List Bool} {rows : List ℕ} → LowOutside inside rows → a < length inside → b < length inside → (flagged inside a || flagged inside b) ≡ false
+    → RoadPulled a b (rowIn rows bothRow) (rowIn rows xRow) (rowIn rows xRow)
+road-outside a b {inside} o i j e =
+    let (out, away) = neither (flagged inside a) (flagged inside b) e in
+    record {
+      first = λ lane l. let low = o .low xRow a lane (omega arith) (omega arith) i l out in low ∙ sym (meet-low _ _ low);
+      second = λ lane l. let low = o .low xRow b lane (omega arith) (omega arith) j l away in low ∙ sym (meet-low _ _ low);
+      other = λ _ _ _ _ _. refl;
+    }
+  where
+    neither : (t u : Bool) → (t || u) ≡ false → (t ≡ false) × (u ≡ false)
+    neither true u h = absurd (false≢true (sym h))
+    neither false u h = (refl, h)
 
 -- ---- comparing, strip after strip
-pub strips-alike : (h : ℕ → ℕ) (a b : List ℕ) (place : ℕ) → ((lane : ℕ) → lane < lanes → laneOf a lane place ≡ laneOf b lane place) → StripsApart false h a b place lanes
-strips-alike h a b place e = record { alike = λ _ lane l. ap h (e lane l); apart = λ z. absurd (false≢true z) }
-
-module _ (h : ℕ → ℕ) (a b : List ℕ) where
+module _ (h : ℕ → ℕ) (a b : Numbers) where
   pub rows-none : RowsApart false h a b 0
   rows-none = record { alike = λ e p lane l. absurd (omega arith); apart = λ e. absurd (false≢true e) }
 
-  pub rows-more : (r : Bool) (k : ℕ) → RowsApart false h a b k → r ≡ false → StripsApart r h a b k lanes → RowsApart false h a b (k + 1)
-  rows-more r k w e s = record {
-    alike = λ z p lane l m. below-more (λ q. h (laneOf a lane q) ≡ h (laneOf b lane q)) k (λ q c. w .alike z q lane c m) (s .alike e lane m) p l;
+  pub rows-more : (k : ℕ) → RowsApart false h a b k → ((lane : ℕ) → lane < lanes → h (a lane k) ≡ h (b lane k)) → RowsApart false h a b (k + 1)
+  rows-more k w e = record {
+    alike = λ z p lane l m. below-more (λ q. h (a lane q) ≡ h (b lane q)) k (λ q c. w .alike z q lane c m) (e lane m) p l;
     apart = λ z. absurd (false≢true z);
   }
 
-  pub rows-found : (r : Bool) (k n : ℕ) → k < n → r ≡ true → StripsApart r h a b k lanes → RowsApart true h a b n
-  rows-found r k n l e s = record {
+module _ (h : ℕ → ℕ) (rows : List ℕ) (r : Bool) (k : ℕ) (s : StripsApart r h rows (stripOf oldRow k) (stripOf xRow k) lanes) where
+  pub strips-alike : r ≡ false → (lane : ℕ) → lane < lanes → h (rowIn rows oldRow lane k) ≡ h (rowIn rows xRow lane k)
+  unfolding rowIn
+  strips-alike e = s .alike e
+
+  pub rows-found : (n : ℕ) → k < n → r ≡ true → RowsApart true h (rowIn rows oldRow) (rowIn rows xRow) n
+  unfolding rowIn
+  rows-found n l e = record {
     alike = λ z. absurd (false≢true (sym z));
     apart = λ _. let u = s .apart e in (k, u .0, l, u .1, u .2);
   }
 
 -- ---- joining, place after place
-pub record Joining (inside : List Bool) (x right old both : List ℕ) (k : ℕ) : Type 0 where
-  pub joined : Joined x right old both k
-  pub rows : LowRows inside x right old both
+pub record Joining (inside : List Bool) (before rows : List ℕ) (k : ℕ) : Type 0 where
+  pub joined : Joined (rowIn before xRow) (rowIn before ringRow) (rowIn rows oldRow) (rowIn rows bothRow) k
+  pub worked : Worked oldRow inside before rows
 
-pub joining-none : {inside : List Bool} {x right old both : List ℕ} → LowRows inside x right old both → Joining inside x right old both 0
+pub joining-none : {inside : List Bool} {rows : List ℕ} → LowOutside inside rows → Joining inside rows rows 0
 joining-none o = record {
   joined = record { former = λ p lane b l. absurd (omega arith); handed = λ p lane b l. absurd (omega arith) };
-  rows = o;
+  worked = record { kept = kept-below-refl _ _; low = o };
 }
 
-module _ {inside : List Bool} {x right old both : List ℕ} {k : ℕ} (j : Joining inside x right old both k) where
-  joined-more : {old′ both′ : List ℕ} → Written k lanes (λ lane. laneOf x lane k) old old′
-      → Written k lanes (λ lane. chainLattice .join (laneOf x lane k) (laneOf right lane k)) both both′ → Joined x right old′ both′ (k + 1)
-  joined-more {old′} {both′} v w = record {
-    former = row-more (λ lane. laneOf x lane) _ old old′ k (record { at = j .joined .former }) v (λ _ _. refl) .at;
-    handed = row-more (λ lane place. chainLattice .join (laneOf x lane place) (laneOf right lane place)) _ both both′ k (record { at = j .joined .handed }) w (λ _ _. refl) .at;
+module _ {inside : List Bool} {before rows : List ℕ} {k : ℕ} (j : Joining inside before rows k) where
+  -- what is read has not changed
+  read : (row lane : ℕ) → row < oldRow → lane < lanes → rowIn rows row lane k ≡ rowIn before row lane k
+  read row lane b l = j .worked .kept .kept row k lane b l
+
+  joined-more : (after : List ℕ) → ((row p lane : ℕ) → row < rowCount → lane < lanes → p < k → rowIn after row lane p ≡ rowIn rows row lane p)
+      → ((lane : ℕ) → lane < lanes → rowIn after oldRow lane k ≡ rowIn before xRow lane k)
+      → ((lane : ℕ) → lane < lanes → rowIn after bothRow lane k ≡ chainLattice .join (rowIn before xRow lane k) (rowIn before ringRow lane k))
+      → Joined (rowIn before xRow) (rowIn before ringRow) (rowIn after oldRow) (rowIn after bothRow) (k + 1)
+  joined-more after kept former handed = record {
+    former = λ place lane b l. below-more (λ p. rowIn after oldRow lane p ≡ rowIn before xRow lane p) k
+        (λ p c. kept oldRow p lane (omega arith) l c ∙ j .joined .former p lane c l) (former lane l) place b;
+    handed = λ place lane b l. below-more (λ p. rowIn after bothRow lane p ≡ chainLattice .join (rowIn before xRow lane p) (rowIn before ringRow lane p)) k
+        (λ p c. kept bothRow p lane (omega arith) l c ∙ j .joined .handed p lane c l) (handed lane l) place b;
   }
 
-  pub joining-inside : {old′ both′ : List ℕ} → flagged inside k ≡ true → Written k lanes (λ lane. laneOf x lane k) old old′ → length old′ ≡ length old
-      → Written k lanes (λ lane. chainLattice .join (laneOf x lane k) (laneOf right lane k)) both both′ → length both′ ≡ length both → Joining inside x right old′ both′ (k + 1)
-  joining-inside i v old-long w both-long = record {
-    joined = joined-more v w;
-    rows = record {
-      low = j .rows .low;
-      right-low = j .rows .right-low;
-      old-low = low-kept i v old-long (j .rows .old-low);
-      both-low = low-kept i w both-long (j .rows .both-low);
+  pub joining-inside : {middle after : List ℕ} → flagged inside k ≡ true
+      → Written (stripOf oldRow k) lanes (λ lane. laneOf rows lane (stripOf xRow k)) rows middle → length middle ≡ length rows
+      → Written (stripOf bothRow k) lanes (λ lane. chainLattice .join (laneOf middle lane (stripOf xRow k)) (laneOf middle lane (stripOf ringRow k))) middle after → length after ≡ length middle
+      → Joining inside before after (k + 1)
+  unfolding rowIn
+  joining-inside {after = after} i v long w again = record {
+    joined = joined-more after
+        (λ row p lane b l c. strip-kept bothRow k w (omega arith) row p lane b l (λ _ e. absurd (omega arith)) ∙ strip-kept oldRow k v (omega arith) row p lane b l (λ _ e. absurd (omega arith)))
+        (λ lane l. strip-kept bothRow k w (omega arith) oldRow k lane (omega arith) l (λ e _. absurd (omega arith)) ∙ strip-written oldRow k v lane l ∙ read xRow lane (omega arith) l)
+        (λ lane l. strip-written bothRow k w lane l ∙ ap₂ (chainLattice .join)
+        (strip-kept oldRow k v (omega arith) xRow k lane (omega arith) l (λ e _. absurd (omega arith)) ∙ read xRow lane (omega arith) l)
+        (strip-kept oldRow k v (omega arith) ringRow k lane (omega arith) l (λ e _. absurd (omega arith)) ∙ read ringRow lane (omega arith) l));
+    worked = record {
+      kept = kept-below-trans (j .worked .kept) (kept-below-trans (kept-below-strip oldRow oldRow k (omega arith) (omega arith) v long) (kept-below-strip oldRow bothRow k (omega arith) (omega arith) w again));
+      low = low-inside bothRow k (omega arith) i w again (low-inside oldRow k (omega arith) i v long (j .worked .low));
     };
   }
 
-  pub joining-outside : k < length inside → flagged inside k ≡ false → Joining inside x right old both (k + 1)
+  pub joining-outside : k < length inside → flagged inside k ≡ false → Joining inside before rows (k + 1)
   joining-outside b e = record {
-    joined = joined-more
-        (written-already (λ lane l. j .rows .old-low .low k lane b l e ∙ sym (j .rows .low .low k lane b l e)))
-        (written-already (λ lane l. j .rows .both-low .low k lane b l e ∙ sym (rw (j .rows .low .low k lane b l e, j .rows .right-low .low k lane b l e) refl)));
-    rows = j .rows;
+    joined = joined-more rows (λ _ _ _ _ _ _. refl)
+        (λ lane l. low oldRow lane (omega arith) (omega arith) l ∙ sym (sym (read xRow lane (omega arith) l) ∙ low xRow lane (omega arith) (omega arith) l))
+        (λ lane l. low bothRow lane (omega arith) (omega arith) l
+        ∙ ap₂ (chainLattice .join) (sym (sym (read xRow lane (omega arith) l) ∙ low xRow lane (omega arith) (omega arith) l)) (sym (sym (read ringRow lane (omega arith) l) ∙ low ringRow lane (omega arith) (omega arith) l)));
+    worked = j .worked;
   }
+    where
+      low : (row lane : ℕ) → ringRow ≤ row → row < rowCount → lane < lanes → rowIn rows row lane k ≡ 0
+      low row lane c d l = j .worked .low .low row k lane c d b l e

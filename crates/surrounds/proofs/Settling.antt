@@ -13,20 +13,20 @@ use Rattle.logic.proofs.Keeps.{same-kept, least-kept}
 use Rattle.counting.proofs.Totals.{sum-le, sum-lt, sum-bound, most-le, le-most}
 use Rattle.values.specs.Chain.{chainLattice, highest}
 use Rattle.values.proofs.ChainSurround.{halves-rest-after, rounds-of-halves}
-use Rattle.lanes.specs.Lanes.{lanes, laneOf}
+use Rattle.lanes.specs.Lanes.{lanes, Numbers}
 use Rattle.surrounds.specs.Surround.{joinedBy}
 use Rattle.surrounds.specs.Steps.{RowsApart, Bounded, ValidRow, Round, stepIn, roundsIn, Settled}
 use Rattle.values.proofs.Naturals.{meet-min}
 
 -- the sum of all numbers of n places
-pub total : List ℕ → ℕ → ℕ
-total x n = sumBelow (λ place. sumBelow (λ lane. laneOf x lane place) lanes) n
+pub total : Numbers → ℕ → ℕ
+total x n = sumBelow (λ place. sumBelow (λ lane. x lane place) lanes) n
 
-pub total-bound : (x : List ℕ) (n : ℕ) → Bounded x n → total x n ≤ n * (lanes * highest)
+pub total-bound : (x : Numbers) (n : ℕ) → Bounded x n → total x n ≤ n * (lanes * highest)
 unfolding total
-total-bound x n b = sum-bound _ n (lanes * highest) (λ place l. sum-bound (λ lane. laneOf x lane place) lanes highest (λ lane m. b .bound place lane l m))
+total-bound x n b = sum-bound _ n (lanes * highest) (λ place l. sum-bound (λ lane. x lane place) lanes highest (λ lane m. b .bound place lane l m))
 
-module _ (sheet : List ℕ) (roads n : ℕ) (right x₀ : List ℕ) where
+module _ (sheet : List ℕ) (roads n : ℕ) (right x₀ : Numbers) where
   abbrev stepOf : ℕ → ℕ → ℕ → ℕ
   stepOf = stepIn sheet roads n right x₀
 
@@ -41,9 +41,9 @@ module _ (sheet : List ℕ) (roads n : ℕ) (right x₀ : List ℕ) where
   Halves lane i = (place : ℕ) → place < n → stepOf lane (suc i) place / 2 ≡ stepOf lane i place / 2
 
   -- what the loop knows at its head
-  pub record Going (x : List ℕ) (r : ℕ) : Type 0 where
+  pub record Going (x : Numbers) (r : ℕ) : Type 0 where
     pub steps : ℕ
-    pub reached : (place lane : ℕ) → place < n → lane < lanes → laneOf x lane place ≡ stepOf lane steps place
+    pub reached : (place lane : ℕ) → place < n → lane < lanes → x lane place ≡ stepOf lane steps place
     pub early : r ≤ suc steps
     pub counted : r ≤ mostRounds
     pub last : (r ≡ suc steps) ⊎ (mostRounds ≤ r)
@@ -53,12 +53,12 @@ module _ (sheet : List ℕ) (roads n : ℕ) (right x₀ : List ℕ) where
   module _ (vx : ValidRow x₀ n) (vr : ValidRow right n) where
     halves-after : (lane i : ℕ) → lane < lanes → roundsOf lane ≤ suc i → Halves lane i
     unfolding masked
-    halves-after lane i l h = halves-rest-after (joinedBy sheet roads) n (λ _. true) (λ _. true) (laneOf x₀ lane) (laneOf right lane)
+    halves-after lane i l h = halves-rest-after (joinedBy sheet roads) n (λ _. true) (λ _. true) (x₀ lane) (right lane)
         (λ p b. vx .valid p lane b l) (λ p b. vr .valid p lane b l) _ _ (λ _ _. refl) (λ _ _. refl) i h
 
     halves-least : (lane i : ℕ) → lane < lanes → Halves lane i → roundsOf lane ≤ suc i
     unfolding masked
-    halves-least lane i l h = rounds-of-halves (joinedBy sheet roads) n (λ _. true) (λ _. true) (laneOf x₀ lane) (laneOf right lane)
+    halves-least lane i l h = rounds-of-halves (joinedBy sheet roads) n (λ _. true) (λ _. true) (x₀ lane) (right lane)
         (λ p b. vx .valid p lane b l) (λ p b. vr .valid p lane b l) _ _ (λ _ _. refl) (λ _ _. refl) i h
 
     -- a half that changes at step i, and none that does
@@ -88,29 +88,29 @@ module _ (sheet : List ℕ) (roads n : ℕ) (right x₀ : List ℕ) where
     }
 
 -- one turn: x has become y, and old is x
-pub record Turn (sheet : List ℕ) (roads n : ℕ) (right x₀ x old y : List ℕ) (r : ℕ) : Type 0 where
+pub record Turn (sheet : List ℕ) (roads n : ℕ) (right x₀ x old y : Numbers) (r : ℕ) : Type 0 where
   pub valid-start : ValidRow x₀ n
   pub valid-right : ValidRow right n
   pub going : Going sheet roads n right x₀ x r
   pub round : Round sheet roads n right x old y
 
-module _ {sheet : List ℕ} {roads n : ℕ} {right x₀ x old y : List ℕ} {r : ℕ} (turn : Turn sheet roads n right x₀ x old y r) where
+module _ {sheet : List ℕ} {roads n : ℕ} {right x₀ x old y : Numbers} {r : ℕ} (turn : Turn sheet roads n right x₀ x old y r) where
   abbrev g : Going sheet roads n right x₀ x r
   g = turn .going
 
   abbrev w : Round sheet roads n right x old y
   w = turn .round
 
-  next : (place lane : ℕ) → place < n → lane < lanes → laneOf y lane place ≡ stepIn sheet roads n right x₀ lane (suc (g .steps)) place
+  next : (place lane : ℕ) → place < n → lane < lanes → y lane place ≡ stepIn sheet roads n right x₀ lane (suc (g .steps)) place
   unfolding iterate
   next place lane b l = w .stepped place lane b l ∙ ap₂ (chainLattice .meet) (g .reached place lane b l)
       (least-kept chainLattice chainLattice (λ u v. u ≡ v) (same-kept chainLattice) (joinedBy sheet roads place) _ _ n
       (λ k c _. ap₂ (chainLattice .join) (g .reached k lane c l) refl))
 
-  former : (place lane : ℕ) → place < n → lane < lanes → laneOf old lane place ≡ stepIn sheet roads n right x₀ lane (g .steps) place
+  former : (place lane : ℕ) → place < n → lane < lanes → old lane place ≡ stepIn sheet roads n right x₀ lane (g .steps) place
   former place lane b l = w .former place lane b l ∙ g .reached place lane b l
 
-  down : (place lane : ℕ) → place < n → lane < lanes → laneOf y lane place ≤ laneOf x lane place
+  down : (place lane : ℕ) → place < n → lane < lanes → y lane place ≤ x lane place
   down place lane b l = rw (w .stepped place lane b l, meet-min) (omega arith)
 
   kept : Bounded y n
@@ -120,11 +120,11 @@ module _ {sheet : List ℕ} {roads n : ℕ} {right x₀ x old y : List ℕ} {r :
   unfolding total
   total-falls h t e a =
       let (place, lane, b, l, ne) = a .apart e in
-      let other : laneOf y lane place ≡ laneOf x lane place → ⊥ = λ q. ne (ap h (w .former place lane b l ∙ sym q)) in
+      let other : y lane place ≡ x lane place → ⊥ = λ q. ne (ap h (w .former place lane b l ∙ sym q)) in
       sum-lt _ _ n place
-      (λ p c. sum-le (λ m. laneOf y m p) (λ m. laneOf x m p) lanes (λ m d. down p m c d))
+      (λ p c. sum-le (λ m. y m p) (λ m. x m p) lanes (λ m d. down p m c d))
       b
-      (sum-lt (λ m. laneOf y m place) (λ m. laneOf x m place) lanes lane (λ m d. down place m b d) l (omega (arith, down place lane b l)))
+      (sum-lt (λ m. y m place) (λ m. x m place) lanes lane (λ m d. down place m b d) l (omega (arith, down place lane b l)))
 
   rested : (t : Bool) → t ≡ false → RowsApart t (λ v. v / 2) old y n → mostRounds sheet roads n right x₀ ≤ suc (g .steps)
   rested t e a = no-more-rounds sheet roads n right x₀ (turn .valid-start) (turn .valid-right) (g .steps) (λ lane l place b.
@@ -169,5 +169,5 @@ module _ {sheet : List ℕ} {roads n : ℕ} {right x₀ x old y : List ℕ} {r :
     counted = le-antisymm (g .counted) (late t e a);
   }
     where
-      same : (place lane : ℕ) → place < n → lane < lanes → laneOf y lane place ≡ laneOf old lane place
+      same : (place lane : ℕ) → place < n → lane < lanes → y lane place ≡ old lane place
       same place lane b l = omega (arith, d .alike f place lane b l)

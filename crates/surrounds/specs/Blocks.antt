@@ -1,7 +1,7 @@
--- What is done for a block of samples: the strips of the operands are read once, and masked, settled and written centre by centre. These are for
--- contracts inside the engine: no promise to a host speaks of them.
+-- What is done for a block of samples: the rows of the operands are read once, and masked, settled and written centre by centre. These are for contracts
+-- inside the engine: no promise to a host speaks of them.
 use mathlib.Core.Path.{_≡_}
-use mathlib.Core.Bool.{Bool, not}
+use mathlib.Core.Bool.{Bool, not, cond}
 use mathlib.Core.List.{List}
 use Prim.Native.Nat.{ℕ, _+_, _*_, _<_, _≤_, _^_}
 use lib.Dec.{eqb}
@@ -13,18 +13,12 @@ use Rattle.lines.specs.declared.operator.Bounds.{Bounds}
 use Rattle.roads.specs.Roads.{networkOf, distanceNumber, Measured}
 use Rattle.values.specs.Chain.{Valid}
 use Rattle.values.specs.Signals.{signalIn}
-use Rattle.lanes.specs.Lanes.{lanes, laneOf}
+use Rattle.lanes.specs.Lanes.{lanes, Numbers, leftRow, rightRow, outRow, rowIn}
 use Rattle.lanes.specs.Rows.{RowOf, within, Marked, maskedBy}
 use Rattle.surrounds.specs.declared.surround.Surround.{Surround}
 use Rattle.surrounds.specs.Surround.{surroundIn, blockRounds}
+use Rattle.surrounds.specs.WorkRows.{ringRow, xRow, Worked, WrittenAt}
 use Rattle.surrounds.specs.Steps.{RoadsIn, ValidRow}
-
--- rows of the operands and of a centre have room for n places
-pub record Rooms (n : ℕ) (left right x ring : List ℕ) : Type 0 where
-  pub left-room : n * lanes ≤ length left
-  pub right-room : n * lanes ≤ length right
-  pub x-room : n * lanes ≤ length x
-  pub ring-room : n * lanes ≤ length ring
 
 -- the ball ends where the ring does, and begins at the centre
 abbrev pub ballOf : Bounds → Bounds
@@ -34,19 +28,29 @@ ballOf b = record { lower = 0; upper = b .upper }
 abbrev pub reachedBy : List ℕ → ℕ → ℕ → ℕ → Bool
 reachedBy distances n centre place = not (eqb (getD (numbersOf (wordsOf distances)) (centre * n + place) 0) (distanceNumber none))
 
--- the flags are those of the ball about a centre, x is the left row masked by the ball, and ring the right row masked by the bounds
-pub record CentreMasked (n : ℕ) (left right distances : List ℕ) (b : Bounds) (centre : ℕ) (inside : List Bool) (x ring : List ℕ) : Type 0 where
-  pub ball : Marked (within distances n centre (ballOf b)) inside n
-  pub left-masked : RowOf (maskedBy (within distances n centre (ballOf b)) left) x n
-  pub right-masked : RowOf (maskedBy (within distances n centre b) right) ring n
+-- x has the left operand at a place, and the ring the right one, or the lowest number
+pub record PlaceMasked (place : ℕ) (ring : Bool) (before after : List ℕ) : Type 0 where
+  pub left-there : (lane : ℕ) → lane < lanes → rowIn after xRow lane place ≡ rowIn before leftRow lane place
+  pub right-there : (lane : ℕ) → lane < lanes → rowIn after ringRow lane place ≡ cond ring (rowIn before rightRow lane place) 0
+  pub only : WrittenAt place before after
+
+-- the flags of the first k places are those of the ball about a centre, x is the left row masked by the ball, and the ring the right row masked by the bounds
+pub record CentreMasked (n : ℕ) (distances : List ℕ) (b : Bounds) (centre k : ℕ) (before : List ℕ) (inside : List Bool) (after : List ℕ) : Type 0 where
+  pub ball : Marked (within distances n centre (ballOf b)) inside k
+  pub left-masked : RowOf (maskedBy (within distances n centre (ballOf b)) (rowIn before leftRow)) (rowIn after xRow) k
+  pub right-masked : RowOf (maskedBy (within distances n centre b) (rowIn before rightRow)) (rowIn after ringRow) k
+  pub worked : Worked ringRow inside before after
+
+-- where the first k places are masked, one more is
+abbrev pub MaskedNext : (n : ℕ) (distances : List ℕ) (b : Bounds) (centre k : ℕ) (inside : List Bool) (rows : List ℕ) (inside′ : List Bool) (rows′ : List ℕ) → Type 0
+MaskedNext n distances b centre k inside rows inside′ rows′ =
+    (before : List ℕ) → CentreMasked n distances b centre k before inside rows → CentreMasked n distances b centre (k + 1) before inside′ rows′
 
 -- what the rows of the operands, the sheet and the distances must be
-pub record RowsReady (left right : List ℕ) (n : ℕ) (sheet : List ℕ) (roads : ℕ) (distances : List ℕ) (b : Bounds) : Type 0 where
+pub record RowsReady (left right : Numbers) (n : ℕ) (sheet : List ℕ) (roads : ℕ) (distances : List ℕ) (b : Bounds) : Type 0 where
   pub few-places : n ≤ mostPlaces
   pub left-valid : ValidRow left n
   pub right-valid : ValidRow right n
-  pub left-room : n * lanes ≤ length left
-  pub right-room : n * lanes ≤ length right
   pub roads-in : RoadsIn sheet roads n
   pub distances-there : n * n ≤ length distances
   pub measured : Measured (networkOf sheet n roads) distances
@@ -68,11 +72,10 @@ module _ (words : List ℕ) (s : Surround) (n : ℕ) (sheet : List ℕ) (roads :
     pub left-valid : (t l : ℕ) → first ≤ t → t < first + count → l < n → Valid (signalIn words (s .left) n t l)
     pub right-valid : (t l : ℕ) → first ≤ t → t < first + count → l < n → Valid (signalIn words (s .right) n t l)
 
-  -- entry centre · lanes + lane is the surround of sample first + lane at the centre, and r the greatest rounds; a lane without a sample is lowest, and
-  -- what stands past the n places is kept
+  -- the lanes of the row of what comes of the operands are the surrounds of the samples from `first` on, and r the greatest rounds; a lane without a sample
+  -- is lowest
   pub record BlockDone (before after : List ℕ) (r : ℕ) : Type 0 where
-    pub values : (centre lane : ℕ) → centre < n → lane < count → laneOf after lane centre ≡ surroundIn words s (networkOf sheet n roads) (first + lane) centre
-    pub idle : (centre lane : ℕ) → centre < n → count ≤ lane → lane < lanes → laneOf after lane centre ≡ 0
-    pub kept : (place lane : ℕ) → n ≤ place → lane < lanes → laneOf after lane place ≡ laneOf before lane place
+    pub values : (centre lane : ℕ) → centre < n → lane < count → rowIn after outRow lane centre ≡ surroundIn words s (networkOf sheet n roads) (first + lane) centre
+    pub idle : (centre lane : ℕ) → centre < n → count ≤ lane → lane < lanes → rowIn after outRow lane centre ≡ 0
     pub long : length after ≡ length before
     pub rounds : r ≡ blockRounds words s (networkOf sheet n roads) first count

@@ -1,17 +1,21 @@
 -- What the functions of the surround are asked and what they leave, of the bytes that a call is lent and the numbers that it is given.
-use mathlib.Core.Bool.{Bool}
+use mathlib.Core.Path.{_≡_}
+use mathlib.Core.Bool.{Bool, true}
 use mathlib.Core.List.{List}
-use Prim.Native.Nat.{ℕ}
+use Prim.Native.Nat.{ℕ, _<_, _≤_}
+use lib.ListN.{length}
 use Rattle.words.specs.Bytes.{wordsOf, numbersOf}
 use Rattle.network.specs.Network as Roads
 use Rattle.lines.specs.declared.operator.Bounds.{Bounds}
 use Rattle.roads.specs.Roads.{networkOf}
 use Rattle.roads.specs.declared.road.Network.{Network}
 use Rattle.lanes.specs.declared.rows.Block.{Block}
+use Rattle.lanes.specs.Lanes.{leftRow, rightRow, outRow, rowIn}
 use Rattle.lanes.specs.Rows.{within}
 use Rattle.surrounds.specs.declared.surround.Surround.{Surround}
 use Rattle.surrounds.specs.declared.runs.Run.{Run}
-use Rattle.surrounds.specs.Runs.{beyond, isMade, CentresDone, RunDone}
+use Rattle.surrounds.specs.WorkRows.{LowOutside}
+use Rattle.surrounds.specs.Runs.{beyond, isMade, CentresDone, RunDone, CentreRun}
 use Rattle.surrounds.specs.Blocks.{ballOf, reachedBy, RowsReady, BlockReady, BlockDone}
 
 -- the network of a sheet's roads
@@ -26,16 +30,28 @@ abbrev pub isMadeIn : List ℕ → ℕ → ℕ → Run → Bool
 isMadeIn distances n centre run = isMade (within distances n centre (ballOf (run .bounds))) (reachedBy distances n centre) n centre (run .islands) (run .number)
 
 -- rows of the operands
-module _ (left right sheet : List ℕ) (network : Network) where
+module _ (rows sheet : List ℕ) (network : Network) where
   abbrev pub RowsReadyIn : List ℕ → Bounds → Type 0
-  RowsReadyIn distances = RowsReady left right (network .places) (wordsOf sheet) (network .roads) (numbersOf (wordsOf distances))
+  RowsReadyIn distances = RowsReady (rowIn rows leftRow) (rowIn rows rightRow) (network .places) (wordsOf sheet) (network .roads) (numbersOf (wordsOf distances))
 
-  abbrev pub CentresDoneIn : Surround → List ℕ → List ℕ → ℕ → Type 0
-  CentresDoneIn s = CentresDone left right (networkIn sheet network) (s .bounds) (s .islands)
+  abbrev pub CentresDoneIn : Surround → List ℕ → ℕ → Type 0
+  CentresDoneIn s after = CentresDone (rowIn rows leftRow) (rowIn rows rightRow) (networkIn sheet network) (s .bounds) (s .islands) (rowIn after outRow)
 
-  -- a run about the first k centres
-  abbrev pub RunDoneIn : Run → ℕ → List ℕ → List ℕ → ℕ → Type 0
-  RunDoneIn run = RunDone left right (networkIn sheet network) (run .bounds) (run .islands) (run .number)
+  -- a run is made about a centre, and there are flags outside of which all rows to work in are lowest
+  pub record CentreReadyIn (distances : List ℕ) (run : Run) (centre : ℕ) (inside : List Bool) : Type 0 where
+    pub ready : RowsReadyIn distances (run .bounds)
+    pub here : centre < network .places
+    pub number : run .number ≤ network .places
+    pub made : isMadeIn distances (network .places) centre run ≡ true
+    pub flags : length inside ≡ network .places
+    pub low : LowOutside inside rows
+
+  -- a run about one centre and about the first k centres, on rows that have become others
+  abbrev pub CentreRunIn : Run → ℕ → List ℕ → ℕ → Type 0
+  CentreRunIn run centre after = CentreRun (rowIn rows leftRow) (rowIn rows rightRow) (networkIn sheet network) (run .bounds) (run .islands) (run .number) centre (rowIn rows outRow) (rowIn after outRow)
+
+  abbrev pub RunDoneIn : Run → ℕ → List ℕ → ℕ → Type 0
+  RunDoneIn run k after = RunDone (rowIn rows leftRow) (rowIn rows rightRow) (networkIn sheet network) (run .bounds) (run .islands) (run .number) k (rowIn rows outRow) (rowIn after outRow)
 
 -- words with the signals of the operands
 module _ (words : List ℕ) (s : Surround) (sheet : List ℕ) (network : Network) (block : Block) where

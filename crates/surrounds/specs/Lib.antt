@@ -1,4 +1,5 @@
 pub mod Surround
+pub mod WorkRows
 pub mod Steps
 pub mod Runs
 pub mod Blocks

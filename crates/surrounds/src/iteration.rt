@@ -2,81 +2,95 @@
 ghost use Prim.Native.Nat.{_*_, _/_, _≤_, _<_};
 ghost use lib.ListN.{length};
 ghost use Rattle.words.specs.Bytes.{wordsOf};
-ghost use Rattle.lanes.specs.Lanes.{lanes};
-ghost use Rattle.surrounds.specs.Steps.{RoadsIn, Bounded, LowOutside, LowRows, Start, Joined, RoadPulled, Stepped, Round, RowsApart, Settled};
+ghost use Rattle.lanes.specs.Lanes.{rowIn};
+ghost use Rattle.surrounds.specs.WorkRows.{ringRow, xRow, oldRow, bothRow, LowOutside, Worked, KeptBut};
+ghost use Rattle.surrounds.specs.Steps.{RoadsIn, Bounded, Start, Joined, RoadPulled, Stepped, Round, RowsApart, Settled};
+use checks::head::is_wide;
+use lanes::ROWS;
+use lanes::strips::combine_strips;
 use lanes::strips::copy_strip;
-use lanes::strips::greater_strip;
-use lanes::strips::pull_strip;
 use lanes::strips::strip_changed;
 use roads::road::Network;
 use roads::road::first_place;
-use roads::road::road_word;
+use roads::road::road_at;
 use roads::road::second_place;
 
 // So many chain numbers share a margin: one says no, one says yes.
 const MARGIN: u32 = 2;
 
+// The rows to work in: the ring about a centre, what its places have, what they had a round before, and what they hand to their neighbours.
+pub(crate) const RING: usize = 3;
+
+pub(crate) const X: usize = 4;
+
+const OLD: usize = 5;
+
+const BOTH: usize = 6;
+
 // Keeps the former numbers, and makes of them what each place hands to its neighbours: a pull must not read a place that has stepped already.
-fn join(x: &[u32], right: &[u32], inside: &[bool], old: &mut [u32], both: &mut [u32])
-    requires { ⌜ LowRows (now inside) (now x) (now right) (now old) (now both) ⌝ }
-    ensures joined { λ _. ⌜ Joined (now (x .entry)) (now (right .entry)) (now (old .exit)) (now (both .exit)) (length (now (inside .entry))) ⌝ }
-    ensures low { λ _. ⌜ LowRows (now (inside .entry)) (now (x .entry)) (now (right .entry)) (now (old .exit)) (now (both .exit)) ⌝ }
+fn join(rows: &mut [u32], inside: &[bool])
+    requires { ⌜ LowOutside (now inside) (now rows) ⌝ }
+    ensures joined { λ _. ⌜ Joined (rowIn (now (rows .entry)) xRow) (rowIn (now (rows .entry)) ringRow) (rowIn (now (rows .exit)) oldRow) (rowIn (now (rows .exit)) bothRow) (length (now (inside .entry))) ⌝ }
+    ensures worked { λ _. ⌜ Worked oldRow (now (inside .entry)) (now (rows .entry)) (now (rows .exit)) ⌝ }
 {
     for place in 0..inside.len() {
         if inside[place] {
-            copy_strip(x, old, place);
-            greater_strip(x, right, both, place);
+            let strips = place * ROWS;
+            copy_strip(rows, strips + X, strips + OLD);
+            combine_strips(rows, strips + X, strips + RING, strips + BOTH, false);
         }
     }
 }
 
 // A road brings to each of its two ends what the other hands over. Two ends outside the ball have the lowest number already.
-fn pull_road(x: &mut [u32], both: &[u32], inside: &[bool], first: usize, second: usize)
-    requires { ⌜ (first < second) × (second < length (now inside)) × LowOutside (now inside) (now x) × (length (now inside) * lanes ≤ length (now both)) ⌝ }
-    ensures { λ _. ⌜ RoadPulled first second (now (both .entry)) (now (x .entry)) (now (x .exit)) ⌝ }
+fn pull_road(rows: &mut [u32], inside: &[bool], first: usize, second: usize)
+    requires { ⌜ (first < second) × (second < length (now inside)) × LowOutside (now inside) (now rows) ⌝ }
+    ensures pulled { λ _. ⌜ RoadPulled first second (rowIn (now (rows .entry)) bothRow) (rowIn (now (rows .entry)) xRow) (rowIn (now (rows .exit)) xRow) ⌝ }
+    ensures kept { λ _. ⌜ KeptBut xRow (now (rows .entry)) (now (rows .exit)) ⌝ }
 {
     if inside[first] | inside[second] {
-        pull_strip(x, both, first, second, true);
-        pull_strip(x, both, second, first, true);
+        let a = first * ROWS;
+        let b = second * ROWS;
+        combine_strips(rows, a + X, b + BOTH, a + X, true);
+        combine_strips(rows, b + X, a + BOTH, b + X, true);
     }
 }
 
-fn step(x: &mut [u32], both: &[u32], inside: &[bool], sheet: &[u8], network: Network)
-    requires { ⌜ RoadsIn (wordsOf (now sheet)) (network .roads) (length (now inside)) × LowOutside (now inside) (now x) × (length (now inside) * lanes ≤ length (now both)) ⌝ }
-    ensures { λ _. ⌜ Stepped (wordsOf (now (sheet .entry))) (network .roads) (now (both .entry)) (now (x .entry)) (now (x .exit)) ⌝ }
+fn step(rows: &mut [u32], inside: &[bool], sheet: &[u8], network: Network)
+    requires { ⌜ RoadsIn (wordsOf (now sheet)) (network .roads) (length (now inside)) × LowOutside (now inside) (now rows) ⌝ }
+    ensures stepped { λ _. ⌜ Stepped (wordsOf (now (sheet .entry))) (network .roads) (rowIn (now (rows .entry)) bothRow) (rowIn (now (rows .entry)) xRow) (rowIn (now (rows .exit)) xRow) ⌝ }
+    ensures kept { λ _. ⌜ KeptBut xRow (now (rows .entry)) (now (rows .exit)) ⌝ }
 {
+    let wide = is_wide(sheet);
+    let mut at = road_at(wide, 0);
     for r in 0..network.roads {
-        let road = road_word(sheet, r);
-        let first = first_place(road);
-        let second = second_place(road);
-        pull_road(x, both, inside, first, second);
+        let road = words::word_at(sheet, at);
+        at += 2;
+        pull_road(
+            rows,
+            inside,
+            first_place(road, wide),
+            second_place(road, wide),
+        );
     }
 }
 
-fn round(
-    x: &mut [u32],
-    right: &[u32],
-    old: &mut [u32],
-    both: &mut [u32],
-    inside: &[bool],
-    sheet: &[u8],
-    network: Network,
-)
-    requires { ⌜ RoadsIn (wordsOf (now sheet)) (network .roads) (length (now inside)) × Bounded (now x) (length (now inside)) × LowRows (now inside) (now x) (now right) (now old) (now both) ⌝ }
-    ensures stepped { λ _. ⌜ Round (wordsOf (now (sheet .entry))) (network .roads) (length (now (inside .entry))) (now (right .entry)) (now (x .entry)) (now (old .exit)) (now (x .exit)) ⌝ }
-    ensures low { λ _. ⌜ LowRows (now (inside .entry)) (now (x .exit)) (now (right .entry)) (now (old .exit)) (now (both .exit)) ⌝ }
+fn round(rows: &mut [u32], inside: &[bool], sheet: &[u8], network: Network)
+    requires { ⌜ RoadsIn (wordsOf (now sheet)) (network .roads) (length (now inside)) × Bounded (rowIn (now rows) xRow) (length (now inside)) × LowOutside (now inside) (now rows) ⌝ }
+    ensures stepped { λ _. ⌜ Round (wordsOf (now (sheet .entry))) (network .roads) (length (now (inside .entry))) (rowIn (now (rows .entry)) ringRow) (rowIn (now (rows .entry)) xRow) (rowIn (now (rows .exit)) oldRow) (rowIn (now (rows .exit)) xRow) ⌝ }
+    ensures worked { λ _. ⌜ Worked xRow (now (inside .entry)) (now (rows .entry)) (now (rows .exit)) ⌝ }
 {
-    join(x, right, inside, old, both);
-    step(x, both, inside, sheet, network);
+    join(rows, inside);
+    step(rows, inside, sheet, network);
 }
 
 // Whether a number inside the ball is another, with so many chain numbers as `unit` says taken as one. Outside nothing changes.
-fn changed(old: &[u32], x: &[u32], inside: &[bool], unit: u32) -> bool
-    requires { ⌜ (1 ≤ unit) × LowOutside (now inside) (now old) × LowOutside (now inside) (now x) ⌝ }
-    ensures { λ r. ⌜ RowsApart r (λ c. c / unit) (now (old .entry)) (now (x .entry)) (length (now (inside .entry))) ⌝ }
+fn changed(rows: &[u32], inside: &[bool], unit: u32) -> bool
+    requires { ⌜ (1 ≤ unit) × LowOutside (now inside) (now rows) ⌝ }
+    ensures { λ r. ⌜ RowsApart r (λ c. c / unit) (rowIn (now (rows .entry)) oldRow) (rowIn (now (rows .entry)) xRow) (length (now (inside .entry))) ⌝ }
 {
     for place in 0..inside.len() {
-        if inside[place] && strip_changed(old, x, place, unit) {
+        if inside[place] && strip_changed(rows, place * ROWS + OLD, place * ROWS + X, unit) {
             return true;
         }
     }
@@ -85,24 +99,17 @@ fn changed(old: &[u32], x: &[u32], inside: &[bool], unit: u32) -> bool
 
 // Steps until no place changes in any lane. The rounds are 1 plus the number of steps in which a margin fell in some lane; verdicts may still
 // move after these.
-pub(crate) fn settle(
-    x: &mut [u32],
-    right: &[u32],
-    old: &mut [u32],
-    both: &mut [u32],
-    inside: &[bool],
-    sheet: &[u8],
-    network: Network,
-) -> u64
-    requires { ⌜ Start (wordsOf (now sheet)) (network .roads) (now inside) (now x) (now right) × LowOutside (now inside) (now old) × LowOutside (now inside) (now both) ⌝ }
-    ensures { λ r. ⌜ Settled (wordsOf (now (sheet .entry))) (network .roads) (length (now (inside .entry))) (now (right .entry)) (now (x .entry)) r (now (x .exit)) ⌝ }
+pub(crate) fn settle(rows: &mut [u32], inside: &[bool], sheet: &[u8], network: Network) -> u64
+    requires { ⌜ Start (wordsOf (now sheet)) (network .roads) (now inside) (now rows) ⌝ }
+    ensures settled { λ r. ⌜ Settled (wordsOf (now (sheet .entry))) (network .roads) (length (now (inside .entry))) (rowIn (now (rows .entry)) ringRow) (rowIn (now (rows .entry)) xRow) r (rowIn (now (rows .exit)) xRow) ⌝ }
+    ensures worked { λ _. ⌜ Worked xRow (now (inside .entry)) (now (rows .entry)) (now (rows .exit)) ⌝ }
 {
     let mut rounds: u64 = 1;
     loop {
-        round(x, right, old, both, inside, sheet, network);
-        if changed(old, x, inside, MARGIN) {
+        round(rows, inside, sheet, network);
+        if changed(rows, inside, MARGIN) {
             rounds += 1;
-        } else if !changed(old, x, inside, 1) {
+        } else if !changed(rows, inside, 1) {
             break rounds;
         }
     }

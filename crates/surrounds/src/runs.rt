@@ -3,13 +3,15 @@
 // beyond the ball are all run 0, for what they leave out is masked already.
 ghost use mathlib.Core.Path.{_≡_};
 ghost use mathlib.Core.Bool.{not, _&&_};
-ghost use Prim.Native.Nat.{_*_, _≤_, _<_, _^_};
-ghost use lib.ListN.{length};
-ghost use Rattle.lanes.specs.Lanes.{lanes};
-ghost use Rattle.lanes.specs.Rows.{TableThere, within};
+ghost use Prim.Native.Nat.{_≤_, _<_, _^_};
+ghost use Rattle.lanes.specs.Lanes.{rowIn};
+ghost use Rattle.lanes.specs.Rows.{Room, TableThere, within};
+ghost use Rattle.surrounds.specs.WorkRows.{xRow, KeptBut};
 ghost use Rattle.surrounds.specs.Runs.{runsOf, LeftOut};
 ghost use Rattle.surrounds.specs.Blocks.{reachedBy};
 ghost use Rattle.surrounds.specs.Lent.{beyondIn, isMadeIn};
+use crate::iteration::X;
+use lanes::ROWS;
 use lanes::rows::in_range;
 use lanes::strips::fill_strip;
 use lines::operator::Bounds;
@@ -70,11 +72,12 @@ pub(crate) fn is_made(distances: &[u8], places: usize, centre: usize, run: Run) 
 }
 
 // The place that a run leaves out becomes lowest.
-pub(crate) fn leave_out(row: &mut [u32], run: Run)
-    requires { ⌜ run .number * lanes ≤ length (now row) ⌝ }
-    ensures { λ _. ⌜ LeftOut (run .number) (now (row .entry)) (now (row .exit)) ⌝ }
+pub(crate) fn leave_out(rows: &mut [u32], run: Run)
+    requires { ⌜ Room (run .number) (now rows) ⌝ }
+    ensures out { λ _. ⌜ LeftOut (run .number) (rowIn (now (rows .entry)) xRow) (rowIn (now (rows .exit)) xRow) ⌝ }
+    ensures kept { λ _. ⌜ KeptBut xRow (now (rows .entry)) (now (rows .exit)) ⌝ }
 {
     if run.number > 0 {
-        fill_strip(row, run.number - 1, values::bottom());
+        fill_strip(rows, (run.number - 1) * ROWS + X, values::bottom());
     }
 }

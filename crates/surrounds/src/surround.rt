@@ -1,27 +1,27 @@
 // The surround by runs of Definition 4.4's iteration, for several samples side by side, from the words of an answer.
 ghost use mathlib.Core.Path.{_≡_};
-ghost use Prim.Native.Nat.{_*_, _≤_, _<_, max};
-ghost use lib.ListN.{length};
-ghost use Rattle.words.specs.Bytes.{wordsOf};
-ghost use Rattle.lanes.specs.Lanes.{lanes};
-ghost use Rattle.lanes.specs.Rows.{TableThere, RowWritten};
-ghost use Rattle.surrounds.specs.Steps.{StartWithRoom, Settled};
-ghost use Rattle.surrounds.specs.Blocks.{Rooms, CentreMasked};
-ghost use Rattle.surrounds.specs.Lent.{RowsReadyIn, RunDoneIn, CentresDoneIn, BlockReadyIn, BlockDoneIn};
+ghost use Prim.Native.Nat.{_≤_, max};
+ghost use Rattle.lanes.specs.Lanes.{outRow};
+ghost use Rattle.lanes.specs.Rows.{Room, RowWritten, KeptBelow};
+ghost use Rattle.surrounds.specs.WorkRows.{Worked};
+ghost use Rattle.surrounds.specs.Lent.{RowsReadyIn, CentreReadyIn, CentreRunIn, RunDoneIn, CentresDoneIn, BlockReadyIn, BlockDoneIn};
+use crate::iteration::X;
 use crate::iteration::settle;
+use crate::mask::clear_all;
+use crate::mask::mask_centre;
 use crate::runs::Run;
 use crate::runs::is_made;
 use crate::runs::leave_out;
 use crate::runs::run_count;
 use checks::limits::MOST_PLACES;
-use lanes::ROW;
+use lanes::LEFT;
+use lanes::OUT;
+use lanes::RIGHT;
+use lanes::ROWS;
 use lanes::rows::Block;
-use lanes::rows::clear_outside;
 use lanes::rows::load;
-use lanes::rows::mark_ball;
-use lanes::rows::mask;
+use lanes::strips::combine_strips;
 use lanes::strips::fill_strip;
-use lanes::strips::pull_strip;
 use lines::operator::Bounds;
 use roads::road::Network;
 
@@ -39,98 +39,55 @@ fn greater_of(a: u64, b: u64) -> u64
     if a < b { b } else { a }
 }
 
-// Flags the ball about a centre, and masks the left operand by it and the right one by both bounds.
-fn mask_centre(
-    left: &[u32],
-    right: &[u32],
-    distances: &[u8],
-    bounds: Bounds,
-    centre: usize,
-    inside: &mut [bool],
-    x: &mut [u32],
-    ring: &mut [u32],
-)
-    requires { ⌜ (centre < length (now inside)) × TableThere (now distances) (length (now inside)) × Rooms (length (now inside)) (now left) (now right) (now x) (now ring) ⌝ }
-    ensures { λ _. ⌜ CentreMasked (length (now (inside .entry))) (now (left .entry)) (now (right .entry)) (now (distances .entry)) bounds centre (now (inside .exit)) (now (x .exit)) (now (ring .exit)) ⌝ }
-{
-    let places = inside.len();
-    let ball = Bounds {
-        lower: 0,
-        upper: bounds.upper,
-    };
-    mark_ball(inside, distances, centre, ball);
-    mask(left, x, distances, centre, places, ball);
-    mask(right, ring, distances, centre, places, bounds);
-}
-
-// A run about a centre whose rows are masked: x has at the centre what it gives, and no more than that.
-fn run_centre(
-    x: &mut [u32],
-    ring: &[u32],
-    old: &mut [u32],
-    both: &mut [u32],
-    inside: &[bool],
-    sheet: &[u8],
-    network: Network,
-) -> u64
-    requires { ⌜ StartWithRoom (wordsOf (now sheet)) (network .roads) (now inside) (now x) (now ring) (now old) (now both) ⌝ }
-    ensures { λ r. ⌜ Settled (wordsOf (now (sheet .entry))) (network .roads) (length (now (inside .entry))) (now (ring .entry)) (now (x .entry)) r (now (x .exit)) ⌝ }
-{
-    clear_outside(inside, old);
-    clear_outside(inside, both);
-    settle(x, ring, old, both, inside, sheet, network)
-}
-
-// The first `places` places become lowest.
-fn clear(row: &mut [u32], places: usize)
-    requires { ⌜ places * lanes ≤ length (now row) ⌝ }
-    ensures { λ _. ⌜ RowWritten places (λ _ _. 0) (now (row .entry)) (now (row .exit)) ⌝ }
+// The first `places` places become lowest in the row of what comes of the operands.
+fn clear(rows: &mut [u32], places: usize)
+    requires { ⌜ Room places (now rows) ⌝ }
+    ensures { λ _. ⌜ RowWritten outRow places (λ _ _. 0) (now (rows .entry)) (now (rows .exit)) ⌝ }
 {
     for place in 0..places {
-        fill_strip(row, place, values::bottom());
+        fill_strip(rows, place * ROWS + OUT, values::bottom());
     }
 }
 
-// Makes a run about every centre that has it, raises `out` to what it gives there, and tells the greatest rounds.
-fn run_centres(
-    left: &[u32],
-    right: &[u32],
+// A run about a centre that has it: raises what comes of the operands to what it gives there, and tells its rounds. The flags may be another ball's.
+fn run_centre(
+    rows: &mut [u32],
+    inside: &mut [bool],
     sheet: &[u8],
     network: Network,
     distances: &[u8],
     run: Run,
-    out: &mut [u32],
+    centre: usize,
 ) -> u64
-    requires { ⌜ RowsReadyIn (now left) (now right) (now sheet) network (now distances) (run .bounds) × (network .places * lanes ≤ length (now out)) × (run .number ≤ network .places) ⌝ }
-    ensures { λ r. ⌜ RunDoneIn (now (left .entry)) (now (right .entry)) (now (sheet .entry)) network run (network .places) (now (out .entry)) (now (out .exit)) r ⌝ }
+    requires { ⌜ CentreReadyIn (now rows) (now sheet) network (now distances) run centre (now inside) ⌝ }
+    ensures run { λ r. ⌜ CentreRunIn (now (rows .entry)) (now (sheet .entry)) network run centre (now (rows .exit)) r ⌝ }
+    ensures worked { λ _. ⌜ Worked outRow (now (inside .exit)) (now (rows .entry)) (now (rows .exit)) ⌝ }
 {
-    let mut x: [u32; ROW] = [0; ROW];
-    let mut ring: [u32; ROW] = [0; ROW];
-    let mut old: [u32; ROW] = [0; ROW];
-    let mut both: [u32; ROW] = [0; ROW];
+    let bounds = run.bounds;
+    mask_centre(rows, distances, bounds, centre, inside);
+    leave_out(rows, run);
+    let rounds = settle(rows, inside, sheet, network);
+    let strips = centre * ROWS;
+    combine_strips(rows, strips + OUT, strips + X, strips + OUT, false);
+    rounds
+}
+
+// Makes a run about every centre that has it, and tells the greatest rounds.
+fn run_centres(rows: &mut [u32], sheet: &[u8], network: Network, distances: &[u8], run: Run) -> u64
+    requires { ⌜ RowsReadyIn (now rows) (now sheet) network (now distances) (run .bounds) × Room (network .places) (now rows) × (run .number ≤ network .places) ⌝ }
+    ensures done { λ r. ⌜ RunDoneIn (now (rows .entry)) (now (sheet .entry)) network run (network .places) (now (rows .exit)) r ⌝ }
+    ensures kept { λ _. ⌜ KeptBelow outRow (now (rows .entry)) (now (rows .exit)) ⌝ }
+{
     let mut inside: [bool; MOST_PLACES] = [false; MOST_PLACES];
     let places = network.places;
-    let bounds = run.bounds;
     let mut most: u64 = 0;
+    clear_all(rows, places);
     for centre in 0..places {
         if !is_made(distances, places, centre, run) {
             continue;
         }
         let flags = &mut inside[..places];
-        mask_centre(
-            left,
-            right,
-            distances,
-            bounds,
-            centre,
-            flags,
-            &mut x,
-            &mut ring,
-        );
-        leave_out(&mut x, run);
-        let ball = &inside[..places];
-        let rounds = run_centre(&mut x, &ring, &mut old, &mut both, ball, sheet, network);
-        pull_strip(out, &x, centre, centre, false);
+        let rounds = run_centre(rows, flags, sheet, network, distances, run, centre);
         most = greater_of(most, rounds);
     }
     most
@@ -138,18 +95,16 @@ fn run_centres(
 
 // The surrounds about all centres, the greatest that a run gives, and the greatest rounds of a run.
 fn surround_centres(
-    left: &[u32],
-    right: &[u32],
+    rows: &mut [u32],
     sheet: &[u8],
     network: Network,
     distances: &[u8],
     surround: Surround,
-    out: &mut [u32],
 ) -> u64
-    requires { ⌜ RowsReadyIn (now left) (now right) (now sheet) network (now distances) (surround .bounds) × (network .places * lanes ≤ length (now out)) ⌝ }
-    ensures { λ r. ⌜ CentresDoneIn (now (left .entry)) (now (right .entry)) (now (sheet .entry)) network surround (now (out .entry)) (now (out .exit)) r ⌝ }
+    requires { ⌜ RowsReadyIn (now rows) (now sheet) network (now distances) (surround .bounds) × Room (network .places) (now rows) ⌝ }
+    ensures { λ r. ⌜ CentresDoneIn (now (rows .entry)) (now (sheet .entry)) network surround (now (rows .exit)) r ⌝ }
 {
-    clear(out, network.places);
+    clear(rows, network.places);
     let bounds = surround.bounds;
     let islands = surround.islands;
     let runs = run_count(islands, network.places);
@@ -160,15 +115,14 @@ fn surround_centres(
             islands,
             number,
         };
-        let rounds = run_centres(left, right, sheet, network, distances, run, out);
+        let rounds = run_centres(rows, sheet, network, distances, run);
         most = greater_of(most, rounds);
     }
     most
 }
 
-// The surround of two signals, which stand in the words of an answer, at samples first to first + count - 1: entry
-// centre * LANES + lane of `out` is the chain number of sample first + lane about the centre, and from lane `count` on the lowest. The result is
-// the greatest rounds.
+// The surround of two signals, which stand in the words of an answer, at samples first to first + count - 1: the row of what comes of the operands
+// has in each lane the chain numbers of sample first + lane about all centres, and from lane `count` on the lowest. The result is the greatest rounds.
 pub fn surround_block(
     words: &[u8],
     surround: Surround,
@@ -176,14 +130,12 @@ pub fn surround_block(
     network: Network,
     distances: &[u8],
     block: Block,
-    out: &mut [u32],
+    rows: &mut [u32],
 ) -> u64
-    requires { ⌜ BlockReadyIn (now words) surround (now sheet) network block (now distances) × (network .places * lanes ≤ length (now out)) ⌝ }
-    ensures { λ r. ⌜ BlockDoneIn (now (words .entry)) surround (now (sheet .entry)) network block (now (out .entry)) (now (out .exit)) r ⌝ }
+    requires { ⌜ BlockReadyIn (now words) surround (now sheet) network block (now distances) × Room (network .places) (now rows) ⌝ }
+    ensures { λ r. ⌜ BlockDoneIn (now (words .entry)) surround (now (sheet .entry)) network block (now (rows .entry)) (now (rows .exit)) r ⌝ }
 {
-    let mut left: [u32; ROW] = [0; ROW];
-    let mut right: [u32; ROW] = [0; ROW];
-    load(words, surround.left, network.places, block, &mut left);
-    load(words, surround.right, network.places, block, &mut right);
-    surround_centres(&left, &right, sheet, network, distances, surround, out)
+    load(words, surround.left, network.places, block, LEFT, rows);
+    load(words, surround.right, network.places, block, RIGHT, rows);
+    surround_centres(rows, sheet, network, distances, surround)
 }

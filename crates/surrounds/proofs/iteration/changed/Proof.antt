@@ -1,10 +1,12 @@
 -- Place after place: a place outside is alike in both rows, and the first that is not alike ends the loop.
-use Prim.Native.Nat.{_-_, _/_, _≤_}
-use mathlib.Core.Path.{_≡_, refl, sym, subst, _∙_}
+use Prim.Native.Nat.{ℕ, _-_, _/_, _≤_}
+use mathlib.Core.Path.{_≡_, sym, ap, subst, _∙_}
 use mathlib.Core.Bool.{false}
 use mathlib.Core.Logic.{⊎-elim}
 use native.Mathlib.Omega.{arith}
 use lib.ListN.{length}
+use Rattle.lanes.specs.Lanes.{rowIn}
+use Rattle.surrounds.specs.WorkRows.{xRow, oldRow}
 use Rattle.surrounds.specs.Steps.{RowsApart}
 use Rattle.surrounds.proofs.Outside.{rows-none, rows-more, rows-found, strips-alike}
 use borrow.Author.Needs.{needs}
@@ -12,40 +14,40 @@ use Rattle.surrounds.proofs.iteration.changed.Statement.{statement}
 use Rattle.surrounds.proofs.iteration.changed.Tie as tie
 
 abbrev Inv-loop : tie.InvT-loop
-Inv-loop old x inside unit place₀ place-end place = (place ≤ place-end) × RowsApart false (λ c. c / unit) old x place
+Inv-loop rows inside unit place₀ place-end place = (place ≤ place-end) × RowsApart false (λ c. c / unit) (rowIn rows oldRow) (rowIn rows xRow) place
 
 abbrev μ-loop : tie.MeasureT-loop
-μ-loop old x inside unit place₀ place-end place = place-end - place
+μ-loop rows inside unit place₀ place-end place = place-end - place
 
 loop-holds : tie.Need-loop-holds Inv-loop μ-loop
-loop-holds c = let g = c .before .before .before .args in (search needs, rows-none (λ v. v / g .unit) (g .old .now) (g .x .now))
+loop-holds c = (search needs, rows-none _ _ _)
 
 returns : tie.Need-returns Inv-loop μ-loop
 returns c =
-    let g = c .before .before .before .before .before .before .before .before .before .args in
+    let g = c .before .before .before .before .before .before .before .before .args in
     let s = c .before .strip-changed in
-    rows-found (λ v. v / g .unit) (g .old .now) (g .x .now) (s .result) (c .before .before .before .before .before .loop .place) (length (g .inside .now)) (c .before .before .before .before .loop-test .taken) (c .if2 .taken) (s .ensures)
+    rows-found (λ v. v / g .unit) (g .rows .now) (s .result) (c .before .before .before .before .before .loop .place) (s .ensures) (length (g .inside .now)) (c .before .before .before .before .loop-test .taken) (c .if2 .taken)
 
 loop-again : tie.Need-loop-again Inv-loop μ-loop
 loop-again c =
-    let g = c .before .before .before .before .before .before .before .args in
-    let p = c .before .before .before .before .before .before .before .pre in
+    let start = c .before .before .before .before .before .before in
+    let g = start .args in
     let h = c .before .before .before .loop in
+    let low = start .pre .1 .low in
     let b = c .before .before .loop-test .taken in (
       search needs,
-      ⊎-elim
-          (λ w. rows-more (λ v. v / g .unit) (g .old .now) (g .x .now) (w .1 .result) (h .place) (h .inv .1) (w .2 .left) (w .1 .ensures))
-          (λ w. rows-more (λ v. v / g .unit) (g .old .now) (g .x .now) false (h .place) (h .inv .1) refl
-          (strips-alike _ (g .old .now) (g .x .now) (h .place) (λ lane l. p .1 .low (h .place) lane b l (w .left) ∙ sym (p .2 .low (h .place) lane b l (w .left)))))
-          (c .if1 .came),
+      rows-more (λ v. v / g .unit) _ _ (h .place) (h .inv .1) (⊎-elim
+          (λ w. strips-alike (λ v. v / g .unit) (g .rows .now) (w .1 .result) (h .place) (w .1 .ensures) (w .2 .left))
+          (λ w lane l. ap (λ (v : ℕ). v / g .unit) (low oldRow (h .place) lane (omega arith) (omega arith) b l (w .left) ∙ sym (low xRow (h .place) lane (omega arith) (omega arith) b l (w .left))))
+          (c .if1 .came)),
     )
 
 returns-2 : tie.Need-returns-2 Inv-loop μ-loop
 returns-2 c =
-    let g = c .before .before .before .before .before .args in
+    let g = c .before .before .before .before .args in
     let h = c .before .loop in
     let e : h .place ≡ length (g .inside .now) = omega arith in
-    subst (RowsApart false (λ v. v / g .unit) (g .old .now) (g .x .now)) e (h .inv .1)
+    subst (RowsApart false (λ v. v / g .unit) _ _) e (h .inv .1)
 
 pub changed-spec : {M : Type 1} → statement M
 changed-spec =
@@ -54,6 +56,10 @@ changed-spec =
     Inv-loop
     μ-loop
     loop-holds
+    (λ c. search needs)
+    (λ c. search needs)
+    (λ c. search needs)
+    (λ c. search needs)
     (λ c. search needs)
     (λ c κs. search needs)
     returns

@@ -1,6 +1,6 @@
 -- Each turn joins one place more; a place outside has been joined already, as all its numbers are lowest.
 use Prim.Native.Nat.{_-_, _≤_}
-use mathlib.Core.Path.{_≡_, subst, _∙_}
+use mathlib.Core.Path.{_≡_, subst}
 use mathlib.Core.Logic.{⊎-elim}
 use native.Mathlib.Omega.{arith}
 use lib.ListN.{length}
@@ -11,27 +11,27 @@ use Rattle.surrounds.proofs.iteration.join.Statement.{statement}
 use Rattle.surrounds.proofs.iteration.join.Tie as tie
 
 abbrev Inv-loop : tie.InvT-loop
-Inv-loop x right inside old₀ both₀ place₀ place-end old both place = (place ≤ place-end) × (length old ≡ length old₀) × (length both ≡ length both₀) × Joining inside x right old both place
+Inv-loop rows₀ inside place₀ place-end rows place = (place ≤ place-end) × Joining inside rows₀ rows place
 
 abbrev μ-loop : tie.MeasureT-loop
-μ-loop x right inside old₀ both₀ place₀ place-end old both place = place-end - place
+μ-loop rows₀ inside place₀ place-end rows place = place-end - place
 
 loop-holds : tie.Need-loop-holds Inv-loop μ-loop
-loop-holds c = (search needs, search needs, search needs, joining-none (c .before .before .before .before .before .pre))
+loop-holds c = (search needs, joining-none (c .before .before .pre))
 
 loop-again : tie.Need-loop-again Inv-loop μ-loop
 loop-again c =
     let h = c .before .before .before .loop in
     ⊎-elim
-    (λ w. rw (w .9, w .10) (search needs, w .2 .kept .1 .0 ∙ h .inv .1, w .6 .kept .1 .1 .0 ∙ h .inv .2, joining-inside (h .inv .3) (w .0 .taken) (w .2 .ensures) (w .2 .kept .1 .0) (w .6 .ensures) (w .6 .kept .1 .1 .0)))
-    (λ w. rw (w .1, w .2) (search needs, h .inv .1, h .inv .2, joining-outside (h .inv .3) (c .before .before .loop-test .taken) (w .0 .left)))
+    (λ w. rw (w .9) (search needs, joining-inside (h .inv .1) (w .0 .taken) (w .2 .ensures) (w .2 .kept .0) (w .6 .ensures) (w .6 .kept .0)))
+    (λ w. rw (w .1) (search needs, joining-outside (h .inv .1) (c .before .before .loop-test .taken) (w .0 .left)))
     (c .if1 .came)
 
 returns : tie.Need-returns Inv-loop μ-loop
 returns c =
     let h = c .before .loop in
-    let e : h .place ≡ length (c .before .before .before .before .before .before .before .args .inside .now) = omega arith in
-    (subst (Joined _ _ (h .old) (h .both)) e (h .inv .3 .joined), h .inv .3 .rows)
+    let e : h .place ≡ length (c .before .before .before .before .args .inside .now) = omega arith in
+    (subst (Joined _ _ _ _) e (h .inv .1 .joined), h .inv .1 .worked)
 
 pub join-spec : {M : Type 1} → statement M
 join-spec =
@@ -41,11 +41,16 @@ join-spec =
     μ-loop
     loop-holds
     (λ c. search needs)
+    (λ c. search needs)
+    (λ c. search needs)
+    (λ c. search needs)
     (λ c κs. search needs)
+    (λ c. search needs)
+    (λ c. search needs)
+    (λ c. search needs)
     (λ c κs. search needs)
     (λ c. search needs)
     (λ c. search needs)
     loop-again
-    (λ c. search needs)
     (λ c. search needs)
     returns)
