@@ -5,7 +5,7 @@ use mathlib.Core.List.{List, _++_, append-assoc, append-nil}
 use Prim.Native.Nat.{ℕ, zero, suc, _+_, _*_, _≤_, max}
 use native.Mathlib.Nat.{add-zero, add-suc, mul-le-mul-right}
 use native.Mathlib.Omega.{arith}
-use lib.ListN.{length}
+use lib.ListN.{length, getD}
 use Rattle.words.specs.Rows.{concat, rows, put}
 use Rattle.words.proofs.Puts.{put-nil, put-append}
 use Rattle.words.proofs.Rows.{length-rows, rows-ext}
@@ -17,7 +17,9 @@ use Rattle.values.specs.Chain.{highest, chainWord, chainVerdict}
 use Rattle.values.specs.Signals.{signalIn}
 use Rattle.values.proofs.ChainWords.{signal-bound}
 use Rattle.operators.proofs.Bounds.{greatest-bound}
-use Rattle.lanes.specs.Lanes.{lanes, laneOf}
+use Rattle.lanes.specs.Lanes.{lanes, rowCount, outRow, rowIn}
+use Rattle.lanes.specs.Rows.{Room}
+use Rattle.lanes.specs.declared.rows.Block.{Block}
 use Rattle.surrounds.specs.Surround.{surroundRoundsIn, blockRounds}
 use Rattle.surrounds.specs.Blocks.{BlockReady, BlockDone}
 use Rattle.ranges.specs.Ranges.{somewhereIn, RangeReady, RangeDone}
@@ -25,10 +27,11 @@ use Rattle.ranges.specs.declared.Range as Within
 use Rattle.surrounds.specs.declared.surround.Surround as Asked
 use Rattle.samples.specs.declared.tally.Tally.{Tally}
 use Rattle.samples.specs.Tally.{together}
-use Rattle.verdicts.specs.declared.around.Around.{Around}
-use Rattle.verdicts.specs.declared.around.Around.the-variants.{Surround, Range}
+use Rattle.locating.specs.declared.Around.{Around}
+use Rattle.locating.specs.declared.Around.the-variants.{Surround, Range}
+use Rattle.samples.specs.Sample.{entry}
 use Rattle.samples.specs.Written.{SamplesWritten}
-use Rattle.verdicts.specs.Around.{sheetNetwork, LanesBounded, AroundReads, AroundReady, BlockFits, aroundValue, aroundRounds, BlockFilled}
+use Rattle.verdicts.specs.Around.{sheetNetwork, LanesBounded, LanesWritten, AroundReads, AroundReady, BlockFits, aroundValue, aroundRounds, BlockFilled}
 use Rattle.verdicts.proofs.Points.{surround-bound}
 
 -- ---- a + b samples
@@ -64,6 +67,11 @@ few-yes {value} w = rw (w .counted) (table-yes-bound (λ t l. chainVerdict (valu
 
 -- ---- a block
 
+-- the numbers of a lane are every so many-th of the buffer
+pub lane-entry : (buffer : List ℕ) (lane l : ℕ) → entry buffer (rowCount * lanes) (outRow * lanes + lane) l ≡ rowIn buffer outRow lane l
+unfolding rowIn
+lane-entry buffer lane l = ap (λ (i : ℕ). getD buffer i 0) (omega arith)
+
 reads-fewer : (words : List ℕ) (L : Layout) (sheet distances : List ℕ) (around : Around) (samples k : ℕ) → AroundReads words L sheet distances around samples → k ≤ samples
     → AroundReads words L sheet distances around k
 reads-fewer words L sheet distances (Surround a) samples k reads h =
@@ -96,8 +104,8 @@ module _ {words : List ℕ} {L : Layout} {sheet distances : List ℕ} where
     reads = reads-fewer words L sheet distances around samples k (ready .reads) h;
   }
 
-  pub block-ready : {a : Asked.Surround} {first size : ℕ} → BlockFits words L sheet distances (Surround a) first size
-      → BlockReady words a (L .places) sheet (L .roads) first size distances
+  pub block-ready : {a : Asked.Surround} {b : Block} → BlockFits words L sheet distances (Surround a) b
+      → BlockReady words a (L .places) sheet (L .roads) (b .first) (b .count) distances
   block-ready fits = record {
     few-places = fits .ready .few-places .1;
     some = fits .some;
@@ -112,40 +120,39 @@ module _ {words : List ℕ} {L : Layout} {sheet distances : List ℕ} where
     right-valid = λ t l _. fits .ready .reads .right-valid t l;
   }
 
-  pub range-ready : {a : Within.Range} {first size : ℕ} → BlockFits words L sheet distances (Range a) first size
-      → RangeReady words (a .left) (L .places) distances first size
+  pub range-ready : {a : Within.Range} {b : Block} → BlockFits words L sheet distances (Range a) b
+      → RangeReady words (a .left) (L .places) distances (b .first) (b .count)
   range-ready fits = record { few-places = fits .ready .few-places .1; few = fits .few; there = fits .ready .reads; distances-there = fits .ready .distances-there }
 
-  pub surround-filled : {a : Asked.Surround} {first size : ℕ} {before out : List ℕ} {r : ℕ}
-      → BlockDone words a (L .places) sheet (L .roads) first size before out r
-      → BlockFilled words L sheet distances (Surround a) first size out r
+  pub surround-filled : {a : Asked.Surround} (b : Block) {before after : List ℕ} {r : ℕ}
+      → BlockDone words a (L .places) sheet (L .roads) (b .first) (b .count) before after r
+      → BlockFilled words L sheet distances (Surround a) b after r
   unfolding blockRounds
-  surround-filled {a} {first} {size} done = record {
+  surround-filled {a} b done = record {
     values = done .values;
-    rounds = done .rounds ∙ most-swap (λ centre lane. surroundRoundsIn words a (sheetNetwork sheet L) (first + lane) centre) (L .places) size;
+    rounds = done .rounds ∙ most-swap (λ centre lane. surroundRoundsIn words a (sheetNetwork sheet L) (b .first + lane) centre) (L .places) (b .count);
   }
 
-  pub somewhere-filled : {a : Within.Range} {first size : ℕ} {before out : List ℕ}
-      → RangeDone words (a .left) (L .places) distances first size (a .bounds .lower) (a .bounds .upper) (a .dual) before out
-      → BlockFilled words L sheet distances (Range a) first size out 0
-  somewhere-filled {size = size} done = record { values = done .values; rounds = most-none size (L .places) }
+  pub somewhere-filled : {a : Within.Range} (b : Block) {before after : List ℕ}
+      → RangeDone words (a .left) (L .places) distances (b .first) (b .count) (a .bounds .lower) (a .bounds .upper) (a .dual) before after
+      → BlockFilled words L sheet distances (Range a) b after 0
+  somewhere-filled b done = record { values = done .values; rounds = most-none (b .count) (L .places) }
 
-  module _ {around : Around} {first size : ℕ} {out : List ℕ} {r : ℕ} (done : BlockFilled words L sheet distances around first size out r) where
-    pub lanes-bounded : L .places ≤ mostPlaces → size ≤ lanes → L .places * lanes ≤ length out → LanesBounded out (L .places) size
+  module _ {around : Around} {b : Block} {buffer : List ℕ} {r : ℕ} (done : BlockFilled words L sheet distances around b buffer r) where
+    pub lanes-bounded : L .places ≤ mostPlaces → b .count ≤ lanes → Room (L .places) buffer → LanesBounded buffer (L .places) (b .count)
     lanes-bounded places few room = record {
       few-places = places;
       few = few;
       room = room;
-      bound = λ place lane b c. rw (done .values place lane b c) (around-small words L sheet distances around (first + lane) place);
+      bound = λ place lane c d. rw (done .values place lane c d) (around-small words L sheet distances around (b .first + lane) place);
     }
 
     -- the lanes of a block are its samples
-    pub block-written : (answer : List ℕ) (to : ℕ) (after : List ℕ) (y : ℕ) → after ≡ put answer to (rows (λ lane l. chainWord (laneOf out lane l)) size (L .places))
-        → y ≡ sumBelow (λ lane. sumBelow (λ l. count (chainVerdict (laneOf out lane l))) (L .places)) size
-        → SamplesWritten (λ t. aroundValue words L sheet distances around (first + t)) (λ t. aroundRounds words L sheet distances around (first + t))
-        (L .places) answer to size after (record { rounds = r; yes = y })
-    block-written answer to after y w c = record {
-      written = w ∙ ap (put answer to) (rows-ext _ _ size (L .places) (λ lane l a b. ap chainWord (done .values l lane b a)));
-      counted = c ∙ sum-same _ _ size (λ lane a. sum-same _ _ (L .places) (λ l b. ap (λ v. count (chainVerdict v)) (done .values l lane b a)));
+    pub block-written : (answer : List ℕ) (to : ℕ) (after : List ℕ) (y : ℕ) → LanesWritten buffer (L .places) (b .count) answer to after y
+        → SamplesWritten (λ t. aroundValue words L sheet distances around (b .first + t)) (λ t. aroundRounds words L sheet distances around (b .first + t))
+        (L .places) answer to (b .count) after (record { rounds = r; yes = y })
+    block-written answer to after y w = record {
+      written = w .written ∙ ap (put answer to) (rows-ext _ _ (b .count) (L .places) (λ lane l c d. ap chainWord (done .values l lane d c)));
+      counted = w .counted ∙ sum-same _ _ (b .count) (λ lane c. sum-same _ _ (L .places) (λ l d. ap (λ v. count (chainVerdict v)) (done .values l lane d c)));
       greatest = done .rounds;
     }

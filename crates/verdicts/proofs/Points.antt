@@ -30,8 +30,8 @@ use Rattle.windows.specs.Rows.{sideOf, presentOf}
 use Rattle.windows.proofs.Bounds.{until-bound, ahead-bound}
 use Rattle.surrounds.specs.declared.surround.Surround.{Surround}
 use Rattle.surrounds.specs.Surround.{surroundIn}
-use Rattle.verdicts.specs.declared.located.RowOperator.{RowOperator}
-use Rattle.verdicts.specs.declared.located.RowOperator.the-variants.{True, Atom, Not, Both, Until, Eventually}
+use Rattle.locating.specs.declared.RowOperator.{RowOperator}
+use Rattle.locating.specs.declared.RowOperator.the-variants.{True, Atom, Not, Both, Until, Eventually}
 use Rattle.verdicts.specs.Rows.{sheetRecording, rowValue, RowReads}
 
 -- ---- no value is beyond `highest`

@@ -1,3 +1,2 @@
-pub mod Located
 pub mod Rows
 pub mod Around

@@ -18,8 +18,8 @@ use Rattle.values.specs.Signals.{signalIn}
 use Rattle.operators.specs.Rows.{Filled, atomValue, andIn}
 use Rattle.windows.specs.Reach.{Window}
 use Rattle.windows.specs.Rows.{untilIn, eventuallyIn}
-use Rattle.verdicts.specs.declared.located.RowOperator.{RowOperator}
-use Rattle.verdicts.specs.declared.located.RowOperator.the-variants.{True, Atom, Not, Both, Until, Eventually}
+use Rattle.locating.specs.declared.RowOperator.{RowOperator}
+use Rattle.locating.specs.declared.RowOperator.the-variants.{True, Atom, Not, Both, Until, Eventually}
 use Rattle.samples.specs.declared.tally.Tally.{Tally}
 use Rattle.samples.specs.Written.{SamplesWritten}
 

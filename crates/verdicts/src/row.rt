@@ -1,7 +1,7 @@
 // The verdicts of a line, sample by sample, for every operator but those over space.
-use crate::located::RowOperator;
 use crate::row_values::value_row;
 use checks::limits::MOST_PLACES;
+use locating::RowOperator;
 use samples::sample::write_sample;
 use samples::tally::Tally;
 use sheet::check::Layout;

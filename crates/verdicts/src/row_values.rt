@@ -1,5 +1,5 @@
 // The values of a line for all places at one sample, for every operator but those over space.
-use crate::located::RowOperator;
+use locating::RowOperator;
 use operators::atoms::atom_row;
 use operators::connectives::and_row;
 use operators::connectives::true_row;

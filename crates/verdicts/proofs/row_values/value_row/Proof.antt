@@ -6,7 +6,7 @@ use borrow.Author.Needs.{needs}
 use Rattle.words.specs.Bytes.{wordsOf}
 use Rattle.operators.specs.Rows.{RowLeft, atomValue}
 use Rattle.operators.proofs.RowLaws.{left-same}
-use Rattle.verdicts.specs.declared.located.RowOperator.{RowOperator}
+use Rattle.locating.specs.declared.RowOperator.{RowOperator}
 use Rattle.verdicts.specs.Rows.{sheetRecording, rowValue, RowReady}
 use Rattle.verdicts.proofs.Points.{constant-kept}
 use Rattle.verdicts.proofs.row_values.value_row.Statement.{statement}

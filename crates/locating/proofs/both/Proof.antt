@@ -1,11 +1,11 @@
 -- The starts of both operands are found.
 use mathlib.Core.Path.{ap₂}
 use Prim.Native.Nat.{ℕ}
-use Rattle.verdicts.specs.declared.located.RowOperator.the-variants.{Both}
-use Rattle.verdicts.specs.declared.located.Located.the-variants.{Rows}
+use Rattle.locating.specs.declared.RowOperator.the-variants.{Both}
+use Rattle.locating.specs.declared.Located.the-variants.{Rows}
 use borrow.Author.Needs.{needs}
-use Rattle.verdicts.proofs.located.both.Statement.{statement}
-use Rattle.verdicts.proofs.located.both.Tie as tie
+use Rattle.locating.proofs.both.Statement.{statement}
+use Rattle.locating.proofs.both.Tie as tie
 
 returns : tie.Need-returns
 returns c =

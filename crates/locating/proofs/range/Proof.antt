@@ -1,11 +1,11 @@
 -- The start of the operand is found.
 use mathlib.Core.Path.{ap}
 use Prim.Native.Nat.{ℕ}
-use Rattle.verdicts.specs.declared.around.Around.the-variants.{Range}
-use Rattle.verdicts.specs.declared.located.Located.the-variants.{Blocks}
+use Rattle.locating.specs.declared.Around.the-variants.{Range}
+use Rattle.locating.specs.declared.Located.the-variants.{Blocks}
 use borrow.Author.Needs.{needs}
-use Rattle.verdicts.proofs.located.range.Statement.{statement}
-use Rattle.verdicts.proofs.located.range.Tie as tie
+use Rattle.locating.proofs.range.Statement.{statement}
+use Rattle.locating.proofs.range.Tie as tie
 
 returns : tie.Need-returns
 returns c =

@@ -7,11 +7,11 @@ use mir.Val.{SFits}
 use mir.Facts.{toZ-ofZ}
 use borrow.Author.Needs.{needs}
 use Rattle.lines.specs.declared.operator.Operator.{Operator}
-use Rattle.verdicts.specs.declared.located.Located.the-variants.{Rows}
-use Rattle.verdicts.specs.declared.located.RowOperator.the-variants.{Atom, Not}
-use Rattle.verdicts.specs.Located.{locatedBy, locatedOf}
-use Rattle.verdicts.proofs.located.locate.Statement.{statement}
-use Rattle.verdicts.proofs.located.locate.Tie as tie
+use Rattle.locating.specs.declared.Located.the-variants.{Rows}
+use Rattle.locating.specs.declared.RowOperator.the-variants.{Atom, Not}
+use Rattle.locating.specs.Located.{locatedBy, locatedOf}
+use Rattle.locating.proofs.locate.Statement.{statement}
+use Rattle.locating.proofs.locate.Tie as tie
 
 met : (c : tie.Start) {o : Operator} →
     let a = c .args in

@@ -3,8 +3,8 @@ use mathlib.Core.Path.{sym}
 use native.Mathlib.Omega.{arith}
 use lib.ListN.{List·getD-eq-default}
 use borrow.Author.Needs.{needs}
-use Rattle.verdicts.proofs.located.start_or_zero.Statement.{statement}
-use Rattle.verdicts.proofs.located.start_or_zero.Tie as tie
+use Rattle.locating.proofs.start_or_zero.Statement.{statement}
+use Rattle.locating.proofs.start_or_zero.Tie as tie
 
 returns-2 : tie.Need-returns-2
 returns-2 c = sym (List·getD-eq-default (c .before .args .starts .now) 0 (omega arith))

@@ -12,10 +12,10 @@ use Rattle.lines.specs.declared.operator.Direction.the-variants.{Forward, Backw
 use Rattle.lines.specs.declared.operator.Operator.{Operator}
 use Rattle.lines.specs.declared.operator.Operator.the-variants as Read
 use Rattle.lines.specs.declared.line.Line.{Line}
-use Rattle.verdicts.specs.declared.around.Around.the-variants.{Surround, Range}
-use Rattle.verdicts.specs.declared.located.RowOperator.the-variants.{True, Atom, Not, Both, Until, Eventually}
-use Rattle.verdicts.specs.declared.located.Located.{Located}
-use Rattle.verdicts.specs.declared.located.Located.the-variants.{Rows, Blocks}
+use Rattle.locating.specs.declared.Around.the-variants.{Surround, Range}
+use Rattle.locating.specs.declared.RowOperator.the-variants.{True, Atom, Not, Both, Until, Eventually}
+use Rattle.locating.specs.declared.Located.{Located}
+use Rattle.locating.specs.declared.Located.the-variants.{Rows, Blocks}
 
 -- an index is small enough for so many samples to be added
 pub record StartsLow (starts : List ℕ) (places : ℕ) : Type 0 where

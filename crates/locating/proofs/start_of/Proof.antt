@@ -7,8 +7,8 @@ use mir.Syntax.{w32}
 use mir.Val.{Fits}
 use Rattle.checks.specs.Limits.{mostPlaces}
 use borrow.Author.Needs.{needs}
-use Rattle.verdicts.proofs.located.start_of.Statement.{statement}
-use Rattle.verdicts.proofs.located.start_of.Tie as tie
+use Rattle.locating.proofs.start_of.Statement.{statement}
+use Rattle.locating.proofs.start_of.Tie as tie
 
 skipped : (c : tie.After-start-or-zero) → c .before .less .result * c .before .before .before .before .before .args .origin .places ≤ 2 ^ 32 * mostPlaces
 skipped c =

@@ -1,7 +1,6 @@
 // An operator with its operands by where they stand: an operand is the number of an earlier line, and here it is the index from which the
 // signal of that line is read, looked up once for all samples. Every operand is read from the line's first sample on; an operator that looks back
 // reads from its upper bound earlier on, where once is eventually. What comes of it tells by its type which way the line goes.
-use crate::around::Around;
 use lines::extent::less;
 use lines::extent::number_or_zero;
 use lines::line::Line;
@@ -14,7 +13,13 @@ use windows::until::Until;
 ghost use mathlib.Core.Path.{_≡_};
 ghost use Prim.Native.Nat.{_-_};
 ghost use lib.ListN.{getD};
-ghost use Rattle.verdicts.specs.Located.{StartsLow, startAt, bothLocated, untilLocated, eventuallyLocated, surroundLocated, rangeLocated, locatedOf};
+ghost use Rattle.locating.specs.Located.{StartsLow, startAt, bothLocated, untilLocated, eventuallyLocated, surroundLocated, rangeLocated, locatedOf};
+
+// What is asked about every centre.
+pub enum Around {
+    Surround(Surround),
+    Range(Range),
+}
 
 // What is evaluated sample by sample. Operands are the indices from which their signals are read. Since is until looking back, or the dual of and,
 // always that of eventually.

@@ -1,11 +1,11 @@
 -- The starts of both operands are found.
 use mathlib.Core.Path.{ap₂}
 use Prim.Native.Nat.{ℕ}
-use Rattle.verdicts.specs.declared.around.Around.the-variants.{Surround}
-use Rattle.verdicts.specs.declared.located.Located.the-variants.{Blocks}
+use Rattle.locating.specs.declared.Around.the-variants.{Surround}
+use Rattle.locating.specs.declared.Located.the-variants.{Blocks}
 use borrow.Author.Needs.{needs}
-use Rattle.verdicts.proofs.located.surround.Statement.{statement}
-use Rattle.verdicts.proofs.located.surround.Tie as tie
+use Rattle.locating.proofs.surround.Statement.{statement}
+use Rattle.locating.proofs.surround.Tie as tie
 
 returns : tie.Need-returns
 returns c =

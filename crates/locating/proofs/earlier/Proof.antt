@@ -2,8 +2,8 @@
 use mathlib.Core.Path.{ap}
 use Prim.Native.Nat.{ℕ}
 use borrow.Author.Needs.{needs}
-use Rattle.verdicts.proofs.located.earlier.Statement.{statement}
-use Rattle.verdicts.proofs.located.earlier.Tie as tie
+use Rattle.locating.proofs.earlier.Statement.{statement}
+use Rattle.locating.proofs.earlier.Tie as tie
 
 returns : tie.Need-returns
 returns c = ap (λ (sample : ℕ). record { sample = sample; places = c .before .args .origin .places }) (c .less .ensures)
