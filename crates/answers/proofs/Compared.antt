@@ -15,11 +15,12 @@ use Rattle.formulas.specs.Formulas.{has, Line, lineIn, Recording}
 use Rattle.logic.specs.Margin.{Margin}
 use Rattle.logic.specs.Table.{verdicts, margins, valueAt}
 use Rattle.checks.specs.Checked.{Checked, accepted, refused}
+use Rattle.checks.specs.Heads.{isWide}
 use Rattle.sheet.specs.Layout.{Layout, checked}
 use Rattle.sheet.specs.Recording.{network, recording}
 use Rattle.sheet.specs.Alike.{AlikeButSamples}
 use Rattle.sheet.proofs.Whole.{AcceptedSheet, accepted-sheet}
-use Rattle.sheet.proofs.SameLayout.{checked-alike, same-layout}
+use Rattle.sheet.proofs.SameLayout.{layout-same, checked-alike, same-layout}
 use Rattle.sheet.proofs.SameNetwork.{network-same}
 use Rattle.values.specs.Said.{says, nothing}
 use Rattle.lookup.specs.Lookup.{saidAt}
@@ -30,15 +31,15 @@ use Rattle.answers.specs.Compared.{decision, BothSay}
 use Rattle.answers.proofs.Accepted.{Answered, accepted-answered, answered-says}
 
 -- ---- what is decided
--- the number and the place of what is judged, by what the check says and the sheet's length
-abbrev told : ℕ → ℕ → Checked Layout → ℕ × ℕ
-told answer words (refused number place) = (number, place)
-told answer words (accepted L) = cond (leb (wordsNeeded (L.sizes.places) (L.lines)) answer) (0, 0) (15, words)
+-- the number and the place of what is judged, by the sheet's layout, its length and what the check says
+abbrev told : ℕ → Bool → ℕ → Checked Layout → ℕ × ℕ
+told answer wide words (refused number place) = (number, place)
+told answer wide words (accepted L) = cond (leb (wordsNeeded wide (L.sizes.places) (L.lines)) answer) (0, 0) (15, words)
 
-judged-told : (s : List ℕ) (distances answer : ℕ) (c : Checked Layout) → decision (judgedBy s distances answer c) ≡ told answer (length s) c
+judged-told : (s : List ℕ) (distances answer : ℕ) (c : Checked Layout) → decision (judgedBy s distances answer c) ≡ told answer (isWide s) (length s) c
 unfolding answered
 judged-told s distances answer (refused number place) = refl
-judged-told s distances answer (accepted L) = by (leb (wordsNeeded (L.sizes.places) (L.lines)) answer)
+judged-told s distances answer (accepted L) = by (leb (wordsNeeded (isWide s) (L.sizes.places) (L.lines)) answer)
   where
     by : (enough : Bool) → decision (cond enough (answered s distances answer L) (refusal distances answer 15 (length s))) ≡ cond enough (0, 0) (15, length s)
     by true = refl
@@ -61,7 +62,8 @@ module _ (Related : ℤ → ℤ → Type 0) (X Y : List ℕ) (alike : AlikeButSa
   unfolding judged
   decided-alike distances answer =
       judged-told X distances answer (checked X distances)
-      ∙ ap₂ (told answer) (each-length alike) (checked-alike Related X Y alike distances)
+      ∙ ap (λ wide. told answer wide (length X) (checked X distances)) (layout-same Related X Y alike)
+      ∙ ap₂ (told answer (isWide Y)) (each-length alike) (checked-alike Related X Y alike distances)
       ∙ sym (judged-told Y distances answer (checked Y distances))
 
   -- the two are answered by one layout

@@ -13,12 +13,13 @@ use Rattle.logic.specs.Counts.{runRounds, surroundRounds, roundsAt, greatestRou
 use Rattle.checks.specs.Checked.{isKind}
 use Rattle.lines.specs.Codes.{codes}
 use Rattle.lines.specs.Lines.{constantAt, boundsAt, operatorAt, lineAt, linesFrom}
-use Rattle.sheet.specs.Layout.{sizesOf, headChecked, samplesFrom, endChecked, checked}
+use Rattle.checks.specs.Heads.{isWide, headOf, placesOf, wideCounted, wideFollowed}
+use Rattle.sheet.specs.Layout.{sizesOf, narrowChecked, wideChecked, headChecked, samplesFrom, endChecked, checked}
 use Rattle.roads.specs.Roads.{roadChecked, roadsFrom}
 use Rattle.roads.specs.Roads.{joins, weightAmong, distanceTable}
 use Rattle.sheet.specs.Recording.{network, recording}
 use Rattle.values.specs.Said.{said}
-use Rattle.answers.specs.Answer.{lineIndex, wordsNeeded, wordFor, lineWords, headWord, answerWords}
+use Rattle.answers.specs.Answer.{lineIndex, wordsNeeded, wordFor, lineWords, answerHead, answerWords}
 use Rattle.answers.specs.Judged.{Judged, answered, judged}
 use Rattle.lookup.specs.Lookup.{lineStart, saidAt}
 
@@ -26,7 +27,7 @@ use Rattle.lookup.specs.Lookup.{lineStart, saidAt}
 unfoldable pub answerOf : List ℕ → Judged
 unfolding leastOver greatestOver direct distance joined distanceIn within reached other greatestRegion boundary bounded allowed regionValue
     surround iterate masked except first atRest rounds leastSoFar untilSoFar untilAt somewhereAt surroundAt value valuesAfter valueAt mostBelow sumBelow
-    runRounds surroundRounds roundsAt greatestRounds yesCount isKind codes constantAt boundsAt operatorAt lineAt linesFrom sizesOf headChecked roadChecked
+    runRounds surroundRounds roundsAt greatestRounds yesCount isKind codes constantAt boundsAt operatorAt lineAt linesFrom isWide headOf placesOf wideCounted wideFollowed sizesOf narrowChecked wideChecked headChecked roadChecked
     roadsFrom samplesFrom endChecked checked joins weightAmong network recording distanceTable row concat lineIndex wordsNeeded wordFor
-    lineWords headWord answerWords answered judged said lineStart saidAt
+    lineWords answerHead answerWords answered judged said lineStart saidAt
 answerOf s = judged s 4096 64

@@ -22,6 +22,8 @@ use Rattle.logic.specs.Table.{verdicts, margins, valueAt}
 use Rattle.logic.specs.Counts.{yesCount}
 use Rattle.logic.proofs.Small.{Small, margins-small}
 use Rattle.checks.specs.Limits.{mostPlaces, mostSamples, mostLines}
+use Rattle.checks.specs.Heads.{isWide}
+use Rattle.checks.proofs.Heads.{most-of-any}
 use Rattle.roads.specs.Roads.{roadAt, distanceNumber, distanceTable}
 use Rattle.roads.proofs.DistanceStart.{light}
 use Rattle.sheet.specs.Layout.{Layout}
@@ -30,9 +32,10 @@ use Rattle.sheet.proofs.Whole.{AcceptedSheet}
 use Rattle.sheet.proofs.Samples.{recording-bits}
 use Rattle.lines.proofs.AcceptedLines.{good-constants}
 use Rattle.values.specs.Said.{verdictWord}
-use Rattle.answers.specs.Answer.{lineIndex, wordsNeeded, wordFor, lineWords, headWord, answerWords}
+use Rattle.answers.specs.Answer.{lineIndex, wordsNeeded, wordFor, lineWords, answerHead, answerWords}
 use Rattle.answers.specs.Judged.{Result, resultNumbers, Judged, answered, judged}
-use Rattle.answers.proofs.AnswerWords.{InFields, wordAfter}
+use Rattle.answers.proofs.AnswerHead.{InFields}
+use Rattle.answers.proofs.AnswerWords.{wordAfter}
 use Rattle.answers.proofs.WholeAnswer.{InAnswer, end-bound}
 use Rattle.answers.proofs.Accepted.{accepted-answered, table, fields, sizes, answered-rounds, sheet-found}
 
@@ -55,8 +58,15 @@ word-below false plusInfinity s = omega arith
 some-words : 0 < 2 ^ 32
 some-words = omega arith
 
-module _ (N : Network) (T : ℕ) (x : Recording) (lines : List Line) (fits : InFields (N.places) T lines)
-    (samples : (s t l : ℕ) → InBits 27 (x s t l)) (constants : ConstantsIn (InBits 27) lines) (sizes : InAnswer (N.places) T lines) where
+head-below : (wide : Bool) {n T : ℕ} {lines : List Line} → InFields wide n T lines → Below (2 ^ 32) (answerHead wide n (length lines) T)
+unfolding answerHead
+head-below true {T = T} {lines = lines} fits =
+    below-more some-words _ (wordOf 13 (length lines * 2 ^ 12 + T) ∷ []) (omega (arith, fits .places))
+    (below-more some-words _ [] (omega (arith, fits .count, fits .samples)) (below-none some-words))
+head-below false fits = below-more some-words _ [] (omega (arith, fits .places, fits .count, fits .samples)) (below-none some-words)
+
+module _ (wide : Bool) (N : Network) (T : ℕ) (x : Recording) (lines : List Line) (fits : InFields wide (N.places) T lines)
+    (samples : (s t l : ℕ) → InBits 27 (x s t l)) (constants : ConstantsIn (InBits 27) lines) (sizes : InAnswer wide (N.places) T lines) where
   line-below : (i : ℕ) → Below (2 ^ 32) (lineWords N T x lines i)
   unfolding lineWords wordFor
   line-below i =
@@ -68,14 +78,14 @@ module _ (N : Network) (T : ℕ) (x : Recording) (lines : List Line) (fits : InF
       (λ l b. let t : ℕ = e .first + u in word-below (valueAt verdicts N x lines i t l) (valueAt margins N x lines i t l) (margins-small N x samples lines constants i t l b))))
 
   abbrev end : List ℕ
-  end = wordOf 15 (lineIndex (N.places) lines (length lines)) ∷ []
+  end = wordOf 15 (lineIndex wide (N.places) lines (length lines)) ∷ []
 
-  answer-below : Below (2 ^ 32) (answerWords N T x lines)
-  unfolding answerWords headWord
+  answer-below : Below (2 ^ 32) (answerWords N T x lines wide)
+  unfolding answerWords
   answer-below =
       let lines-below = below-concat some-words (lineWords N T x lines) (length lines) (λ i _. line-below i) in
-      let end-below : Below (2 ^ 32) end = below-more some-words _ [] (omega (arith, end-bound (N.places) T lines sizes)) (below-none some-words) in
-      below-more some-words (headWord N T x lines) (concat (lineWords N T x lines) (length lines) ++ end) (omega (arith, fits .places, fits .count, fits .samples))
+      let end-below : Below (2 ^ 32) end = below-more some-words _ [] (omega (arith, end-bound wide (N.places) T lines sizes)) (below-none some-words) in
+      below-append some-words (answerHead wide (N.places) (length lines) T) (concat (lineWords N T x lines) (length lines) ++ end) (head-below wide fits)
       (below-append some-words (concat (lineWords N T x lines) (length lines)) end lines-below end-below)
 
 -- ---- the distances
@@ -89,16 +99,17 @@ distance-below N W light h a b l k = go (distance (N.weight) (N.places) a b) ref
     go (dist z) e = omega (arith, distance-bound (N.weight) (N.places) W light b (N.places) (omega arith) a l k z e)
 
 -- ---- the count of yes verdicts: no line has more of them than samples at places
-module _ (N : Network) (T : ℕ) (x : Recording) (lines : List Line) (sizes : InAnswer (N.places) T lines) where
+module _ (wide : Bool) (N : Network) (T : ℕ) (x : Recording) (lines : List Line) (sizes : InAnswer wide (N.places) T lines) where
   line-yes : (i : ℕ) → i < length lines
       → let e : Extent = lineIn lines i .extent in
       sumBelow (λ u. sumBelow (λ l. count (valueAt verdicts N x lines i (e .first + u) l)) (N.places)) (e .length) ≤ mostSamples * mostPlaces
   line-yes i h =
       let e : Extent = lineIn lines i .extent in
+      let most : N.places ≤ mostPlaces = omega (arith, sizes .places .1, most-of-any wide) in
       omega (
         arith,
         table-yes-bound (λ u. valueAt verdicts N x lines i (e .first + u)) (e .length) (N.places),
-        mul-le-mul {n₁ = e .length} {n₂ = mostSamples} (omega (arith, sizes .extents i h, sizes .samples)) (sizes .places .1),
+        mul-le-mul {n₁ = e .length} {n₂ = mostSamples} (omega (arith, sizes .extents i h, sizes .samples)) most,
       )
 
   yes-few : yesCount N x lines ≤ mostLines * (mostSamples * mostPlaces)
@@ -118,24 +129,25 @@ numbers-below r h (suc (suc (suc (suc zero)))) = h .4
 numbers-below r h (suc (suc (suc (suc (suc i))))) = some-numbers
 
 module _ (s : List ℕ) (distances : ℕ) (L : Layout) (sheet : AcceptedSheet s distances L) (answer : ℕ) where
-  within : InAnswer (L.sizes.places) (L.sizes.samples) (L.lines)
+  within : InAnswer (isWide s) (L.sizes.places) (L.sizes.samples) (L.lines)
   within = sizes s distances L sheet
 
   result-fits : Below (2 ^ 64) (resultNumbers (answered s distances answer L .result))
   unfolding answered wordsNeeded network
   result-fits = numbers-below (answered s distances answer L .result) (omega (
     arith,
-    end-bound (L.sizes.places) (L.sizes.samples) (L.lines) within,
+    end-bound (isWide s) (L.sizes.places) (L.sizes.samples) (L.lines) within,
     answered-rounds s distances L sheet answer,
     within .places,
-    yes-few (network s L) (L.sizes.samples) (recording s L) (L.lines) within,
+    most-of-any (isWide s),
+    yes-few (isWide s) (network s L) (L.sizes.samples) (recording s L) (L.lines) within,
   ))
 
   answer-fits : Below (2 ^ 32) (answered s distances answer L .answer)
   unfolding answered network recording
-  answer-fits = below-padded some-words (answerWords (network s L) (L.sizes.samples) (recording s L) (L.lines)) answer
-      (answer-below (network s L) (L.sizes.samples) (recording s L) (L.lines) (fields s distances L sheet)
-      (recording-bits s (roadAt (L.roads)) (L.sizes.places) (L.sizes.signals))
+  answer-fits = below-padded some-words (answerWords (network s L) (L.sizes.samples) (recording s L) (L.lines) (isWide s)) answer
+      (answer-below (isWide s) (network s L) (L.sizes.samples) (recording s L) (L.lines) (fields s distances L sheet)
+      (recording-bits s (roadAt (isWide s) (L.roads)) (L.sizes.places) (L.sizes.signals))
       (good-constants (L.sizes.signals) (L.sizes.samples) (L.lines) (table s distances L sheet .good)) within)
 
   distances-fit : Below (2 ^ 64) (answered s distances answer L .distances)
@@ -145,7 +157,7 @@ module _ (s : List ℕ) (distances : ℕ) (L : Layout) (sheet : AcceptedSheet s 
       let number : ℕ → ℕ → ℕ = λ a b. distanceNumber (distanceIn (network s L) a b) in
       below-padded some-numbers (distanceTable (network s L)) distances
       (below-concat some-numbers (λ a. row (number a) n) n (λ a h. below-row some-numbers (number a) n
-      (λ b k. distance-below (network s L) (2 ^ 28) (light s (L.roads)) (omega (arith, within .places)) a b h k)))
+      (λ b k. distance-below (network s L) (2 ^ 28) (light s (L.roads)) (omega (arith, within .places, most-of-any (isWide s))) a b h k)))
 
 -- of a sheet that is judged with the number 0
 pub judged-fits : (s : List ℕ) (distances answer : ℕ) → judged s distances answer .result .number ≡ 0 → Fits (judged s distances answer)

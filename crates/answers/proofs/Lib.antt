@@ -1,5 +1,6 @@
 pub mod Computing
 pub mod Examples
+pub mod AnswerHead
 pub mod AnswerWords
 pub mod AnswerSays
 pub mod WholeAnswer
@@ -13,3 +14,4 @@ pub mod ReadingOn
 pub mod Islands
 pub mod Forecasts
 pub mod Fitting
+pub mod Wide

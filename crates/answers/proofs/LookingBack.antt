@@ -6,7 +6,7 @@ use Prim.Native.Nat.{ℕ}
 use lib.ListN.{replicate}
 use Rattle.checks.specs.Checked.{refused}
 use Rattle.sheet.specs.Layout.{checked}
-use Rattle.lookup.specs.Lookup.{wholeHead, wholeLineAt, wholeEnd, wholeAnswer, lookedUp}
+use Rattle.lookup.specs.Lookup.{wholePlaces, wholeHead, wholeLineAt, wholeEnd, wholeAnswer, lookedUp}
 use Rattle.answers.specs.Judged.{judged}
 use Rattle.answers.proofs.Computing.{answerOf}
 
@@ -33,7 +33,7 @@ late-lines = refl
 
 -- samples have the recording's numbers: line 1 has none before sample 2
 late-lookup : (lookedUp answerLate 1 1 0 ≡ 0) × (lookedUp answerLate 1 2 0 ≡ 1)
-unfolding answerOf wholeHead wholeLineAt wholeEnd wholeAnswer lookedUp answerLate
+unfolding answerOf wholePlaces wholeHead wholeLineAt wholeEnd wholeAnswer lookedUp answerLate
 late-lookup = (refl, refl)
 
 -- ---- lines without a sample in common

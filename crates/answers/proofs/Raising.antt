@@ -56,7 +56,7 @@ allowed-code v k (suc (suc (suc (suc code)))) two three = each-at from-4 code un
 
 module _ (X Y : List ℕ) (raised : SamplesRaised X Y) (without-2 : hasCode 2 X ≡ false) (without-3 : hasCode 3 X ≡ false) where
   lines-rising : (dx : ℕ) (L : Layout) → AcceptedSheet X dx L → LinesFit Rising (L .lines)
-  lines-rising dx L sheet = table-says X (L.sizes.signals) (L.sizes.samples) (layoutOf L .table) (L .lines, length X - 1) Rising
+  lines-rising dx L sheet = table-says X (L.sizes.signals) (L.sizes.samples) (layoutOf X L .table) (L .lines, length X - 1) Rising
       (λ k i kind-5. allowed-code (L.sizes.signals) k (codeField (wordAt X i)) (without-code 2 X without-2 i kind-5) (without-code 3 X without-3 i kind-5)) (sheet .table)
 
   pub raising : (dx ax dy ay : ℕ) → judged X dx ax .result .number ≡ 0 → judged Y dy ay .result .number ≡ 0

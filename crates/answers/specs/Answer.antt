@@ -1,5 +1,6 @@
--- Document 01, "The answer", and request M-100: the words of the answer to an accepted sheet.
+-- Document 01, "The answer", and requests M-100 and M-104: the words of the answer to an accepted sheet, wide if the sheet is.
 use Prim.Native.Nat.{ℕ, _+_, _*_, _^_}
+use mathlib.Core.Bool.{Bool, true, false}
 use mathlib.Core.List.{List, [], _∷_, _++_}
 use lib.ListN.{length}
 use Rattle.words.specs.Word.{wordOf}
@@ -8,12 +9,19 @@ use Rattle.network.specs.Network.{Network}
 use Rattle.formulas.specs.Formulas.{Extent, Line, lineIn, Recording}
 use Rattle.logic.specs.Table.{verdicts, margins, valueAt}
 use Rattle.counting.specs.Totals.{sumBelow}
+use Rattle.checks.specs.Heads.{headWords}
 use Rattle.values.specs.Said.{verdictWord}
 
-module _ (n : ℕ) (lines : List Line) where
+-- the head, by the places, how many lines there are, and the samples. Narrow: kind 13, bits 27..20 the places, 19..12 the lines, 11..0 the samples. Wide: kind 10 with
+-- the places, as the sheet begins, and then kind 13 without them.
+unfoldable pub answerHead : Bool → ℕ → ℕ → ℕ → List ℕ
+answerHead true n count T = wordOf 10 n ∷ wordOf 13 (count * 2 ^ 12 + T) ∷ []
+answerHead false n count T = wordOf 13 (n * 2 ^ 20 + count * 2 ^ 12 + T) ∷ []
+
+module _ (wide : Bool) (n : ℕ) (lines : List Line) where
   -- the index of line i's first word: after the head and the earlier lines
   unfoldable pub lineIndex : ℕ → ℕ
-  lineIndex i = 1 + sumBelow (λ k. 1 + lineIn lines k .extent .length * n) i
+  lineIndex i = headWords wide + sumBelow (λ k. 1 + lineIn lines k .extent .length * n) i
 
   -- head, lines and end
   unfoldable pub wordsNeeded : ℕ
@@ -34,9 +42,5 @@ module _ (N : Network) (T : ℕ) (x : Recording) (lines : List Line) where
       let e : Extent = lineIn lines i .extent in
       firstWord e ∷ rows (λ u. wordFor i (e .first + u)) (e .length) N.places
 
-  -- kind 13: bits 27..20 n, 19..12 line count, 11..0 T
-  unfoldable pub headWord : ℕ
-  headWord = wordOf 13 (N.places * 2 ^ 20 + length lines * 2 ^ 12 + T)
-
-  unfoldable pub answerWords : List ℕ
-  answerWords = headWord ∷ (concat lineWords (length lines) ++ (wordOf 15 (lineIndex N.places lines (length lines)) ∷ []))
+  unfoldable pub answerWords : Bool → List ℕ
+  answerWords wide = answerHead wide (N.places) (length lines) T ++ (concat lineWords (length lines) ++ (wordOf 15 (lineIndex wide (N.places) lines (length lines)) ∷ []))

@@ -10,6 +10,7 @@ use Rattle.network.specs.Network.{Network}
 use Rattle.formulas.specs.Formulas.{Recording}
 use Rattle.logic.specs.Counts.{greatestRounds, yesCount}
 use Rattle.checks.specs.Checked.{Checked, accepted, refused}
+use Rattle.checks.specs.Heads.{isWide}
 use Rattle.sheet.specs.Layout.{Layout, checked}
 use Rattle.roads.specs.Roads.{distanceTable}
 use Rattle.sheet.specs.Recording.{network, recording}
@@ -48,18 +49,18 @@ module _ (s : List ℕ) (distances answer : ℕ) where
         result = record {
           number = 0;
           place = 0;
-          words = wordsNeeded N.places L.lines;
+          words = wordsNeeded (isWide s) N.places L.lines;
           rounds = greatestRounds N x L.lines;
           yes = yesCount N x L.lines;
         };
-        answer = padded (answerWords N L.sizes.samples x L.lines) answer;
+        answer = padded (answerWords N L.sizes.samples x L.lines (isWide s)) answer;
         distances = padded (distanceTable N) distances;
       }
 
   -- 15 comes last: fewer words than needed, told at the sheet's length
   abbrev pub judgedBy : Checked Layout → Judged
   judgedBy (refused number place) = refusal distances answer number place
-  judgedBy (accepted L) = cond (leb (wordsNeeded (L.sizes.places) L.lines) answer) (answered L) (refusal distances answer 15 (length s))
+  judgedBy (accepted L) = cond (leb (wordsNeeded (isWide s) (L.sizes.places) L.lines) answer) (answered L) (refusal distances answer 15 (length s))
 
   -- `distances` and `answer` are how many distances and answer words are lent
   unfoldable pub judged : Judged
