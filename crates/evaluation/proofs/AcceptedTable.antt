@@ -1,6 +1,7 @@
 -- What an accepted sheet is to the engine, in the terms of the code's layout: surveyed, with good lines; the walk over them by decoding, in
 -- which no line is refused; and where each line of the answer ends.
 use mathlib.Core.Path.{_≡_, refl, sym, _∙_, ap, subst}
+use mathlib.Core.Bool.{Bool}
 use mathlib.Core.List.{List}
 use Prim.Native.Nat.{ℕ, _+_, _*_, _<_, _^_}
 use native.Mathlib.Nat.{le-of-lt}
@@ -17,6 +18,7 @@ use Rattle.lines.specs.declared.line.Decoded.{Decoded}
 use Rattle.lines.specs.declared.line.Decoded.the-variants as D
 use Rattle.checks.specs.declared.fault.Fault.{Fault}
 use Rattle.checks.specs.Limits.{mostLines}
+use Rattle.checks.specs.Heads.{isWide}
 use Rattle.sheet.specs.Layout.{Layout}
 use Rattle.lines.specs.Lines.{lineAt}
 use Rattle.lines.specs.GoodLines.{GoodTable}
@@ -45,7 +47,7 @@ linesOf sheet distances = foundIn sheet distances .lines
 
 pub record Table (s : List ℕ) (layout : Code.Layout) (distances : List ℕ) (lines : List Line) : Type 0 where
   pub counted : layout .lines ≡ length lines
-  pub sizes : InAnswer (layout .places) (layout .samples) lines
+  pub sizes : InAnswer (isWide s) (layout .places) (layout .samples) lines
   pub good : GoodTable (layout .signals) (layout .samples) lines
   pub starts : Walk s (layout .signals) (layout .samples) lines 0 (layout .table) (replicate mostLines 0) (replicate mostLines 0)
   pub surveyed : Surveyed s layout distances
@@ -73,7 +75,7 @@ accepted-table s layout distances accepting =
       counted = refl;
       sizes = sizes s d L sheet;
       good = table s d L sheet .good;
-      starts = walk-start s (L .sizes .signals) (L .sizes .samples) (layoutOf L .table) (sheet .table);
+      starts = walk-start s (L .sizes .signals) (L .sizes .samples) (layoutOf s L .table) (sheet .table);
       surveyed = record {
         sheet = record {
           places = (within .places-some, within .places-most);
@@ -110,13 +112,13 @@ module _ (s : List ℕ) (v T : ℕ) (lines : List Line) (k at : ℕ) (firsts len
 
 -- ---- where a line of the answer ends
 
-pub record Ends (n : ℕ) (lines : List Line) (k size : ℕ) : Type 0 where
-  pub index : lineIndex n lines k + (1 + size * n) ≡ lineIndex n lines (k + 1)
-  pub small : lineIndex n lines (k + 1) < 2 ^ 28
+pub record Ends (wide : Bool) (n : ℕ) (lines : List Line) (k size : ℕ) : Type 0 where
+  pub index : lineIndex wide n lines k + (1 + size * n) ≡ lineIndex wide n lines (k + 1)
+  pub small : lineIndex wide n lines (k + 1) < 2 ^ 28
 
-pub line-ends : (n T : ℕ) (lines : List Line) (k : ℕ) → k < length lines → {line : Line} → InAnswer n T lines → line ≡ lineIn lines k → Ends n lines k (line .extent .length)
+pub line-ends : (wide : Bool) (n T : ℕ) (lines : List Line) (k : ℕ) → k < length lines → {line : Line} → InAnswer wide n T lines → line ≡ lineIn lines k → Ends wide n lines k (line .extent .length)
 unfolding lineIndex
-line-ends n T lines k inside within said = record {
+line-ends wide n T lines k inside within said = record {
   index = omega (arith, sum-more (λ i. 1 + lineIn lines i .extent .length * n) k, ap (λ (l : Line). l .extent .length * n) said);
-  small = omega (arith, index-bound n T lines within (k + 1) (omega arith), within .count);
+  small = omega (arith, index-bound wide n T lines within (k + 1) (omega arith), within .count);
 }

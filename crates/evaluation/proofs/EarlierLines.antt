@@ -1,5 +1,6 @@
 -- The words before a line hold the earlier lines' signals: what is read there are the chain numbers that the logic gives them.
 use mathlib.Core.Path.{_≡_, sym, _∙_, ap, ap₂}
+use mathlib.Core.Bool.{Bool}
 use mathlib.Core.List.{List, [], _∷_, _++_}
 use Prim.Native.Nat.{ℕ, suc, _+_, _*_, _<_, _≤_}
 use native.Mathlib.Omega.{arith}
@@ -12,6 +13,7 @@ use Rattle.network.specs.Network.{Network}
 use Rattle.formulas.specs.Formulas.{Line, lineIn, Recording, InBits}
 use Rattle.logic.specs.Table.{valueAt}
 use Rattle.formulas.specs.Formulas.{ConstantsIn}
+use Rattle.checks.specs.Heads.{headWords}
 use Rattle.values.specs.Said.{verdictWord}
 use Rattle.values.specs.Chain.{chains, chainWord, wordChain}
 use Rattle.values.specs.Signals.{signalIn}
@@ -28,32 +30,32 @@ module _ (N : Network) (T : ℕ) (x : Recording) (samples : (s t l : ℕ) → In
       word-said (valueAt chains N x lines i t l) (chains-valid N x samples lines constants i t l b)
       ∙ ap₂ verdictWord (chains-verdict N x samples lines constants i t l b) (chains-margin N x samples lines constants i t l b)
 
-  module _ (answer : List ℕ) (head : 1 ≤ length answer) (k : ℕ) where
+  module _ (wide : Bool) (answer : List ℕ) (head : headWords wide ≤ length answer) (k : ℕ) where
     abbrev done : List ℕ
     done = concat (lineWords N T x lines) k
 
-    before-line : take (lineIndex (N.places) lines k) (put answer 1 done) ≡ take 1 answer ++ done
+    before-line : take (lineIndex wide (N.places) lines k) (put answer (headWords wide) done) ≡ take (headWords wide) answer ++ done
     unfolding put lineIndex
     before-line =
-        take-at (take 1 answer ++ done) (drop (1 + length done) answer) (1 + sizes N T x lines k)
-        (length-front answer 1 done head ∙ ap (λ (m : ℕ). 1 + m) (lines-size N T x lines k))
+        take-at (take (headWords wide) answer ++ done) (drop (headWords wide + length done) answer) (headWords wide + sizes N T x lines k)
+        (length-front answer (headWords wide) done head ∙ ap (λ (m : ℕ). headWords wide + m) (lines-size N T x lines k))
 
     -- u samples after a line's first
     pub signal-before : (first i u l : ℕ) → i < k → u < lineIn lines i .extent .length → l < N.places
-        → signalIn (take (lineIndex (N.places) lines k) (put answer 1 done) ++ (first ∷ [])) (lineIndex (N.places) lines i + 1) (N.places) u l
+        → signalIn (take (lineIndex wide (N.places) lines k) (put answer (headWords wide) done) ++ (first ∷ [])) (lineIndex wide (N.places) lines i + 1) (N.places) u l
         ≡ valueAt chains N x lines i (lineIn lines i .extent .first + u) l
     unfolding signalIn lineIndex
     signal-before first i u l h among b =
         let t : ℕ = lineIn lines i .extent .first + u in
-        let front : List ℕ = take 1 answer in
-        let one : length front ≡ 1 = length-take-le 1 answer head in
+        let front : List ℕ = take (headWords wide) answer in
+        let long : length front ≡ headWords wide = length-take-le (headWords wide) answer head in
         let j : ℕ = sizes N T x lines i + suc (u * N.places + l) in
-        let index : lineIndex (N.places) lines i + 1 + (u * N.places + l) ≡ length front + j = omega arith in
+        let index : lineIndex wide (N.places) lines i + 1 + (u * N.places + l) ≡ length front + j = omega arith in
         let inside : length front + j < length (front ++ done) =
         omega (arith, length-append front done, lines-size N T x lines k, sizes-below N T x lines i k h, in-table among b) in
-        let word : getD (front ++ done ++ (first ∷ [])) (lineIndex (N.places) lines i + 1 + (u * N.places + l)) 0 ≡ wordFor N T x lines i t l =
+        let word : getD (front ++ done ++ (first ∷ [])) (lineIndex wide (N.places) lines i + 1 + (u * N.places + l)) 0 ≡ wordFor N T x lines i t l =
         ap (λ (m : ℕ). getD (front ++ done ++ (first ∷ [])) m 0) index ∙ List·getD-append (front ++ done) (first ∷ []) 0 (length front + j) inside
         ∙ getD-append-add front done j 0 ∙ verdict-among N T x lines k i u l h among b in
-        ap (λ (w : List ℕ). wordChain (getD (w ++ (first ∷ [])) (lineIndex (N.places) lines i + 1 + (u * N.places + l)) 0)) before-line
+        ap (λ (w : List ℕ). wordChain (getD (w ++ (first ∷ [])) (lineIndex wide (N.places) lines i + 1 + (u * N.places + l)) 0)) before-line
         ∙ ap wordChain (word ∙ sym (word-meant i t l b))
         ∙ word-back (valueAt chains N x lines i t l) (chains-valid N x samples lines constants i t l b)

@@ -28,11 +28,11 @@ use Rattle.windows.specs.Reach.{Window}
 use Rattle.windows.specs.Rows.{eventuallyAt}
 use Rattle.windows.proofs.Later.{until-later, since-later, eventually-from, once-from}
 use Rattle.surrounds.specs.Surround.{surroundIn, surroundRoundsIn}
-use Rattle.verdicts.specs.declared.around.Around.{Around}
-use Rattle.verdicts.specs.declared.around.Around.the-variants.{Surround, Range}
-use Rattle.verdicts.specs.declared.located.Located.{Located}
-use Rattle.verdicts.specs.declared.located.Located.the-variants.{Rows, Blocks}
-use Rattle.verdicts.specs.Located.{startAt, untilLocated, eventuallyLocated, surroundLocated, rangeLocated, locatedBy, locatedOf}
+use Rattle.locating.specs.declared.Around.{Around}
+use Rattle.locating.specs.declared.Around.the-variants.{Surround, Range}
+use Rattle.locating.specs.declared.Located.{Located}
+use Rattle.locating.specs.declared.Located.the-variants.{Rows, Blocks}
+use Rattle.locating.specs.Located.{startAt, untilLocated, eventuallyLocated, surroundLocated, rangeLocated, locatedBy, locatedOf}
 use Rattle.verdicts.specs.Rows.{sheetRecording, rowValue, RowReads}
 use Rattle.verdicts.specs.Around.{sheetNetwork, AroundReads, AroundReady, aroundValue, aroundRounds}
 use Rattle.evaluation.specs.Writing.{earlier, lineValue, lineRounds}

@@ -15,7 +15,7 @@ use Rattle.lines.specs.declared.line.Line.{Line}
 use Rattle.lines.specs.Decoding.{lineSaid}
 use Rattle.values.specs.Chain.{chainWord, chainVerdict}
 use Rattle.samples.specs.declared.tally.Tally.{Tally}
-use Rattle.verdicts.specs.declared.located.Located.{Located}
+use Rattle.locating.specs.declared.Located.{Located}
 use Rattle.samples.specs.Written.{SamplesWritten}
 use Rattle.answers.specs.Answer.{firstWord}
 use Rattle.evaluation.specs.Line.{wordsUpTo, valueHere, roundsHere, LineWritten}

@@ -22,6 +22,8 @@ use Rattle.formulas.specs.Formulas.{ConstantsIn}
 use Rattle.counting.proofs.Totals.{sum-more, sum-bound, table-yes-bound, most-more}
 use Rattle.sheet.specs.declared.check.Layout as Code
 use Rattle.checks.specs.Limits.{mostPlaces, mostSamples, mostLines}
+use Rattle.checks.specs.Heads.{headWords, isWide}
+use Rattle.checks.proofs.Heads.{most-of-any}
 use Rattle.lines.specs.GoodLines.{extentsOf}
 use Rattle.sheet.specs.Layout.{Layout}
 use Rattle.sheet.specs.Recording.{network, recording}
@@ -62,21 +64,21 @@ module _ (s : List ℕ) (layout : Code.Layout) (lines : List Line) where
   pub record LinesDone (answer : List ℕ) (k : ℕ) (words starts : List ℕ) (to : ℕ) (tally : Tally) : Type 0 where
     -- where the signal of each line begins, and where the next line will
     pub room : length starts ≡ mostLines
-    pub begins : (i : ℕ) → i < k → getD starts i 0 ≡ lineIndex (layout .places) lines i + 1
+    pub begins : (i : ℕ) → i < k → getD starts i 0 ≡ lineIndex (isWide s) (layout .places) lines i + 1
     pub low : (i : ℕ) → getD starts i 0 ≤ to
-    pub ends : to ≡ lineIndex (layout .places) lines k
-    pub written : words ≡ put answer 1 (concat wordsOfLine k)
+    pub ends : to ≡ lineIndex (isWide s) (layout .places) lines k
+    pub written : words ≡ put answer (headWords (isWide s)) (concat wordsOfLine k)
     pub greatest : tally .rounds ≡ mostBelow roundsOfLine k
     pub counted : tally .yes ≡ sumBelow yesOfLine k
 
-  pub none-done : (answer : List ℕ) → LinesDone answer 0 answer (replicate mostLines 0) 1 (record { rounds = 0; yes = 0 })
+  pub none-done : (answer : List ℕ) → LinesDone answer 0 answer (replicate mostLines 0) (headWords (isWide s)) (record { rounds = 0; yes = 0 })
   unfolding lineIndex concat sumBelow mostBelow
   none-done answer = record {
     room = length-replicate {A = ℕ} mostLines 0;
     begins = λ i h. absurd (not-suc-le-zero h);
     low = λ i. omega (arith, zero-at mostLines i);
-    ends = refl;
-    written = sym (put-nil answer 1);
+    ends = omega arith;
+    written = sym (put-nil answer (headWords (isWide s)));
     greatest = refl;
     counted = refl;
   }
@@ -104,10 +106,10 @@ module _ (s : List ℕ) (layout : Code.Layout) (distances : List ℕ) (lines : L
           let n : ℕ = layout .places in
           let e : Extent = lineIn lines i .extent in
           let long : e .length ≤ mostSamples = omega (arith, good-end (layout .signals) (layout .samples) lines (table .good) i, table .sizes .samples) in
-          let wide : n ≤ mostPlaces = omega (arith, table .sizes .places) in
+          let wide : n ≤ mostPlaces = omega (arith, table .sizes .places, most-of-any (isWide s)) in
           omega (arith, table-yes-bound (λ u. valueAt verdicts (sheetNetwork s layout) (sheetRecording s layout) lines i (e .first + u)) (e .length) n, mul-le-mul long wide)
 
-  module _ (answer : List ℕ) (enough : lineIndex (layout .places) lines (layout .lines) ≤ length answer)
+  module _ (answer : List ℕ) (enough : lineIndex (isWide s) (layout .places) lines (layout .lines) ≤ length answer)
       (k : ℕ) (inside : k < length lines) (words starts : List ℕ) (to : ℕ) (tally : Tally) (done : LinesDone s layout lines answer k words starts to tally)
       (firsts : List ℕ) (first-known : (i : ℕ) → i < k → getD firsts i 0 ≡ lineIn lines i .extent .first) where
     abbrev n : ℕ
@@ -117,16 +119,16 @@ module _ (s : List ℕ) (layout : Code.Layout) (distances : List ℕ) (lines : L
     before = wordsUpTo words to (lineIn lines k)
 
     -- the words of the lines up to k fit
-    fits : lineIndex n lines k + (1 + lineIn lines k .extent .length * n) ≤ length answer
+    fits : lineIndex (isWide s) n lines k + (1 + lineIn lines k .extent .length * n) ≤ length answer
     unfolding lineIndex
-    fits = omega (arith, enough, ap (lineIndex n lines) (table .counted), sizes-below (sheetNetwork s layout) (layout .samples) (sheetRecording s layout) lines k (length lines) inside)
+    fits = omega (arith, enough, ap (lineIndex (isWide s) n lines) (table .counted), sizes-below (sheetNetwork s layout) (layout .samples) (sheetRecording s layout) lines k (length lines) inside)
 
-    length-done : length (concat (wordsOfLine s layout lines) k) + 1 ≡ lineIndex n lines k
+    length-done : headWords (isWide s) + length (concat (wordsOfLine s layout lines) k) ≡ lineIndex (isWide s) n lines k
     unfolding lineIndex
     length-done = omega (arith, lines-size (sheetNetwork s layout) (layout .samples) (sheetRecording s layout) lines k)
 
     length-kept : length words ≡ length answer
-    length-kept = ap length (done .written) ∙ length-put answer 1 (concat (wordsOfLine s layout lines) k) (omega (arith, fits, length-done))
+    length-kept = ap length (done .written) ∙ length-put answer (headWords (isWide s)) (concat (wordsOfLine s layout lines) k) (omega (arith, fits, length-done))
 
     room-left : to + (1 + lineIn lines k .extent .length * n) ≤ length words
     room-left = omega (arith, fits, length-kept, done .ends)
@@ -137,7 +139,7 @@ module _ (s : List ℕ) (layout : Code.Layout) (distances : List ℕ) (lines : L
     unfolding before
     signal-after i u l h among b =
         rw (done .begins i h, done .ends, done .written)
-        (signal-before (sheetNetwork s layout) (layout .samples) (sheetRecording s layout) (sheet-bits s layout) lines constants answer (omega (arith, fits, length-done)) k (firstWord (lineIn lines k .extent)) i u l h among b)
+        (signal-before (sheetNetwork s layout) (layout .samples) (sheetRecording s layout) (sheet-bits s layout) lines constants (isWide s) answer (omega (arith, fits, length-done)) k (firstWord (lineIn lines k .extent)) i u l h among b)
 
     signal-here : (i t l : ℕ) → i < k → Has (extentsOf lines i) t → l < n → earlier layout before starts firsts i t l ≡ valueAt chains (sheetNetwork s layout) (sheetRecording s layout) lines i t l
     signal-here i t l h among b =
@@ -156,7 +158,7 @@ module _ (s : List ℕ) (layout : Code.Layout) (distances : List ℕ) (lines : L
       extents = extentsOf lines;
       good = table .good k inside;
       begins = first-known;
-      low = λ i. omega (arith, done .low i, done .ends, line-ends n (layout .samples) lines k inside (table .sizes) refl);
+      low = λ i. omega (arith, done .low i, done .ends, line-ends (isWide s) n (layout .samples) lines k inside (table .sizes) refl);
       written = λ i h. omega (
         arith,
         done .begins i h,
@@ -170,14 +172,14 @@ module _ (s : List ℕ) (layout : Code.Layout) (distances : List ℕ) (lines : L
     }
 
     -- the line's words go behind those before it
-    joined : put words to (wordsOfLine s layout lines k) ≡ put answer 1 (concat (wordsOfLine s layout lines) (k + 1))
+    joined : put words to (wordsOfLine s layout lines k) ≡ put answer (headWords (isWide s)) (concat (wordsOfLine s layout lines) (k + 1))
     unfolding concat
     joined =
-        let at : to ≡ 1 + length (concat (wordsOfLine s layout lines) k) = omega (arith, done .ends, length-done) in
+        let at : to ≡ headWords (isWide s) + length (concat (wordsOfLine s layout lines) k) = omega (arith, done .ends, length-done) in
         ap₂ (λ (w : List ℕ) (a : ℕ). put w a (wordsOfLine s layout lines k)) (done .written) at
-        ∙ rw (add-one k) (put-append answer 1 (concat (wordsOfLine s layout lines) k) (wordsOfLine s layout lines k) (omega (arith, fits, length-done)))
+        ∙ rw (add-one k) (put-append answer (headWords (isWide s)) (concat (wordsOfLine s layout lines) k) (wordsOfLine s layout lines k) (omega (arith, fits, length-done)))
 
-    begun : (i : ℕ) → i < k + 1 → getD (set starts k (to + 1)) i 0 ≡ lineIndex n lines i + 1
+    begun : (i : ℕ) → i < k + 1 → getD (set starts k (to + 1)) i 0 ≡ lineIndex (isWide s) n lines i + 1
     begun i h = ⊎-elim
         (λ e. rw e (getD-set-same starts k (to + 1) 0 (omega (arith, done .room, table .sizes .count)) ∙ ap (λ a. a + 1) (done .ends)))
         (λ l. getD-set-other starts k i (to + 1) 0 (λ e. omega arith) ∙ done .begins i l)
@@ -205,7 +207,7 @@ module _ (s : List ℕ) (layout : Code.Layout) (distances : List ℕ) (lines : L
           room = length-set starts k (to + 1) ∙ done .room;
           begins = begun;
           low = low-more;
-          ends = omega (arith, done .ends, line-ends n T lines k inside (table .sizes) refl);
+          ends = omega (arith, done .ends, line-ends (isWide s) n T lines k inside (table .sizes) refl);
           written = here .written ∙ ap (λ (w : List ℕ). put words to (firstWord (lineIn lines k .extent) ∷ w)) meant ∙ joined;
           greatest = ap₂ max (done .greatest) (here .greatest ∙ most) ∙ sym (most-more (roundsOfLine s layout lines) k);
           counted = ap₂ _+_ (done .counted) (here .counted ∙ many) ∙ sym (sum-more (yesOfLine s layout lines) k);

@@ -4,6 +4,7 @@ use Prim.Native.Nat.{ℕ}
 use lib.ListN.{length}
 use Rattle.words.specs.Bytes.{wordsOf, numbersOf}
 use Rattle.sheet.specs.declared.check.Layout as Code
+use Rattle.checks.specs.Heads.{isWide}
 use Rattle.sheet.specs.Layout.{Layout}
 use Rattle.samples.specs.declared.tally.Tally.{Tally}
 use Rattle.answers.specs.Answer.{wordsNeeded}
@@ -18,7 +19,7 @@ module _ (sheet distances : List ℕ) where
 
   -- how many words the answer needs
   abbrev pub neededIn : ℕ
-  neededIn = wordsNeeded (foundIn .sizes .places) (foundIn .lines)
+  neededIn = wordsNeeded (isWide (wordsOf sheet)) (foundIn .sizes .places) (foundIn .lines)
 
   -- the lines in the bytes of the answer as they are left
   abbrev pub LinesWrittenIn : List ℕ → List ℕ → ℕ → Tally → Type 0

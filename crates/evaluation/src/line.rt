@@ -1,11 +1,11 @@
 // One line of the answer: its first word, and its verdicts, sample by sample or, over space, in blocks of samples.
 use lines::extent::Extent;
 use lines::line::Line;
+use locating::Located;
+use locating::locate;
 use samples::tally::Tally;
 use sheet::check::Layout;
 use verdicts::around::write_around;
-use verdicts::located::Located;
-use verdicts::located::locate;
 use verdicts::row::write_rows;
 ghost use mathlib.Core.Path.{_≡_};
 ghost use Prim.Native.Nat.{_≤_};

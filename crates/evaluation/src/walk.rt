@@ -1,5 +1,7 @@
 // The lines of an accepted sheet, decoded again one after the other: how many words their answer needs, and their verdicts.
 use crate::line::write_line;
+use checks::head::head_words;
+use checks::head::is_wide;
 use checks::limits::MOST_LINES;
 use lines::line::Decoded;
 use lines::line::decode_line;
@@ -9,6 +11,7 @@ ghost use mathlib.Core.Path.{_≡_};
 ghost use Prim.Native.Nat.{_≤_};
 ghost use lib.ListN.{length};
 ghost use Rattle.words.specs.Bytes.{wordsOf, afterWords};
+ghost use Rattle.checks.specs.Heads.{isWide};
 ghost use Rattle.answers.specs.Answer.{lineIndex};
 ghost use Rattle.evaluation.specs.Lent.{AcceptingIn, foundIn, neededIn, LinesWrittenIn};
 
@@ -26,7 +29,7 @@ pub fn words_needed(sheet: &[u8], layout: Layout, distances: &[u8]) -> usize
     let mut firsts = [0u32; MOST_LINES];
     let mut lengths = [0u32; MOST_LINES];
     let mut at = layout.table;
-    let mut needed: usize = 2;
+    let mut needed = head_words(is_wide(sheet)) + 1;
     for k in 0..layout.lines {
         match decode_line(
             sheet,
@@ -51,9 +54,9 @@ pub fn words_needed(sheet: &[u8], layout: Layout, distances: &[u8]) -> usize
     needed
 }
 
-// Writes every line, from index 1 on.
+// Writes every line, behind the head.
 pub fn write_lines(sheet: &[u8], layout: Layout, distances: &[u8], answer: &mut [u8]) -> Written
-    requires { ⌜ AcceptingIn (now sheet) (now distances) layout × (lineIndex (layout .places) (foundIn (now sheet) (now distances) .lines) (layout .lines) ≤ length (wordsOf (now answer))) ⌝ }
+    requires { ⌜ AcceptingIn (now sheet) (now distances) layout × (lineIndex (isWide (wordsOf (now sheet))) (layout .places) (foundIn (now sheet) (now distances) .lines) (layout .lines) ≤ length (wordsOf (now answer))) ⌝ }
     ensures written { λ r. ⌜ LinesWrittenIn (now (sheet .entry)) (now (distances .entry)) (now (answer .entry)) (now (answer .exit)) (r .end) (r .tally) ⌝ }
     ensures tail { λ _. ⌜ afterWords (now (answer .exit)) ≡ afterWords (now (answer .entry)) ⌝ }
 {
@@ -61,7 +64,7 @@ pub fn write_lines(sheet: &[u8], layout: Layout, distances: &[u8], answer: &mut 
     let mut lengths = [0u32; MOST_LINES];
     let mut starts = [0usize; MOST_LINES];
     let mut at = layout.table;
-    let mut to: usize = 1;
+    let mut to = head_words(is_wide(sheet));
     let mut tally = Tally::NONE;
     for k in 0..layout.lines {
         match decode_line(

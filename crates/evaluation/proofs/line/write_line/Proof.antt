@@ -9,8 +9,8 @@ use Rattle.words.specs.Bytes.{wordsOf, numbersOf, afterWords}
 use Rattle.words.proofs.Tails.{word-tail}
 use Rattle.words.proofs.Words.{words-count}
 use Rattle.lines.specs.Decoding.{lineSaid}
-use Rattle.verdicts.specs.declared.located.Located.{Located}
-use Rattle.verdicts.specs.declared.located.Located.the-variants.{Rows, Blocks}
+use Rattle.locating.specs.declared.Located.{Located}
+use Rattle.locating.specs.declared.Located.the-variants.{Rows, Blocks}
 use Rattle.answers.specs.Answer.{firstWord}
 use Rattle.evaluation.specs.Line.{wordsUpTo}
 use Rattle.evaluation.proofs.LineLocated.{Reads, LineLocated, line-located}

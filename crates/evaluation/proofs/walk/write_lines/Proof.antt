@@ -8,6 +8,7 @@ use borrow.Author.Needs.{needs}
 use Rattle.words.specs.Bytes.{wordsOf, numbersOf, afterWords}
 use Rattle.formulas.specs.Formulas.{Extent, Line, lineIn}
 use Rattle.checks.specs.Limits.{mostLines}
+use Rattle.checks.specs.Heads.{headWords, isWide}
 use Rattle.lines.proofs.Walk.{Walk, walk-step, walk-within, walk-extent}
 use Rattle.samples.specs.Tally.{together}
 use Rattle.evaluation.proofs.AcceptedTable.{linesOf, Table, accepted-table, Passed, never-refused, line-passed, Ends, line-ends}
@@ -32,11 +33,11 @@ lines c = linesOf (c .args .sheet .now) (c .args .distances .now)
 within : (c : tie.Start Inv-loop μ-loop) → Table (wordsOf (c .args .sheet .now)) (c .args .layout) (numbersOf (wordsOf (c .args .distances .now))) (lines c)
 within c = accepted-table (wordsOf (c .args .sheet .now)) (c .args .layout) (numbersOf (wordsOf (c .args .distances .now))) (c .pre .0)
 
-more : (c : tie.In-loop Inv-loop μ-loop) → c .before .loop .k < length (lines (c .before .before .before .before .before))
-more c = omega (arith, within (c .before .before .before .before .before) .counted, c .loop-test .taken)
+more : (c : tie.In-loop Inv-loop μ-loop) → c .before .loop .k < length (lines (c .before .before .before .before .before .before .before))
+more c = omega (arith, within (c .before .before .before .before .before .before .before) .counted, c .loop-test .taken)
 
 few : (c : tie.In-loop Inv-loop μ-loop) → c .before .loop .k < mostLines
-few c = omega (arith, more c, within (c .before .before .before .before .before) .sizes .count)
+few c = omega (arith, more c, within (c .before .before .before .before .before .before .before) .sizes .count)
 
 -- the line that was decoded
 module _ (c : tie.After-known-told Inv-loop μ-loop) where
@@ -44,21 +45,24 @@ module _ (c : tie.After-known-told Inv-loop μ-loop) where
   turn = c .before .before .before .before .before .before
 
   abbrev start : tie.Start Inv-loop μ-loop
-  start = turn .before .before .before .before .before
+  start = turn .before .before .before .before .before .before .before
 
   passed : Passed (wordsOf (start .args .sheet .now)) (start .args .layout .signals) (start .args .layout .samples) (lines start) (turn .before .loop .k) (turn .before .loop .firsts) (turn .before .loop .lengths)
       (c .before .line .given .0 .0) (c .before .line .given .0 .1 .0)
   passed = line-passed _ _ _ _ _ _ _ _ (turn .before .loop .inv .0) (more turn) _ (c .before .before .before .decode-line .ensures) _ _ (c .before .line .given .1)
 
-  ends : Ends (start .args .layout .places) (lines start) (turn .before .loop .k) (c .before .line .given .0 .0 .extent .length)
-  ends = line-ends _ _ _ _ (more turn) (within start .sizes) (passed .said)
+  ends : Ends (isWide (wordsOf (start .args .sheet .now))) (start .args .layout .places) (lines start) (turn .before .loop .k) (c .before .line .given .0 .0 .extent .length)
+  ends = line-ends _ _ _ _ _ (more turn) (within start .sizes) (passed .said)
 
   -- the first samples of the lines before
   begins : (i : ℕ) → i < turn .before .loop .k → getD (turn .before .loop .firsts) i 0 ≡ lineIn (lines start) i .extent .first
   begins i h = ap (λ (e : Extent). e .first) (walk-extent _ _ _ _ _ _ _ _ (turn .before .loop .inv .0) i h)
 
 loop-holds : tie.Need-loop-holds Inv-loop μ-loop
-loop-holds c = (within (c .before .before .before) .starts, refl, none-done _ _ _ _, refl)
+loop-holds c =
+    let start = c .before .before .before .before .before in
+    let first = c .head-words .ensures ∙ ap headWords (c .before .is-wide .ensures) in
+    (within start .starts, refl, rw first (none-done (wordsOf (start .args .sheet .now)) (start .args .layout) (lines start) (wordsOf (start .args .answer .now))), refl)
 
 slice-aggregate-decode-line : tie.Need-slice-aggregate-decode-line Inv-loop μ-loop
 slice-aggregate-decode-line c = sym (c .before .before .loop .inv .0 .room .0)
@@ -69,7 +73,7 @@ slice-aggregate-decode-line-2 c = sym (c .before .before .before .loop .inv .0 .
 decode-line-requires : tie.Need-decode-line-requires Inv-loop μ-loop
 decode-line-requires c κs =
     let walk = c .before .before .before .loop .inv .0 in
-    (walk-step _ _ _ _ _ _ _ _ walk (more (c .before .before)) .there, within (c .before .before .before .before .before .before .before) .sizes .samples .1, walk-within _ _ _ _ _ _ _ _ walk)
+    (walk-step _ _ _ _ _ _ _ _ walk (more (c .before .before)) .there, within (c .before .before .before .before .before .before .before .before .before) .sizes .samples .1, walk-within _ _ _ _ _ _ _ _ walk)
 
 unrefused : (c : tie.After-enum-told Inv-loop μ-loop) → ⊥
 unrefused c =
@@ -160,7 +164,7 @@ loop-again c =
 
 returns-2 : tie.Need-returns-2 Inv-loop μ-loop
 returns-2 c =
-    let start = c .before .before .before .before .before in
+    let start = c .before .before .before .before .before .before .before in
     let all : c .before .loop .k ≡ length (lines start) = omega (arith, c .loop-test .left, c .before .loop .inv .0 .passed, within start .counted) in
     (all-done _ _ _ _ _ _ _ _ _ (start .pre .0) all (c .before .loop .inv .2), c .before .loop .inv .3)
 
@@ -170,6 +174,8 @@ write-lines-spec =
     (tie.spec
     Inv-loop
     μ-loop
+    (λ c κs. search needs)
+    (λ c κs. search needs)
     loop-holds
     slice-aggregate-decode-line
     slice-aggregate-decode-line-2
