@@ -66,7 +66,7 @@ fn print_verdict(w: u32) {
 
 // The verdicts of all places at one sample, the first at index `at`.
 fn print_places(answer: &[u8], at: usize, places: usize)
-    requires { ⌜ at + places ≤ 2 ^ 32 ⌝ }
+    requires { ⌜ at + places ≤ 2 ^ 40 ⌝ }
 {
     for place in 0..places {
         print_verdict(words::word_or_zero(answer, at + place));
@@ -76,8 +76,8 @@ fn print_places(answer: &[u8], at: usize, places: usize)
 
 // The rows of the line whose first word stands at index `at`, from its first sample on. Tells the index after the line.
 fn print_line(answer: &[u8], line: usize, at: usize, places: usize) -> usize
-    requires { ⌜ (at < 2 ^ 28) × (places < 2 ^ 8) ⌝ }
-    ensures { λ r. ⌜ r ≤ at + 2 ^ 20 ⌝ }
+    requires { ⌜ (at < 2 ^ 36) × (places < 2 ^ 16) ⌝ }
+    ensures { λ r. ⌜ r ≤ at + 2 ^ 28 ⌝ }
 {
     let first = lookup::first_at(answer, at);
     let mut next = at + 1;
@@ -90,10 +90,10 @@ fn print_line(answer: &[u8], line: usize, at: usize, places: usize) -> usize
     next
 }
 
-// The rows of all lines, and last how many they are. The fields of 8 and 12 bits keep every index small, whatever the words are.
+// The rows of all lines, and last how many they are. The fields of 8, 12 and 16 bits keep every index small, whatever the words are.
 fn print_lines(answer: &[u8]) {
-    let places = lookup::places(answer);
-    let mut at: usize = 1;
+    let places = checks::head::places(answer);
+    let mut at: usize = checks::head::head_words(checks::head::is_wide(answer));
     let mut rows: usize = 0;
     for line in 0..lookup::lines(answer) {
         rows += lookup::length_at(answer, at);
