@@ -30,8 +30,8 @@ use Rattle.sheet.proofs.Surveys.{accepted-roads}
 use Rattle.checks.proofs.Checks.{never, same-accepted}
 use Rattle.lines.proofs.Walk.{Walk, Step, walk-start, walk-step}
 use Rattle.sheet.proofs.Whole.{accepted-sheet}
-use Rattle.surrounds.specs.Steps.{RoadsIn}
-use Rattle.surrounds.proofs.SheetRoads.{good-roads}
+use Rattle.iteration.specs.Steps.{RoadsIn}
+use Rattle.iteration.proofs.SheetRoads.{good-roads}
 use Rattle.answers.specs.Answer.{lineIndex}
 use Rattle.answers.proofs.WholeAnswer.{InAnswer, index-bound}
 use Rattle.answers.proofs.Accepted.{table, sizes}

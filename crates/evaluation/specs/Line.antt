@@ -11,7 +11,7 @@ use Rattle.sheet.specs.declared.check.Layout.{Layout}
 use Rattle.lines.specs.GoodLines.{GoodLine}
 use Rattle.values.specs.Chain.{chainWord, chainVerdict, Valid}
 use Rattle.values.specs.Signals.{signalIn}
-use Rattle.surrounds.specs.Steps.{RoadsIn}
+use Rattle.iteration.specs.Steps.{RoadsIn}
 use Rattle.samples.specs.declared.tally.Tally.{Tally}
 use Rattle.answers.specs.Answer.{firstWord}
 use Rattle.evaluation.specs.Writing.{lineValue, lineRounds, Surveyed}

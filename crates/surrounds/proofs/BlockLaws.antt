@@ -25,7 +25,7 @@ use Rattle.lanes.specs.Rows.{RowOf, RowWritten, laneSignal}
 use Rattle.lanes.proofs.RowLaws.{other-row-kept, lane-signal, lane-zero}
 use Rattle.surrounds.specs.declared.surround.Surround.{Surround}
 use Rattle.surrounds.specs.Surround.{surroundIn, surroundRoundsIn, blockRounds}
-use Rattle.surrounds.specs.Steps.{ValidRow}
+use Rattle.iteration.specs.Steps.{ValidRow}
 use Rattle.surrounds.specs.Runs.{laneSurround, laneRounds, CentresDone}
 use Rattle.surrounds.specs.Blocks.{BlockReady, BlockDone}
 use Rattle.roads.specs.Roads.{networkOf}

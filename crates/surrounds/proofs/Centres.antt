@@ -31,12 +31,12 @@ use Rattle.lanes.specs.Lanes.{lanes, leftRow, rightRow, outRow, laneOf, stripOf
 use Rattle.lanes.specs.Strips.{Written}
 use Rattle.lanes.specs.Rows.{RowOf, KeptBelow, within, maskedBy}
 use Rattle.lanes.proofs.RowLaws.{strip-written, strip-kept, kept-below-trans, kept-below-lower, kept-below-strip}
-use Rattle.surrounds.specs.Surround.{joinedBy}
-use Rattle.surrounds.specs.WorkRows.{ringRow, xRow, Worked, KeptBut}
-use Rattle.surrounds.specs.Steps.{RoadsIn, ValidRow, Start, Settled, roundsIn}
+use Rattle.iteration.specs.WorkRows.{ringRow, xRow, Worked, KeptBut}
+use Rattle.iteration.specs.Steps.{joinedBy, RoadsIn, ValidRow, Start, Settled, roundsIn}
+use Rattle.iteration.specs.Masks.{ballOf, CentreMasked}
 use Rattle.surrounds.specs.Runs.{leftOut, LeftOut, beyond, isMade, runSurround, runRoundsAt, CentreRun}
-use Rattle.surrounds.specs.Blocks.{ballOf, reachedBy, CentreMasked, RowsReady}
-use Rattle.surrounds.proofs.Outside.{but-below, low-fallen}
+use Rattle.surrounds.specs.Blocks.{reachedBy, RowsReady}
+use Rattle.iteration.proofs.Outside.{but-below, low-fallen}
 use Rattle.surrounds.proofs.Tables.{range-at, reached-at}
 
 -- ---- which runs are made, by tests that are the same below n

@@ -13,10 +13,10 @@ use Rattle.counting.proofs.Totals.{most-same}
 use Rattle.values.specs.Chain.{chainLattice, chainMargin, Valid}
 use Rattle.lanes.specs.Lanes.{lanes, leftRow, rightRow, outRow, Numbers, rowIn}
 use Rattle.lanes.specs.Rows.{KeptBelow}
-use Rattle.surrounds.specs.Steps.{ValidRow}
+use Rattle.iteration.specs.Steps.{ValidRow}
 use Rattle.surrounds.specs.Runs.{leftOut, isMade, runSurround, runRoundsAt, CentreRun, RunDone, RunsDone}
 use Rattle.surrounds.specs.Blocks.{RowsReady}
-use Rattle.surrounds.proofs.Outside.{row-same}
+use Rattle.iteration.proofs.Outside.{row-same}
 
 module _ {before after : List ℕ} (k : KeptBelow outRow before after) where
   left-same : (lane : ℕ) → lane < lanes → rowIn after leftRow lane ≡ rowIn before leftRow lane

@@ -1,12 +1,7 @@
-pub mod Least
 pub mod Lowest
-pub mod Outside
-pub mod Masks
-pub mod Settling
 pub mod Tables
 pub mod RunLaws
 pub mod RunRows
 pub mod KeptRows
 pub mod Centres
 pub mod BlockLaws
-pub mod SheetRoads

@@ -1,5 +1,4 @@
--- What is lowest stays lowest: the lesser of it and another number; and the surround of a left signal that is lowest at the centre, as every
--- region that counts holds the centre.
+-- What is lowest stays lowest: the surround of a left signal that is lowest at the centre, as every region that counts holds the centre.
 use mathlib.Core.Path.{_≡_, refl}
 use mathlib.Core.Logic.{⊎-elim}
 use mathlib.Core.Bool.{Bool, true, false, cond, and-false, _||_}
@@ -11,13 +10,11 @@ use Rattle.logic.specs.Lattice.{leastOver}
 use Rattle.logic.specs.Surround.{holds, greatestRegion, bounded, allowed, regionValue, surround}
 use Rattle.values.specs.Chain.{chainLattice}
 use Rattle.values.proofs.Naturals.{meet-min, join-max}
+use Rattle.iteration.proofs.Outside.{meet-low}
 
 cond-low : (t : Bool) (c : ℕ) → c ≡ 0 → cond t c 0 ≡ 0
 cond-low true c h = h
 cond-low false c h = refl
-
-pub meet-low : (a b : ℕ) → a ≡ 0 → chainLattice .meet a b ≡ 0
-meet-low a b e = rw meet-min (omega arith)
 
 region-low : (n : ℕ) (f : List Bool → ℕ) → ((A : List Bool) → f A ≡ 0) → greatestRegion chainLattice n f ≡ 0
 unfolding greatestRegion

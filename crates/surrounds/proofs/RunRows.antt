@@ -13,7 +13,7 @@ use Rattle.values.specs.Chain.{chainLattice, chainMargin}
 use Rattle.values.proofs.Naturals.{join-max}
 use Rattle.lanes.specs.Lanes.{lanes, Numbers}
 use Rattle.lanes.specs.Rows.{RowOf}
-use Rattle.surrounds.specs.Steps.{ValidRow}
+use Rattle.iteration.specs.Steps.{ValidRow}
 use Rattle.surrounds.specs.Runs.{runsOf, isMade, laneSurround, laneRounds, runSurround, runRoundsAt, CentreRun, RunDone, RunsDone, CentresDone}
 use Rattle.surrounds.proofs.RunLaws.{surround-runs, rounds-runs}
 

@@ -1,7 +1,7 @@
 -- What is done for a block of samples: the rows of the operands are read once, and masked, settled and written centre by centre. These are for contracts
 -- inside the engine: no promise to a host speaks of them.
 use mathlib.Core.Path.{_≡_}
-use mathlib.Core.Bool.{Bool, not, cond}
+use mathlib.Core.Bool.{Bool, not}
 use mathlib.Core.List.{List}
 use Prim.Native.Nat.{ℕ, _+_, _*_, _<_, _≤_, _^_}
 use lib.Dec.{eqb}
@@ -13,38 +13,14 @@ use Rattle.lines.specs.declared.operator.Bounds.{Bounds}
 use Rattle.roads.specs.Roads.{networkOf, distanceNumber, Measured}
 use Rattle.values.specs.Chain.{Valid}
 use Rattle.values.specs.Signals.{signalIn}
-use Rattle.lanes.specs.Lanes.{lanes, Numbers, leftRow, rightRow, outRow, rowIn}
-use Rattle.lanes.specs.Rows.{RowOf, within, Marked, maskedBy}
+use Rattle.lanes.specs.Lanes.{lanes, Numbers, outRow, rowIn}
 use Rattle.surrounds.specs.declared.surround.Surround.{Surround}
 use Rattle.surrounds.specs.Surround.{surroundIn, blockRounds}
-use Rattle.surrounds.specs.WorkRows.{ringRow, xRow, Worked, WrittenAt}
-use Rattle.surrounds.specs.Steps.{RoadsIn, ValidRow}
-
--- the ball ends where the ring does, and begins at the centre
-abbrev pub ballOf : Bounds → Bounds
-ballOf b = record { lower = 0; upper = b .upper }
+use Rattle.iteration.specs.Steps.{RoadsIn, ValidRow}
 
 -- a place has a distance from a centre, by the bytes of such a table
 abbrev pub reachedBy : List ℕ → ℕ → ℕ → ℕ → Bool
 reachedBy distances n centre place = not (eqb (getD (numbersOf (wordsOf distances)) (centre * n + place) 0) (distanceNumber none))
-
--- x has the left operand at a place, and the ring the right one, or the lowest number
-pub record PlaceMasked (place : ℕ) (ring : Bool) (before after : List ℕ) : Type 0 where
-  pub left-there : (lane : ℕ) → lane < lanes → rowIn after xRow lane place ≡ rowIn before leftRow lane place
-  pub right-there : (lane : ℕ) → lane < lanes → rowIn after ringRow lane place ≡ cond ring (rowIn before rightRow lane place) 0
-  pub only : WrittenAt place before after
-
--- the flags of the first k places are those of the ball about a centre, x is the left row masked by the ball, and the ring the right row masked by the bounds
-pub record CentreMasked (n : ℕ) (distances : List ℕ) (b : Bounds) (centre k : ℕ) (before : List ℕ) (inside : List Bool) (after : List ℕ) : Type 0 where
-  pub ball : Marked (within distances n centre (ballOf b)) inside k
-  pub left-masked : RowOf (maskedBy (within distances n centre (ballOf b)) (rowIn before leftRow)) (rowIn after xRow) k
-  pub right-masked : RowOf (maskedBy (within distances n centre b) (rowIn before rightRow)) (rowIn after ringRow) k
-  pub worked : Worked ringRow inside before after
-
--- where the first k places are masked, one more is
-abbrev pub MaskedNext : (n : ℕ) (distances : List ℕ) (b : Bounds) (centre k : ℕ) (inside : List Bool) (rows : List ℕ) (inside′ : List Bool) (rows′ : List ℕ) → Type 0
-MaskedNext n distances b centre k inside rows inside′ rows′ =
-    (before : List ℕ) → CentreMasked n distances b centre k before inside rows → CentreMasked n distances b centre (k + 1) before inside′ rows′
 
 -- what the rows of the operands, the sheet and the distances must be
 pub record RowsReady (left right : Numbers) (n : ℕ) (sheet : List ℕ) (roads : ℕ) (distances : List ℕ) (b : Bounds) : Type 0 where

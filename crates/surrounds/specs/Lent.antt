@@ -14,9 +14,10 @@ use Rattle.lanes.specs.Lanes.{leftRow, rightRow, outRow, rowIn}
 use Rattle.lanes.specs.Rows.{within}
 use Rattle.surrounds.specs.declared.surround.Surround.{Surround}
 use Rattle.surrounds.specs.declared.runs.Run.{Run}
-use Rattle.surrounds.specs.WorkRows.{LowOutside}
+use Rattle.iteration.specs.WorkRows.{LowOutside}
+use Rattle.iteration.specs.Masks.{ballOf}
 use Rattle.surrounds.specs.Runs.{beyond, isMade, CentresDone, RunDone, CentreRun}
-use Rattle.surrounds.specs.Blocks.{ballOf, reachedBy, RowsReady, BlockReady, BlockDone}
+use Rattle.surrounds.specs.Blocks.{reachedBy, RowsReady, BlockReady, BlockDone}
 
 -- the network of a sheet's roads
 abbrev pub networkIn : List ℕ → Network → Roads.Network

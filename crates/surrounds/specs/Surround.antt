@@ -3,18 +3,13 @@
 use mathlib.Core.Bool.{Bool}
 use mathlib.Core.List.{List}
 use Prim.Native.Nat.{ℕ, _+_}
-use Rattle.network.specs.Network.{Network, isRoad}
+use Rattle.network.specs.Network.{Network}
 use Rattle.logic.specs.Table.{Signal, surroundAt}
 use Rattle.logic.specs.Counts.{surroundRounds}
 use Rattle.counting.specs.Totals.{mostBelow}
-use Rattle.roads.specs.Roads.{weightAmong}
 use Rattle.values.specs.Chain.{chains, chainMargin}
 use Rattle.values.specs.Signals.{signalIn}
 use Rattle.surrounds.specs.declared.surround.Surround.{Surround}
-
--- one of the first roads of a sheet leads from a to b
-unfoldable pub joinedBy : List ℕ → ℕ → ℕ → ℕ → Bool
-joinedBy sheet roads a b = isRoad (weightAmong sheet roads a b)
 
 -- words with the signals of the operands, a word for each place of the network to a sample
 module _ (words : List ℕ) (s : Surround) (N : Network) where

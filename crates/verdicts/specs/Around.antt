@@ -17,7 +17,7 @@ use Rattle.lanes.specs.Rows.{Room}
 use Rattle.lanes.specs.declared.rows.Block.{Block}
 use Rattle.surrounds.specs.declared.surround.Surround as Asked
 use Rattle.surrounds.specs.Surround.{surroundIn, surroundRoundsIn}
-use Rattle.surrounds.specs.Steps.{RoadsIn}
+use Rattle.iteration.specs.Steps.{RoadsIn}
 use Rattle.ranges.specs.Ranges.{somewhereIn}
 use Rattle.locating.specs.declared.Around.{Around}
 use Rattle.locating.specs.declared.Around.the-variants.{Surround, Range}

@@ -3,9 +3,9 @@ use Prim.Native.Nat.{ℕ, suc, _-_}
 use mathlib.Core.Path.{_≡_, subst}
 use native.Mathlib.Omega.{arith}
 use Rattle.lanes.specs.Lanes.{rowIn}
-use Rattle.surrounds.specs.WorkRows.{xRow}
+use Rattle.iteration.specs.WorkRows.{xRow}
 use Rattle.surrounds.specs.Runs.{LeftOut}
-use Rattle.surrounds.proofs.Outside.{nothing-written}
+use Rattle.iteration.proofs.Outside.{nothing-written}
 use Rattle.surrounds.proofs.Centres.{left-out-none, left-out-strip, left-out-kept}
 use borrow.Author.Needs.{needs}
 use Rattle.surrounds.proofs.runs.leave_out.Statement.{statement}

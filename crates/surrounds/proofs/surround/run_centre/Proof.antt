@@ -7,9 +7,9 @@ use lib.ListN.{length}
 use Rattle.words.specs.Bytes.{wordsOf}
 use Rattle.lanes.specs.Lanes.{rowIn}
 use Rattle.lanes.specs.Rows.{TableThere}
-use Rattle.surrounds.specs.WorkRows.{ringRow, xRow}
-use Rattle.surrounds.specs.Steps.{Settled}
-use Rattle.surrounds.specs.Blocks.{CentreMasked}
+use Rattle.iteration.specs.WorkRows.{ringRow, xRow}
+use Rattle.iteration.specs.Steps.{Settled}
+use Rattle.iteration.specs.Masks.{CentreMasked}
 use Rattle.surrounds.proofs.Centres.{made-at, run-start, run-settled, raised-worked, raised-run}
 use borrow.Author.Needs.{needs}
 use Rattle.surrounds.proofs.surround.run_centre.Statement.{statement}

@@ -11,9 +11,9 @@ use Rattle.checks.specs.Limits.{mostPlaces}
 use Rattle.lanes.specs.Lanes.{outRow}
 use Rattle.lanes.specs.Rows.{KeptBelow}
 use Rattle.lanes.proofs.RowLaws.{kept-below-refl, kept-below-trans, kept-below-lower}
-use Rattle.surrounds.specs.WorkRows.{Worked}
+use Rattle.iteration.specs.WorkRows.{Worked}
 use Rattle.surrounds.specs.Lent.{RowsReadyIn, RunDoneIn}
-use Rattle.surrounds.proofs.Masks.{cleared-low}
+use Rattle.iteration.proofs.Masks.{cleared-low}
 use Rattle.surrounds.proofs.Centres.{made-at}
 use Rattle.surrounds.proofs.RunRows.{run-none, run-made, run-skipped}
 use Rattle.surrounds.proofs.KeptRows.{ready-kept, centre-run-kept, run-done-kept}

@@ -1,0 +1,209 @@
+-- The least of a number and of what lies at the other ends of roads: one road more, all roads together as the definition has it, and the round that they make.
+use mathlib.Core.Path.{_≡_, refl, sym, ap, subst, _∙_}
+use mathlib.Core.Bool.{Bool, true, false, cond, _&&_, _||_}
+use mathlib.Core.List.{List}
+use mathlib.Core.Logic.{_⊎_, inl, inr, ⊎-elim}
+use Prim.Native.Nat.{ℕ, zero, suc, _+_, _<_, _≤_, min}
+use native.Mathlib.Nat.{not-suc-le-zero}
+use native.Mathlib.Decide.{ℕ-discrete}
+use native.Mathlib.Numerals.{add-one}
+use native.Mathlib.Omega.{arith}
+use lib.Dec.{T, eqb, eqb→eq, eqb-refl}
+use lib.ListN.{length}
+use Rattle.logic.specs.Lattice.{leastOver}
+use Rattle.network.specs.Distance.{Distance, dist}
+use Rattle.network.specs.Network.{isRoad}
+use Rattle.logic.proofs.Keeps.{same-kept, least-kept}
+use Rattle.counting.proofs.Tests.{below, and-i, and-l, and-r, or-l, or-r, or-e}
+use Rattle.roads.specs.Roads.{firstOf, secondOf, weightOf, joins, weightAmong}
+use Rattle.values.specs.Chain.{chainLattice, highest}
+use Rattle.values.proofs.Naturals.{meet-min}
+use Rattle.lanes.specs.Lanes.{lanes, Numbers, rowIn}
+use Rattle.lanes.specs.Rows.{KeptBelow}
+use Rattle.lanes.proofs.RowLaws.{kept-below-trans, kept-below-lower}
+use Rattle.iteration.specs.WorkRows.{ringRow, xRow, oldRow, bothRow, Worked, KeptBut}
+use Rattle.iteration.specs.Steps.{joinedBy, RoadsIn, Bounded, Joined, RoadPulled, LeastOf, Stepped, Round}
+use Rattle.iteration.proofs.Outside.{row-same, but-below, stepped-low}
+
+-- ---- leastOver on chain numbers
+cond-le : (t : Bool) (z a b : ℕ) → (T t → z ≤ a) → z ≤ b → z ≤ cond t a b
+cond-le true z a b h k = h tt
+cond-le false z a b h k = k
+
+cond-under : (t : Bool) (a b : ℕ) → T t → cond t a b ≤ a
+cond-under true a b h = omega arith
+cond-under false a b h = absurd h
+
+module _ (test : ℕ → Bool) (f : ℕ → ℕ) where
+  over-greatest : (n z : ℕ) → z ≤ highest → ((p : ℕ) → p < n → T (test p) → z ≤ f p) → z ≤ leastOver chainLattice test f n
+  unfolding leastOver
+  over-greatest zero z h k = h
+  over-greatest (suc n) z h k = rw meet-min (
+      let a = over-greatest n z h (λ p l. k p (omega arith)) in
+      let b = cond-le (test n) z (f n) highest (k n (omega arith)) h in
+      omega arith)
+
+  over-under : (n p : ℕ) → p < n → T (test p) → leastOver chainLattice test f n ≤ f p
+  unfolding leastOver
+  over-under zero p l t = absurd (not-suc-le-zero l)
+  over-under (suc n) p l t = rw meet-min (⊎-elim
+      (λ e. let b = cond-under (test n) (f n) highest (subst (λ (k : ℕ). T (test k)) e t) in rw e (omega arith))
+      (λ k. let b = over-under n p k t in omega arith)
+      (below l))
+
+  least-over : (y x n : ℕ) → x ≤ highest → ((p : ℕ) → T (test p) → p < n) → LeastOf y x test f → y ≡ chainLattice .meet x (leastOver chainLattice test f n)
+  least-over y x n h inside w = rw meet-min (
+      let up = over-greatest n y (omega (arith, w .below)) (λ p _ t. w .under p t) in
+      let down = w .greatest (min x (leastOver chainLattice test f n)) (omega arith) (λ p t. let u = over-under n p (inside p t) t in omega arith) in
+      omega (arith, w .below))
+
+-- ---- one more number to take the least of
+least-same : (y x : ℕ) (t u : ℕ → Bool) (f : ℕ → ℕ) → ((p : ℕ) → T (t p) → T (u p)) → ((p : ℕ) → T (u p) → T (t p)) → LeastOf y x t f → LeastOf y x u f
+least-same y x t u f to from w = record {
+  below = w .below;
+  under = λ p h. w .under p (from p h);
+  greatest = λ z a h. w .greatest z a (λ p k. h p (to p k));
+}
+
+least-more : (y x b : ℕ) (t u : ℕ → Bool) (f : ℕ → ℕ) → ((p : ℕ) → T (t p) → T (u p)) → T (u b) → ((p : ℕ) → T (u p) → (p ≡ b) ⊎ T (t p))
+    → LeastOf y x t f → LeastOf (chainLattice .meet y (f b)) x u f
+least-more y x b t u f to new from w = rw meet-min (record {
+  below = omega (arith, w .below);
+  under = λ p h. ⊎-elim (λ e. rw e (omega arith)) (λ k. omega (arith, w .under p k)) (from p h);
+  greatest = λ z a h. let k = w .greatest z a (λ p t. h p (to p t)) in omega (arith, h b new);
+})
+
+-- ---- one more road
+module _ (sheet : List ℕ) (r a b : ℕ) where
+  joined-more : joinedBy sheet (suc r) a b ≡ (joins sheet r a b || joinedBy sheet r a b)
+  unfolding joinedBy weightAmong
+  joined-more = go (joins sheet r a b)
+    where
+      go : (t : Bool) → isRoad (elim t as (λ _. Distance) [ true ↦ dist (weightOf sheet r) | false ↦ weightAmong sheet r a b ]) ≡ (t || isRoad (weightAmong sheet r a b))
+      go true = refl
+      go false = refl
+
+  joined-now : T (joins sheet r a b) → T (joinedBy sheet (suc r) a b)
+  joined-now h = rw joined-more (or-l (joins sheet r a b) _ h)
+
+  joined-before : T (joinedBy sheet r a b) → T (joinedBy sheet (suc r) a b)
+  joined-before h = rw joined-more (or-r (joins sheet r a b) _ h)
+
+  joined-either : T (joinedBy sheet (suc r) a b) → T (joins sheet r a b) ⊎ T (joinedBy sheet r a b)
+  joined-either h = or-e (joins sheet r a b) _ (rw joined-more at h)
+
+  abbrev first : ℕ
+  first = firstOf sheet r
+
+  abbrev second : ℕ
+  second = secondOf sheet r
+
+  joins-e : T (joins sheet r a b) → ((first ≡ a) × (second ≡ b)) ⊎ ((first ≡ b) × (second ≡ a))
+  unfolding joins
+  joins-e h = ⊎-elim
+      (λ k. inl (eqb→eq first a (and-l (eqb first a) _ k), eqb→eq second b (and-r (eqb first a) _ k)))
+      (λ k. inr (eqb→eq first b (and-l (eqb first b) _ k), eqb→eq second a (and-r (eqb first b) _ k)))
+      (or-e (eqb first a && eqb second b) _ h)
+
+module _ (sheet : List ℕ) (r : ℕ) (both x x′ : Numbers) where
+  abbrev a : ℕ
+  a = firstOf sheet r
+
+  abbrev b : ℕ
+  b = secondOf sheet r
+
+  there : T (joins sheet r a b)
+  unfolding joins
+  there = or-l (eqb a a && eqb b b) _ (and-i (eqb a a) _ (eqb-refl a) (eqb-refl b))
+
+  back : T (joins sheet r b a)
+  unfolding joins
+  back = or-r (eqb a b && eqb b a) _ (and-i (eqb a a) _ (eqb-refl a) (eqb-refl b))
+
+  -- what joins the place that pulls was joined before, or is the other end
+  module _ (order : a < b) where
+    from-first : (p : ℕ) → T (joinedBy sheet (suc r) a p) → (p ≡ b) ⊎ T (joinedBy sheet r a p)
+    from-first p h = ⊎-elim
+        (λ k. ⊎-elim (λ e. inl (sym (e .1))) (λ e. absurd (let f = e .1 in omega arith)) (joins-e sheet r a p k))
+        inr
+        (joined-either sheet r a p h)
+
+    from-second : (p : ℕ) → T (joinedBy sheet (suc r) b p) → (p ≡ a) ⊎ T (joinedBy sheet r b p)
+    from-second p h = ⊎-elim
+        (λ k. ⊎-elim (λ e. absurd (let f = e .0 in omega arith)) (λ e. inl (sym (e .0))) (joins-e sheet r b p k))
+        inr
+        (joined-either sheet r b p h)
+
+    from-other : (q p : ℕ) → (q ≡ a → ⊥) → (q ≡ b → ⊥) → T (joinedBy sheet (suc r) q p) → T (joinedBy sheet r q p)
+    from-other q p u v h = ⊎-elim
+        (λ k. ⊎-elim (λ e. absurd (u (sym (e .0)))) (λ e. absurd (v (sym (e .1)))) (joins-e sheet r q p k))
+        (λ k. k)
+        (joined-either sheet r q p h)
+
+    pub road-more : (x₀ : Numbers) → RoadPulled a b both x x′ → Stepped sheet r both x₀ x → Stepped sheet (r + 1) both x₀ x′
+    road-more x₀ w s = rw add-one (record { least = λ q lane l. at q lane l (ℕ-discrete q a) (ℕ-discrete q b) })
+      where
+        at : (q lane : ℕ) → lane < lanes → Dec (q ≡ a) → Dec (q ≡ b) → LeastOf (x′ lane q) (x₀ lane q) (joinedBy sheet (suc r) q) (both lane)
+        at q lane l (yes e) v =
+            rw (e, w .first lane l)
+            (least-more (x lane a) (x₀ lane a) b (joinedBy sheet r a) (joinedBy sheet (suc r) a) (both lane)
+            (joined-before sheet r a) (joined-now sheet r a b there) from-first (s .least a lane l))
+        at q lane l (no u) (yes e) =
+            rw (e, w .second lane l)
+            (least-more (x lane b) (x₀ lane b) a (joinedBy sheet r b) (joinedBy sheet (suc r) b) (both lane)
+            (joined-before sheet r b) (joined-now sheet r b a back) from-second (s .least b lane l))
+        at q lane l (no u) (no v) =
+            rw (w .other q lane l u v)
+            (least-same (x lane q) (x₀ lane q) (joinedBy sheet r q) (joinedBy sheet (suc r) q) (both lane)
+            (joined-before sheet r q) (λ p h. from-other q p u v h) (s .least q lane l))
+
+-- ---- no road, and all roads
+not-joined : (sheet : List ℕ) (a b : ℕ) → T (joinedBy sheet 0 a b) → ⊥
+unfolding joinedBy weightAmong
+not-joined sheet a b h = h
+
+pub stepped-none : (sheet : List ℕ) (both x : Numbers) → Stepped sheet 0 both x x
+stepped-none sheet both x = record {
+  least = λ q lane l. record {
+    below = omega arith;
+    under = λ p h. absurd (not-joined sheet q p h);
+    greatest = λ z h k. h;
+  };
+}
+
+joined-inside : (sheet : List ℕ) (roads n : ℕ) → RoadsIn sheet roads n → (r : ℕ) → r ≤ roads → (q p : ℕ) → T (joinedBy sheet r q p) → p < n
+joined-inside sheet roads n i zero l q p h = absurd (not-joined sheet q p h)
+joined-inside sheet roads n i (suc r) l q p h = ⊎-elim
+    (λ k. let o = i .order r l in let b = i .inside r l in ⊎-elim (λ e. let f = e .1 in omega arith) (λ e. let f = e .0 in omega arith) (joins-e sheet r q p k))
+    (λ k. joined-inside sheet roads n i r (omega arith) q p k)
+    (joined-either sheet r q p h)
+
+-- ---- a round, in which x is joined and then steps
+module _ {sheet : List ℕ} {roads : ℕ} {inside : List Bool} {before middle after : List ℕ} (i : RoadsIn sheet roads (length inside)) (b : Bounded (rowIn before xRow) (length inside))
+    (j : Joined (rowIn before xRow) (rowIn before ringRow) (rowIn middle oldRow) (rowIn middle bothRow) (length inside)) (w : Worked oldRow inside before middle)
+    (s : Stepped sheet roads (rowIn middle bothRow) (rowIn middle xRow) (rowIn after xRow)) (k : KeptBut xRow middle after) where
+  from-before : (place lane : ℕ) → lane < lanes → LeastOf (rowIn after xRow lane place) (rowIn before xRow lane place) (joinedBy sheet roads place) (rowIn middle bothRow lane)
+  from-before place lane l = subst (λ (v : ℕ). LeastOf (rowIn after xRow lane place) v (joinedBy sheet roads place) (rowIn middle bothRow lane)) (w .kept .kept xRow place lane (omega arith) l) (s .least place lane l)
+
+  pub round-made : Round sheet roads (length inside) (rowIn before ringRow) (rowIn before xRow) (rowIn after oldRow) (rowIn after xRow)
+  round-made = record {
+    former = λ place lane l m. k .kept oldRow place lane (omega arith) m (λ e. absurd (omega arith)) ∙ j .former place lane l m;
+    stepped = λ place lane l m.
+        least-over (joinedBy sheet roads place) (rowIn middle bothRow lane) (rowIn after xRow lane place) (rowIn before xRow lane place) (length inside)
+        (b .bound place lane l m) (joined-inside sheet roads (length inside) i roads (omega arith) place) (from-before place lane m)
+        ∙ ap (chainLattice .meet (rowIn before xRow lane place))
+        (least-kept chainLattice chainLattice (λ u v. u ≡ v) (same-kept chainLattice) (joinedBy sheet roads place) _ _ (length inside) (λ p c _. j .handed p lane c m));
+  }
+
+  pub round-worked : Worked xRow inside before after
+  round-worked = record { kept = kept-below-trans (kept-below-lower (w .kept) (omega arith)) (but-below (omega arith) (omega arith) k); low = stepped-low s k (w .low) }
+
+-- the ring has not changed since the first round
+pub round-as : {sheet : List ℕ} {roads n : ℕ} {before rows : List ℕ} {x old y : Numbers} → KeptBelow xRow before rows → Round sheet roads n (rowIn rows ringRow) x old y
+    → Round sheet roads n (rowIn before ringRow) x old y
+round-as {sheet} {roads} {n} {x = x} {y = y} k w = record {
+  former = w .former;
+  stepped = λ place lane b l. subst
+      (λ (q : ℕ → ℕ). y lane place ≡ chainLattice .meet (x lane place) (leastOver chainLattice (joinedBy sheet roads place) (λ p. chainLattice .join (x lane p) (q p)) n))
+      (row-same k ringRow (omega arith) lane l) (w .stepped place lane b l);
+}

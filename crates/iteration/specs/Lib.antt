@@ -1,0 +1,3 @@
+pub mod WorkRows
+pub mod Steps
+pub mod Masks
