@@ -1,3 +1,4 @@
 pub mod WorkRows
 pub mod Steps
 pub mod Masks
+pub mod Lent

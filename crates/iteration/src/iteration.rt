@@ -3,8 +3,9 @@ ghost use Prim.Native.Nat.{_*_, _/_, _≤_, _<_};
 ghost use lib.ListN.{length};
 ghost use Rattle.words.specs.Bytes.{wordsOf};
 ghost use Rattle.lanes.specs.Lanes.{rowIn};
-ghost use Rattle.iteration.specs.WorkRows.{ringRow, xRow, oldRow, bothRow, LowOutside, Worked, KeptBut};
-ghost use Rattle.iteration.specs.Steps.{RoadsIn, Bounded, Start, Joined, RoadPulled, Stepped, Round, RowsApart, Settled};
+ghost use Rattle.iteration.specs.WorkRows.{xRow, oldRow, bothRow, LowOutside, Worked, KeptBut};
+ghost use Rattle.iteration.specs.Steps.{RoadsIn, Bounded, Start, RoadPulled, Stepped, RowsApart};
+ghost use Rattle.iteration.specs.Lent.{JoinedIn, RoundIn, SettledIn};
 use checks::head::is_wide;
 use lanes::ROWS;
 use lanes::strips::combine_strips;
@@ -30,7 +31,7 @@ const BOTH: usize = 6;
 // Keeps the former numbers, and makes of them what each place hands to its neighbours: a pull must not read a place that has stepped already.
 fn join(rows: &mut [u32], inside: &[bool])
     requires { ⌜ LowOutside (now inside) (now rows) ⌝ }
-    ensures joined { λ _. ⌜ Joined (rowIn (now (rows .entry)) xRow) (rowIn (now (rows .entry)) ringRow) (rowIn (now (rows .exit)) oldRow) (rowIn (now (rows .exit)) bothRow) (length (now (inside .entry))) ⌝ }
+    ensures joined { λ _. ⌜ JoinedIn (now (rows .entry)) (now (inside .entry)) (now (rows .exit)) ⌝ }
     ensures worked { λ _. ⌜ Worked oldRow (now (inside .entry)) (now (rows .entry)) (now (rows .exit)) ⌝ }
 {
     for place in 0..inside.len() {
@@ -77,7 +78,7 @@ fn step(rows: &mut [u32], inside: &[bool], sheet: &[u8], network: Network)
 
 fn round(rows: &mut [u32], inside: &[bool], sheet: &[u8], network: Network)
     requires { ⌜ RoadsIn (wordsOf (now sheet)) (network .roads) (length (now inside)) × Bounded (rowIn (now rows) xRow) (length (now inside)) × LowOutside (now inside) (now rows) ⌝ }
-    ensures stepped { λ _. ⌜ Round (wordsOf (now (sheet .entry))) (network .roads) (length (now (inside .entry))) (rowIn (now (rows .entry)) ringRow) (rowIn (now (rows .entry)) xRow) (rowIn (now (rows .exit)) oldRow) (rowIn (now (rows .exit)) xRow) ⌝ }
+    ensures stepped { λ _. ⌜ RoundIn (now (rows .entry)) (now (inside .entry)) (now (sheet .entry)) network (now (rows .exit)) ⌝ }
     ensures worked { λ _. ⌜ Worked xRow (now (inside .entry)) (now (rows .entry)) (now (rows .exit)) ⌝ }
 {
     join(rows, inside);
@@ -101,7 +102,7 @@ fn changed(rows: &[u32], inside: &[bool], unit: u32) -> bool
 // move after these.
 pub fn settle(rows: &mut [u32], inside: &[bool], sheet: &[u8], network: Network) -> u64
     requires { ⌜ Start (wordsOf (now sheet)) (network .roads) (now inside) (now rows) ⌝ }
-    ensures settled { λ r. ⌜ Settled (wordsOf (now (sheet .entry))) (network .roads) (length (now (inside .entry))) (rowIn (now (rows .entry)) ringRow) (rowIn (now (rows .entry)) xRow) r (rowIn (now (rows .exit)) xRow) ⌝ }
+    ensures settled { λ r. ⌜ SettledIn (now (rows .entry)) (now (inside .entry)) (now (sheet .entry)) network (now (rows .exit)) r ⌝ }
     ensures worked { λ _. ⌜ Worked xRow (now (inside .entry)) (now (rows .entry)) (now (rows .exit)) ⌝ }
 {
     let mut rounds: u64 = 1;

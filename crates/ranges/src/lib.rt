@@ -10,11 +10,9 @@ use lanes::strips::fill_strip;
 use lines::operator::Bounds;
 ghost use mathlib.Core.Path.{_≡_};
 ghost use Prim.Native.Nat.{_<_};
-ghost use Rattle.lanes.specs.Lanes.{lanes, leftRow, outRow, stripOf, rowIn};
-ghost use Rattle.lanes.specs.Strips.{Written};
-ghost use Rattle.lanes.specs.Rows.{Room, RowWritten, TableThere};
-ghost use Rattle.ranges.specs.Ranges.{ofNone, gatheredIn};
-ghost use Rattle.ranges.specs.Lent.{RangeReadyIn, RangeDoneIn};
+ghost use Rattle.lanes.specs.Rows.{Room, TableThere};
+ghost use Rattle.ranges.specs.Ranges.{ofNone};
+ghost use Rattle.ranges.specs.Lent.{CentreGatheredIn, CentresGatheredIn, RangeReadyIn, RangeDoneIn};
 
 // What is asked about every centre. The operand is the index at which its signal begins.
 pub struct Range {
@@ -44,7 +42,7 @@ fn gather(
     least: bool,
 )
     requires { ⌜ (centre < places) × TableThere (now distances) places × Room places (now rows) ⌝ }
-    ensures { λ _. ⌜ Written (stripOf outRow centre) lanes (λ lane. gatheredIn least (now (distances .entry)) places bounds (rowIn (now (rows .entry)) leftRow) lane centre) (now (rows .entry)) (now (rows .exit)) ⌝ }
+    ensures { λ _. ⌜ CentreGatheredIn (now (rows .entry)) (now (distances .entry)) places bounds least centre (now (rows .exit)) ⌝ }
 {
     let to = centre * ROWS + OUT;
     fill_strip(rows, to, of_none(least));
@@ -57,7 +55,7 @@ fn gather(
 
 fn gather_all(rows: &mut [u32], distances: &[u8], places: usize, bounds: Bounds, least: bool)
     requires { ⌜ TableThere (now distances) places × Room places (now rows) ⌝ }
-    ensures { λ _. ⌜ RowWritten outRow places (gatheredIn least (now (distances .entry)) places bounds (rowIn (now (rows .entry)) leftRow)) (now (rows .entry)) (now (rows .exit)) ⌝ }
+    ensures { λ _. ⌜ CentresGatheredIn (now (rows .entry)) (now (distances .entry)) places bounds least (now (rows .exit)) ⌝ }
 {
     for centre in 0..places {
         gather(rows, distances, centre, places, bounds, least);
