@@ -18,7 +18,7 @@ use Rattle.counting.proofs.Tests.{below, and-i, and-l, and-r, or-l, or-r, or-e}
 use Rattle.roads.specs.Roads.{firstOf, secondOf, weightOf, joins, weightAmong}
 use Rattle.values.specs.Chain.{chainLattice, highest}
 use Rattle.values.proofs.Naturals.{meet-min}
-use Rattle.lanes.specs.Lanes.{lanes, Numbers, rowIn}
+use Rattle.lanes.specs.Lanes.{lanes, rowCount, Numbers, rowIn}
 use Rattle.lanes.specs.Rows.{KeptBelow}
 use Rattle.lanes.proofs.RowLaws.{kept-below-trans, kept-below-lower}
 use Rattle.iteration.specs.WorkRows.{ringRow, xRow, oldRow, bothRow, Worked, KeptBut}
@@ -171,10 +171,10 @@ stepped-none sheet both x = record {
   };
 }
 
-joined-inside : (sheet : List ℕ) (roads n : ℕ) → RoadsIn sheet roads n → (r : ℕ) → r ≤ roads → (q p : ℕ) → T (joinedBy sheet r q p) → p < n
+joined-inside : (sheet : List ℕ) (roads n : ℕ) → RoadsIn sheet roads n → (r : ℕ) → r ≤ roads → (q p : ℕ) → T (joinedBy sheet r q p) → (q < n) × (p < n)
 joined-inside sheet roads n i zero l q p h = absurd (not-joined sheet q p h)
 joined-inside sheet roads n i (suc r) l q p h = ⊎-elim
-    (λ k. let o = i .order r l in let b = i .inside r l in ⊎-elim (λ e. let f = e .1 in omega arith) (λ e. let f = e .0 in omega arith) (joins-e sheet r q p k))
+    (λ k. let o = i .order r l in let b = i .inside r l in ⊎-elim (λ e. (omega (arith, e .0), omega (arith, e .1))) (λ e. (omega (arith, e .1), omega (arith, e .0))) (joins-e sheet r q p k))
     (λ k. joined-inside sheet roads n i r (omega arith) q p k)
     (joined-either sheet r q p h)
 
@@ -185,24 +185,43 @@ module _ {sheet : List ℕ} {roads : ℕ} {inside : List Bool} {before middle af
   from-before : (place lane : ℕ) → lane < lanes → LeastOf (rowIn after xRow lane place) (rowIn before xRow lane place) (joinedBy sheet roads place) (rowIn middle bothRow lane)
   from-before place lane l = subst (λ (v : ℕ). LeastOf (rowIn after xRow lane place) v (joinedBy sheet roads place) (rowIn middle bothRow lane)) (w .kept .kept xRow place lane (omega arith) l) (s .least place lane l)
 
-  pub round-made : Round sheet roads (length inside) (rowIn before ringRow) (rowIn before xRow) (rowIn after oldRow) (rowIn after xRow)
-  round-made = record {
+  pub round-joined : Joined (rowIn before xRow) (rowIn before ringRow) (rowIn after oldRow) (rowIn after bothRow) (length inside)
+  round-joined = record {
     former = λ place lane l m. k .kept oldRow place lane (omega arith) m (λ e. absurd (omega arith)) ∙ j .former place lane l m;
+    handed = λ place lane l m. k .kept bothRow place lane (omega arith) m (λ e. absurd (omega arith)) ∙ j .handed place lane l m;
+  }
+
+  pub round-made : Round sheet roads (length inside) (rowIn before ringRow) (rowIn before xRow) (rowIn after xRow)
+  round-made = record {
     stepped = λ place lane l m.
         least-over (joinedBy sheet roads place) (rowIn middle bothRow lane) (rowIn after xRow lane place) (rowIn before xRow lane place) (length inside)
-        (b .bound place lane l m) (joined-inside sheet roads (length inside) i roads (omega arith) place) (from-before place lane m)
+        (b .bound place lane l m) (λ p t. joined-inside sheet roads (length inside) i roads (omega arith) place p t .1) (from-before place lane m)
         ∙ ap (chainLattice .meet (rowIn before xRow lane place))
         (least-kept chainLattice chainLattice (λ u v. u ≡ v) (same-kept chainLattice) (joinedBy sheet roads place) _ _ (length inside) (λ p c _. j .handed p lane c m));
   }
 
+  -- no road leads from a place past the last
+  x-past : (place lane : ℕ) → length inside ≤ place → lane < lanes → rowIn after xRow lane place ≡ rowIn before xRow lane place
+  x-past place lane l m =
+      let least = from-before place lane m in
+      let up = least .greatest (rowIn before xRow lane place) (omega arith) (λ p t. absurd (omega (arith, joined-inside sheet roads (length inside) i roads (omega arith) place p t .0))) in
+      omega (arith, least .below)
+
   pub round-worked : Worked xRow inside before after
-  round-worked = record { kept = kept-below-trans (kept-below-lower (w .kept) (omega arith)) (but-below (omega arith) (omega arith) k); low = stepped-low s k (w .low) }
+  round-worked = record {
+    kept = kept-below-trans (kept-below-lower (w .kept) (omega arith)) (but-below (omega arith) (omega arith) k);
+    past = record { kept = λ row place lane c l m. at row place lane c l m (ℕ-discrete row xRow) };
+    low = stepped-low s k (w .low);
+  }
+    where
+      at : (row place lane : ℕ) → row < rowCount → length inside ≤ place → lane < lanes → Dec (row ≡ xRow) → rowIn after row lane place ≡ rowIn before row lane place
+      at row place lane c l m (yes same) = rw same (x-past place lane l m)
+      at row place lane c l m (no other) = k .kept row place lane c m other ∙ w .past .kept row place lane c l m
 
 -- the ring has not changed since the first round
-pub round-as : {sheet : List ℕ} {roads n : ℕ} {before rows : List ℕ} {x old y : Numbers} → KeptBelow xRow before rows → Round sheet roads n (rowIn rows ringRow) x old y
-    → Round sheet roads n (rowIn before ringRow) x old y
+pub round-as : {sheet : List ℕ} {roads n : ℕ} {before rows : List ℕ} {x y : Numbers} → KeptBelow xRow before rows → Round sheet roads n (rowIn rows ringRow) x y
+    → Round sheet roads n (rowIn before ringRow) x y
 round-as {sheet} {roads} {n} {x = x} {y = y} k w = record {
-  former = w .former;
   stepped = λ place lane b l. subst
       (λ (q : ℕ → ℕ). y lane place ≡ chainLattice .meet (x lane place) (leastOver chainLattice (joinedBy sheet roads place) (λ p. chainLattice .join (x lane p) (q p)) n))
       (row-same k ringRow (omega arith) lane l) (w .stepped place lane b l);

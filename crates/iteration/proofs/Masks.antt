@@ -17,7 +17,7 @@ use Rattle.values.specs.Signals.{inTable}
 use Rattle.lanes.specs.Lanes.{lanes, rowCount, leftRow, rightRow, laneOf, stripOf, rowIn}
 use Rattle.lanes.specs.Strips.{Written}
 use Rattle.lanes.specs.Rows.{Room, within, flagged, Marked, maskedBy}
-use Rattle.lanes.proofs.RowLaws.{strip-written, strip-kept, kept-below-refl, kept-below-trans, kept-below-strip, masked-in, masked-out, marked-none, marked-more}
+use Rattle.lanes.proofs.RowLaws.{strip-written, strip-kept, kept-below-refl, kept-below-trans, kept-below-strip, kept-past-refl, masked-in, masked-out, marked-none, marked-more}
 use Rattle.iteration.specs.WorkRows.{ringRow, xRow, LowOutside, WrittenAt, PlaceCleared, Cleared}
 use Rattle.iteration.specs.Masks.{ballOf, PlaceMasked, CentreMasked}
 
@@ -46,6 +46,8 @@ module _ (place : ℕ) {rows middle : List ℕ} (v : Written (stripOf xRow place
   place-masked long ring w again e = record {
     left-there = λ lane l. strip-kept ringRow place w (omega arith) xRow place lane (omega arith) l (λ e _. absurd (omega arith)) ∙ strip-written xRow place v lane l;
     right-there = λ lane l. strip-written ringRow place w lane l ∙ e lane l;
+    others = λ row lane c b l. strip-kept ringRow place w (omega arith) row place lane b l (λ e _. absurd (omega arith))
+        ∙ strip-kept xRow place v (omega arith) row place lane b l (λ e _. absurd (omega arith));
     only = strip-at ringRow place (omega arith) (omega arith) (strip-at xRow place (omega arith) (omega arith) (nothing-at place rows) v long) w again;
   }
 
@@ -65,7 +67,7 @@ place-cleared-more {place} {row} {after = after} d c b e w long = record {
 }
 
 pub cleared-none : (rows : List ℕ) → Cleared 0 rows rows
-cleared-none rows = record { low = λ row p lane c d b l. absurd (omega arith); kept = kept-below-refl _ _ }
+cleared-none rows = record { low = λ row p lane c d b l. absurd (omega arith); kept = kept-below-refl _ _; past = kept-past-refl _ _ }
 
 pub cleared-more : {k : ℕ} {before rows after : List ℕ} → Cleared k before rows → PlaceCleared k rowCount rows after → Cleared (k + 1) before after
 cleared-more {k} {after = after} d p = record {
@@ -74,6 +76,7 @@ cleared-more {k} {after = after} d p = record {
       (p .low row lane c b l)
       place h;
   kept = kept-below-trans (d .kept) (p .only .kept);
+  past = record { kept = λ row place lane c b l. p .only .elsewhere row place lane c l (λ e. absurd (omega arith)) ∙ d .past .kept row place lane c (omega arith) l };
 }
 
 pub cleared-low : {inside : List Bool} {n : ℕ} {before rows : List ℕ} → Cleared n before rows → Room n before → length inside ≡ n → LowOutside inside rows
@@ -118,15 +121,19 @@ module _ (n : ℕ) (distances : List ℕ) (b : Bounds) (centre : ℕ) where
     ball = marked-none _ _;
     left-masked = record { at = λ p lane c l. absurd (omega arith) };
     right-masked = record { at = λ p lane c l. absurd (omega arith) };
-    worked = record { kept = kept-below-refl _ _; low = o };
+    others = λ row p lane c d b l e. absurd (omega arith);
+    kept = kept-below-refl _ _;
+    past = kept-past-refl _ _;
+    low = o;
   }
 
   module _ {k : ℕ} {before rows : List ℕ} {inside : List Bool} (m : CentreMasked n distances b centre k before inside rows) where
     centre-more : {inside′ : List Bool} {after : List ℕ} → Marked ball inside′ (k + 1) → WrittenAt k rows after
         → ((lane : ℕ) → lane < lanes → rowIn after xRow lane k ≡ maskedBy ball (rowIn before leftRow) lane k)
         → ((lane : ℕ) → lane < lanes → rowIn after ringRow lane k ≡ maskedBy about (rowIn before rightRow) lane k)
+        → ((row lane : ℕ) → xRow < row → row < rowCount → lane < lanes → ball k ≡ true → rowIn after row lane k ≡ rowIn before row lane k)
         → LowOutside inside′ after → CentreMasked n distances b centre (k + 1) before inside′ after
-    centre-more {after = after} flags w x ring low = record {
+    centre-more {after = after} flags w x ring others low = record {
       ball = flags;
       left-masked = record {
         at = λ place lane c l. below-more (λ p. rowIn after xRow lane p ≡ maskedBy ball (rowIn before leftRow) lane p) k
@@ -136,7 +143,11 @@ module _ (n : ℕ) (distances : List ℕ) (b : Bounds) (centre : ℕ) where
         at = λ place lane c l. below-more (λ p. rowIn after ringRow lane p ≡ maskedBy about (rowIn before rightRow) lane p) k
             (λ p less. w .elsewhere ringRow p lane (omega arith) l (λ e. absurd (omega arith)) ∙ m .right-masked .at p lane less l) (ring lane l) place c;
       };
-      worked = record { kept = kept-below-trans (m .worked .kept) (w .kept); low = low };
+      others = λ row place lane c d h l t. below-more (λ p. ball p ≡ true → rowIn after row lane p ≡ rowIn before row lane p) k
+          (λ p less u. w .elsewhere row p lane d l (λ e. absurd (omega arith)) ∙ m .others row p lane c d less l u) (others row lane c d l) place h t;
+      kept = kept-below-trans (m .kept) (w .kept);
+      past = record { kept = λ row p lane c h l. w .elsewhere row p lane c l (λ e. absurd (omega arith)) ∙ m .past .kept row p lane c (omega arith) l };
+      low = low;
     }
 
     -- a place in the ball
@@ -146,24 +157,26 @@ module _ (n : ℕ) (distances : List ℕ) (b : Bounds) (centre : ℕ) where
     centre-inside c e f p = centre-more
         (marked-more ball inside k true (m .ball) c e)
         (p .only)
-        (λ lane l. p .left-there lane l ∙ m .worked .kept .kept leftRow k lane (omega arith) l ∙ masked-in ball (rowIn before leftRow) lane k (sym e))
-        (λ lane l. p .right-there lane l ∙ ap₂ (λ (t : Bool) (v : ℕ). cond t v 0) f (m .worked .kept .kept rightRow k lane (omega arith) l))
-        (low-flag k true c (m .worked .low) (p .only) (λ z. absurd (false≢true (sym z))))
+        (λ lane l. p .left-there lane l ∙ m .kept .kept leftRow k lane (omega arith) l ∙ masked-in ball (rowIn before leftRow) lane k (sym e))
+        (λ lane l. p .right-there lane l ∙ ap₂ (λ (t : Bool) (v : ℕ). cond t v 0) f (m .kept .kept rightRow k lane (omega arith) l))
+        (λ row lane d h l _. p .others row lane d h l ∙ m .past .kept row k lane h (omega arith) l)
+        (low-flag k true c (m .low) (p .only) (λ z. absurd (false≢true (sym z))))
 
     module _ (e : ball k ≡ false) {after : List ℕ} (low : (row lane : ℕ) → ringRow ≤ row → row < rowCount → lane < lanes → rowIn after row lane k ≡ 0) where
       outside-more : {inside′ : List Bool} → Marked ball inside′ (k + 1) → WrittenAt k rows after → LowOutside inside′ after → CentreMasked n distances b centre (k + 1) before inside′ after
       outside-more flags w o = centre-more flags w
           (λ lane l. low xRow lane (omega arith) (omega arith) l ∙ masked-out ball (rowIn before leftRow) lane k e)
           (λ lane l. low ringRow lane (omega arith) (omega arith) l ∙ masked-out about (rowIn before rightRow) lane k (outside-range k e))
+          (λ row lane c d l t. absurd (false≢true (sym e ∙ t)))
           o
 
     -- one that leaves it, and one that stays outside
     pub centre-left : {after : List ℕ} → k < length inside → ball k ≡ false → PlaceCleared k rowCount rows after → CentreMasked n distances b centre (k + 1) before (set inside k false) after
-    centre-left c e p = outside-more e (p .low) (marked-more ball inside k false (m .ball) c (sym e)) (p .only) (low-flag k false c (m .worked .low) (p .only) (λ _. p .low))
+    centre-left c e p = outside-more e (p .low) (marked-more ball inside k false (m .ball) c (sym e)) (p .only) (low-flag k false c (m .low) (p .only) (λ _. p .low))
 
     pub centre-outside : k < length inside → ball k ≡ false → flagged inside k ≡ false → CentreMasked n distances b centre (k + 1) before inside rows
     centre-outside c e f = outside-more e
-        (λ row lane d h l. m .worked .low .low row k lane d h c l f)
+        (λ row lane d h l. m .low .low row k lane d h c l f)
         (record { flag = below-more (λ p. flagged inside p ≡ ball p) k (m .ball .flag) (f ∙ sym e) })
         (nothing-at k rows)
-        (m .worked .low)
+        (m .low)

@@ -13,7 +13,7 @@ use Rattle.values.proofs.Naturals.{meet-min}
 use Rattle.lanes.specs.Lanes.{lanes, rowCount, laneOf, stripOf, Numbers, rowIn}
 use Rattle.lanes.specs.Strips.{Written, StripsApart}
 use Rattle.lanes.specs.Rows.{KeptBelow, flagged}
-use Rattle.lanes.proofs.RowLaws.{strip-written, strip-kept, kept-below-refl, kept-below-trans, kept-below-strip}
+use Rattle.lanes.proofs.RowLaws.{strip-written, strip-kept, kept-below-refl, kept-below-trans, kept-below-strip, kept-past-refl, kept-past-trans, kept-past-strip}
 use Rattle.iteration.specs.WorkRows.{ringRow, xRow, oldRow, bothRow, LowOutside, Worked, KeptBut}
 use Rattle.iteration.specs.Steps.{Joined, RoadPulled, Stepped, RowsApart}
 
@@ -140,7 +140,7 @@ pub record Joining (inside : List Bool) (before rows : List ℕ) (k : ℕ) : Typ
 pub joining-none : {inside : List Bool} {rows : List ℕ} → LowOutside inside rows → Joining inside rows rows 0
 joining-none o = record {
   joined = record { former = λ p lane b l. absurd (omega arith); handed = λ p lane b l. absurd (omega arith) };
-  worked = record { kept = kept-below-refl _ _; low = o };
+  worked = record { kept = kept-below-refl _ _; past = kept-past-refl _ _; low = o };
 }
 
 module _ {inside : List Bool} {before rows : List ℕ} {k : ℕ} (j : Joining inside before rows k) where
@@ -159,20 +159,21 @@ module _ {inside : List Bool} {before rows : List ℕ} {k : ℕ} (j : Joining in
         (λ p c. kept bothRow p lane (omega arith) l c ∙ j .joined .handed p lane c l) (handed lane l) place b;
   }
 
-  pub joining-inside : {middle after : List ℕ} → flagged inside k ≡ true
+  pub joining-inside : {middle after : List ℕ} → k < length inside → flagged inside k ≡ true
       → Written (stripOf oldRow k) lanes (λ lane. laneOf rows lane (stripOf xRow k)) rows middle → length middle ≡ length rows
       → Written (stripOf bothRow k) lanes (λ lane. chainLattice .join (laneOf middle lane (stripOf xRow k)) (laneOf middle lane (stripOf ringRow k))) middle after → length after ≡ length middle
       → Joining inside before after (k + 1)
   unfolding rowIn
-  joining-inside {after = after} i v long w again = record {
+  joining-inside {after = after} b i v long w again = record {
     joined = joined-more after
-        (λ row p lane b l c. strip-kept bothRow k w (omega arith) row p lane b l (λ _ e. absurd (omega arith)) ∙ strip-kept oldRow k v (omega arith) row p lane b l (λ _ e. absurd (omega arith)))
+        (λ row p lane d l c. strip-kept bothRow k w (omega arith) row p lane d l (λ _ e. absurd (omega arith)) ∙ strip-kept oldRow k v (omega arith) row p lane d l (λ _ e. absurd (omega arith)))
         (λ lane l. strip-kept bothRow k w (omega arith) oldRow k lane (omega arith) l (λ e _. absurd (omega arith)) ∙ strip-written oldRow k v lane l ∙ read xRow lane (omega arith) l)
         (λ lane l. strip-written bothRow k w lane l ∙ ap₂ (chainLattice .join)
         (strip-kept oldRow k v (omega arith) xRow k lane (omega arith) l (λ e _. absurd (omega arith)) ∙ read xRow lane (omega arith) l)
         (strip-kept oldRow k v (omega arith) ringRow k lane (omega arith) l (λ e _. absurd (omega arith)) ∙ read ringRow lane (omega arith) l));
     worked = record {
       kept = kept-below-trans (j .worked .kept) (kept-below-trans (kept-below-strip oldRow oldRow k (omega arith) (omega arith) v long) (kept-below-strip oldRow bothRow k (omega arith) (omega arith) w again));
+      past = kept-past-trans (j .worked .past) (kept-past-trans (kept-past-strip _ oldRow k (omega arith) b v) (kept-past-strip _ bothRow k (omega arith) b w));
       low = low-inside bothRow k (omega arith) i w again (low-inside oldRow k (omega arith) i v long (j .worked .low));
     };
   }

@@ -14,7 +14,7 @@ use Rattle.counting.proofs.Totals.{sum-le, sum-lt, sum-bound, most-le, le-most}
 use Rattle.values.specs.Chain.{chainLattice, highest}
 use Rattle.values.proofs.ChainSurround.{halves-rest-after, rounds-of-halves}
 use Rattle.lanes.specs.Lanes.{lanes, Numbers}
-use Rattle.iteration.specs.Steps.{joinedBy, RowsApart, Bounded, ValidRow, Round, stepIn, roundsIn, Settled}
+use Rattle.iteration.specs.Steps.{joinedBy, RowsApart, Bounded, ValidRow, Joined, Round, stepIn, roundsIn, Settled}
 use Rattle.values.proofs.Naturals.{meet-min}
 
 -- the sum of all numbers of n places
@@ -91,13 +91,14 @@ pub record Turn (sheet : List ℕ) (roads n : ℕ) (right x₀ x old y : Numbers
   pub valid-start : ValidRow x₀ n
   pub valid-right : ValidRow right n
   pub going : Going sheet roads n right x₀ x r
-  pub round : Round sheet roads n right x old y
+  pub former : (place lane : ℕ) → place < n → lane < lanes → old lane place ≡ x lane place
+  pub round : Round sheet roads n right x y
 
 module _ {sheet : List ℕ} {roads n : ℕ} {right x₀ x old y : Numbers} {r : ℕ} (turn : Turn sheet roads n right x₀ x old y r) where
   abbrev g : Going sheet roads n right x₀ x r
   g = turn .going
 
-  abbrev w : Round sheet roads n right x old y
+  abbrev w : Round sheet roads n right x y
   w = turn .round
 
   next : (place lane : ℕ) → place < n → lane < lanes → y lane place ≡ stepIn sheet roads n right x₀ lane (suc (g .steps)) place
@@ -107,7 +108,7 @@ module _ {sheet : List ℕ} {roads n : ℕ} {right x₀ x old y : Numbers} {r : 
       (λ k c _. ap₂ (chainLattice .join) (g .reached k lane c l) refl))
 
   former : (place lane : ℕ) → place < n → lane < lanes → old lane place ≡ stepIn sheet roads n right x₀ lane (g .steps) place
-  former place lane b l = w .former place lane b l ∙ g .reached place lane b l
+  former place lane b l = turn .former place lane b l ∙ g .reached place lane b l
 
   down : (place lane : ℕ) → place < n → lane < lanes → y lane place ≤ x lane place
   down place lane b l = rw (w .stepped place lane b l, meet-min) (omega arith)
@@ -119,7 +120,7 @@ module _ {sheet : List ℕ} {roads n : ℕ} {right x₀ x old y : Numbers} {r : 
   unfolding total
   total-falls h t e a =
       let (place, lane, b, l, ne) = a .apart e in
-      let other : y lane place ≡ x lane place → ⊥ = λ q. ne (ap h (w .former place lane b l ∙ sym q)) in
+      let other : y lane place ≡ x lane place → ⊥ = λ q. ne (ap h (turn .former place lane b l ∙ sym q)) in
       sum-lt _ _ n place
       (λ p c. sum-le (λ m. y m p) (λ m. x m p) lanes (λ m d. down p m c d))
       b
@@ -170,3 +171,14 @@ module _ {sheet : List ℕ} {roads n : ℕ} {right x₀ x old y : Numbers} {r : 
     where
       same : (place lane : ℕ) → place < n → lane < lanes → y lane place ≡ old lane place
       same place lane b l = omega (arith, d .alike f place lane b l)
+
+-- at rest the former numbers are those that the places have, and what they hand over is made of them
+pub rest-joined : {x ring old both y ring′ : Numbers} {n : ℕ} → Joined x ring old both n → (t : Bool) → t ≡ false → RowsApart t (λ v. v / 1) old y n
+    → ((place lane : ℕ) → lane < lanes → ring′ lane place ≡ ring lane place) → Joined y ring′ old both n
+rest-joined {old = old} {y = y} {n = n} j t e a kept = record {
+  former = same;
+  handed = λ place lane b l. j .handed place lane b l ∙ ap₂ (chainLattice .join) (sym (j .former place lane b l) ∙ same place lane b l) (sym (kept place lane l));
+}
+  where
+    same : (place lane : ℕ) → place < n → lane < lanes → old lane place ≡ y lane place
+    same place lane b l = omega (arith, a .alike e place lane b l)

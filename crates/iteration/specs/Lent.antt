@@ -19,7 +19,7 @@ module _ (rows : List ℕ) (inside : List Bool) where
   -- on the roads of a sheet: they have made one step, and have come to rest after r rounds
   module _ (sheet : List ℕ) (network : Network) where
     abbrev pub RoundIn : List ℕ → Type 0
-    RoundIn after = Round (wordsOf sheet) (network .roads) (length inside) (rowIn rows ringRow) (rowIn rows xRow) (rowIn after oldRow) (rowIn after xRow)
+    RoundIn after = Round (wordsOf sheet) (network .roads) (length inside) (rowIn rows ringRow) (rowIn rows xRow) (rowIn after xRow)
 
     abbrev pub SettledIn : List ℕ → ℕ → Type 0
     SettledIn after r = Settled (wordsOf sheet) (network .roads) (length inside) (rowIn rows ringRow) (rowIn rows xRow) r (rowIn after xRow)

@@ -64,9 +64,8 @@ pub record LeastOf (y x : ℕ) (test : ℕ → Bool) (f : ℕ → ℕ) : Type 0 
 pub record Stepped (sheet : List ℕ) (roads : ℕ) (both before after : Numbers) : Type 0 where
   pub least : (place lane : ℕ) → lane < lanes → LeastOf (after lane place) (before lane place) (joinedBy sheet roads place) (both lane)
 
--- one step of Definition 4.4 in every lane, with the former numbers in `old`
-pub record Round (sheet : List ℕ) (roads n : ℕ) (right before old after : Numbers) : Type 0 where
-  pub former : (place lane : ℕ) → place < n → lane < lanes → old lane place ≡ before lane place
+-- one step of Definition 4.4 in every lane
+pub record Round (sheet : List ℕ) (roads n : ℕ) (right before after : Numbers) : Type 0 where
   pub stepped : (place lane : ℕ) → place < n → lane < lanes → after lane place
       ≡ chainLattice .meet (before lane place) (leastOver chainLattice (joinedBy sheet roads place) (λ k. chainLattice .join (before lane k) (right lane k)) n)
 

@@ -6,7 +6,7 @@ use mathlib.Core.List.{List}
 use Prim.Native.Nat.{ℕ, _<_, _≤_}
 use lib.ListN.{length}
 use Rattle.lanes.specs.Lanes.{lanes, rowCount, rowIn}
-use Rattle.lanes.specs.Rows.{Room, KeptBelow, flagged}
+use Rattle.lanes.specs.Rows.{Room, KeptBelow, KeptPast, flagged}
 
 -- the ring about a centre, what its places have, what they had a round before, and what they hand to their neighbours
 abbrev pub ringRow : ℕ
@@ -26,9 +26,10 @@ pub record LowOutside (inside : List Bool) (rows : List ℕ) : Type 0 where
   pub room : Room (length inside) rows
   pub low : (row place lane : ℕ) → ringRow ≤ row → row < rowCount → place < length inside → lane < lanes → flagged inside place ≡ false → rowIn rows row lane place ≡ 0
 
--- the rows below one are kept, and those to work in are lowest outside
+-- the rows below one are kept, and what stands past the places that the flags are of; those to work in are lowest outside
 pub record Worked (row : ℕ) (inside : List Bool) (before after : List ℕ) : Type 0 where
   pub kept : KeptBelow row before after
+  pub past : KeptPast (length inside) before after
   pub low : LowOutside inside after
 
 -- all rows but one are kept
@@ -49,3 +50,4 @@ pub record PlaceCleared (place row : ℕ) (before after : List ℕ) : Type 0 whe
 pub record Cleared (k : ℕ) (before after : List ℕ) : Type 0 where
   pub low : (row place lane : ℕ) → ringRow ≤ row → row < rowCount → place < k → lane < lanes → rowIn after row lane place ≡ 0
   pub kept : KeptBelow ringRow before after
+  pub past : KeptPast k before after

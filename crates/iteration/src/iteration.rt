@@ -78,6 +78,7 @@ fn step(rows: &mut [u32], inside: &[bool], sheet: &[u8], network: Network)
 
 fn round(rows: &mut [u32], inside: &[bool], sheet: &[u8], network: Network)
     requires { ⌜ RoadsIn (wordsOf (now sheet)) (network .roads) (length (now inside)) × Bounded (rowIn (now rows) xRow) (length (now inside)) × LowOutside (now inside) (now rows) ⌝ }
+    ensures joined { λ _. ⌜ JoinedIn (now (rows .entry)) (now (inside .entry)) (now (rows .exit)) ⌝ }
     ensures stepped { λ _. ⌜ RoundIn (now (rows .entry)) (now (inside .entry)) (now (sheet .entry)) network (now (rows .exit)) ⌝ }
     ensures worked { λ _. ⌜ Worked xRow (now (inside .entry)) (now (rows .entry)) (now (rows .exit)) ⌝ }
 {
@@ -99,11 +100,12 @@ fn changed(rows: &[u32], inside: &[bool], unit: u32) -> bool
 }
 
 // Steps until no place changes in any lane. The rounds are 1 plus the number of steps in which a margin fell in some lane; verdicts may still
-// move after these.
+// move after these. At rest the former numbers are those that the places have, and what is handed over is made of them.
 pub fn settle(rows: &mut [u32], inside: &[bool], sheet: &[u8], network: Network) -> u64
     requires { ⌜ Start (wordsOf (now sheet)) (network .roads) (now inside) (now rows) ⌝ }
     ensures settled { λ r. ⌜ SettledIn (now (rows .entry)) (now (inside .entry)) (now (sheet .entry)) network (now (rows .exit)) r ⌝ }
     ensures worked { λ _. ⌜ Worked xRow (now (inside .entry)) (now (rows .entry)) (now (rows .exit)) ⌝ }
+    ensures joined { λ _. ⌜ JoinedIn (now (rows .exit)) (now (inside .entry)) (now (rows .exit)) ⌝ }
 {
     let mut rounds: u64 = 1;
     loop {

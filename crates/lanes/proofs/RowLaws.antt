@@ -18,7 +18,7 @@ use Rattle.values.specs.Signals.{signalIn}
 use Rattle.lanes.specs.declared.rows.Block.{Block}
 use Rattle.lanes.specs.Lanes.{lanes, rowCount, stripOf, Numbers, rowIn}
 use Rattle.lanes.specs.Strips.{Written}
-use Rattle.lanes.specs.Rows.{RowOf, RowWritten, KeptBelow, laneSignal, flagged, Marked, maskedBy}
+use Rattle.lanes.specs.Rows.{RowOf, RowWritten, KeptBelow, KeptPast, laneSignal, flagged, Marked, maskedBy}
 
 -- ---- the strips of a buffer
 
@@ -95,6 +95,16 @@ kept-below-row h b w = record {
   kept = λ other place lane c l. other-row-kept w other (omega arith) (λ same. absurd (omega arith)) place lane l;
   long = w .long;
 }
+
+-- ---- places past the first n that are kept
+pub kept-past-refl : (n : ℕ) (buffer : List ℕ) → KeptPast n buffer buffer
+kept-past-refl n buffer = record { kept = λ _ _ _ _ _ _. refl }
+
+pub kept-past-trans : {n : ℕ} {before buffer after : List ℕ} → KeptPast n before buffer → KeptPast n buffer after → KeptPast n before after
+kept-past-trans w v = record { kept = λ row place lane c b l. v .kept row place lane c b l ∙ w .kept row place lane c b l }
+
+pub kept-past-strip : (n row place : ℕ) {f : ℕ → ℕ} {before after : List ℕ} → row < rowCount → place < n → Written (stripOf row place) lanes f before after → KeptPast n before after
+kept-past-strip n row place b c w = record { kept = λ other k lane d h l. strip-kept row place w b other k lane d l (λ _ same. absurd (omega arith)) }
 
 -- ---- masks and flags
 pub masked-in : (test : ℕ → Bool) (row : Numbers) (lane place : ℕ) → test place ≡ true → row lane place ≡ maskedBy test row lane place

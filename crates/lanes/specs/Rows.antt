@@ -33,6 +33,10 @@ pub record KeptBelow (row : ℕ) (before after : List ℕ) : Type 0 where
   pub kept : (other place lane : ℕ) → other < row → lane < lanes → rowIn after other lane place ≡ rowIn before other lane place
   pub long : length after ≡ length before
 
+-- what stands past the first n places is kept, in every row
+pub record KeptPast (n : ℕ) (before after : List ℕ) : Type 0 where
+  pub kept : (row place lane : ℕ) → row < rowCount → n ≤ place → lane < lanes → rowIn after row lane place ≡ rowIn before row lane place
+
 -- ---- signals: n words to a sample from index `start` on
 
 -- the samples of a block are there

@@ -5,7 +5,9 @@ use mathlib.Core.Logic.{⊎-elim}
 use mathlib.Core.Bool.{Bool, true, false, not, cond, _&&_, _||_}
 use mathlib.Core.List.{List}
 use Prim.Native.Nat.{ℕ, zero, suc, _<_, _≤_}
+use native.Mathlib.Decide.{ℕ-discrete}
 use native.Mathlib.Omega.{arith}
+use borrow.Author.Tests.{ne-eqb}
 use lib.Dec.{T-not, eqb, eqb→eq, eqb-refl}
 use lib.ListN.{length}
 use Rattle.words.specs.Bytes.{wordsOf, numbersOf}
@@ -27,10 +29,10 @@ use Rattle.values.specs.Signals.{inTable}
 use Rattle.values.proofs.Valid.{valid-kept}
 use Rattle.values.proofs.Projections.{margin-kept}
 use Rattle.values.proofs.ChainSurround.{surround-rested}
-use Rattle.lanes.specs.Lanes.{lanes, leftRow, rightRow, outRow, laneOf, stripOf, Numbers, rowIn}
+use Rattle.lanes.specs.Lanes.{lanes, rowCount, leftRow, rightRow, outRow, laneOf, stripOf, Numbers, rowIn}
 use Rattle.lanes.specs.Strips.{Written}
-use Rattle.lanes.specs.Rows.{RowOf, KeptBelow, within, maskedBy}
-use Rattle.lanes.proofs.RowLaws.{strip-written, strip-kept, kept-below-trans, kept-below-lower, kept-below-strip}
+use Rattle.lanes.specs.Rows.{RowOf, KeptBelow, KeptPast, within, maskedBy}
+use Rattle.lanes.proofs.RowLaws.{strip-written, strip-kept, kept-below-trans, kept-below-lower, kept-below-strip, kept-past-trans, kept-past-strip}
 use Rattle.iteration.specs.WorkRows.{ringRow, xRow, Worked, KeptBut}
 use Rattle.iteration.specs.Steps.{joinedBy, RoadsIn, ValidRow, Start, Settled, roundsIn}
 use Rattle.iteration.specs.Masks.{ballOf, CentreMasked}
@@ -75,6 +77,19 @@ module _ (k : ℕ) {v : ℕ} {before after : List ℕ} (w : Written (stripOf xRo
 
   pub left-out-kept : length after ≡ length before → KeptBut xRow before after
   left-out-kept long = record { kept = λ row p lane c l other. strip-kept xRow k w (omega arith) row p lane c l (λ same _. other same); long = long }
+
+-- past the place that it leaves out a run leaves all as it is
+left-out-same : (run : ℕ) (f : ℕ → ℕ) (p : ℕ) → run ≤ p → leftOut chainLattice run f p ≡ f p
+unfolding leftOut except masked
+left-out-same zero f p b = refl
+left-out-same (suc k) f p b = rw (ne-eqb p k (λ e. absurd (omega arith))) refl
+
+left-out-past : {run n : ℕ} {before after : List ℕ} → run ≤ n → LeftOut run (rowIn before xRow) (rowIn after xRow) → KeptBut xRow before after → KeptPast n before after
+left-out-past {run} {n} {before} {after} b out k = record { kept = λ row p lane c h l. at row p lane c h l (ℕ-discrete row xRow) }
+  where
+    at : (row p lane : ℕ) → row < rowCount → n ≤ p → lane < lanes → Dec (row ≡ xRow) → rowIn after row lane p ≡ rowIn before row lane p
+    at row p lane c h l (yes same) = rw same (out .at p lane l ∙ left-out-same run (rowIn before xRow lane) p (omega arith))
+    at row p lane c h l (no other) = k .kept row p lane c l other
 
 -- leaving out after masking is masking after leaving out
 left-out-masked : (run : ℕ) (test : ℕ → Bool) (f g : ℕ → ℕ) (p : ℕ) → f p ≡ masked chainLattice test g p
@@ -167,7 +182,7 @@ module _ {rows masked-rows start : List ℕ} {n : ℕ} {sheet : List ℕ} {roads
         ring-valid = subst (ValidRow ring) (sym all) (masked-valid _ right ring n ring-masked (ready .right-valid));
         low = low-fallen kept
             (λ p lane l. subst (λ (v : ℕ). v ≤ rowIn masked-rows xRow lane p) (sym (out .at p lane l)) (left-out-either (λ v. v ≤ rowIn masked-rows xRow lane p) run (rowIn masked-rows xRow lane) p (omega arith) (omega arith)))
-            (m .worked .low);
+            (m .low);
       }
 
   module _ (here : centre < n) where
@@ -216,11 +231,14 @@ module _ {n : ℕ} {distances : List ℕ} {bounds : Bounds} {centre : ℕ} {rows
     (long : length after ≡ length settled) where
   -- the rows of the operands, and of what comes of them, till then
   untouched : KeptBelow ringRow rows settled
-  untouched = kept-below-trans (m .worked .kept) (kept-below-trans (but-below (omega arith) (omega arith) kept) (kept-below-lower (s .kept) (omega arith)))
+  untouched = kept-below-trans (m .kept) (kept-below-trans (but-below (omega arith) (omega arith) kept) (kept-below-lower (s .kept) (omega arith)))
 
-  pub raised-worked : Worked outRow inside rows after
-  raised-worked = record {
+  pub raised-worked : {run : ℕ} → LeftOut run (rowIn masked-rows xRow) (rowIn start xRow) → run ≤ n → centre < n → length inside ≡ n → Worked outRow inside rows after
+  raised-worked out number here all = record {
     kept = kept-below-trans (kept-below-lower untouched (omega arith)) (kept-below-strip outRow outRow centre (omega arith) (omega arith) w long);
+    past = subst (λ (k : ℕ). KeptPast k rows after) (sym all)
+        (kept-past-trans (kept-past-trans (m .past) (left-out-past number out kept))
+        (kept-past-trans (subst (λ (k : ℕ). KeptPast k start settled) all (s .past)) (kept-past-strip n outRow centre (omega arith) here w)));
     low = record {
       room = omega (arith, s .low .room);
       low = λ row p lane c d h l e. strip-kept outRow centre w (omega arith) row p lane d l (λ same _. absurd (omega arith)) ∙ s .low .low row p lane c d h l e;

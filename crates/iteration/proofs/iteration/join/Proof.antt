@@ -23,7 +23,7 @@ loop-again : tie.Need-loop-again Inv-loop μ-loop
 loop-again c =
     let h = c .before .before .before .loop in
     ⊎-elim
-    (λ w. rw (w .9) (search needs, joining-inside (h .inv .1) (w .0 .taken) (w .2 .ensures) (w .2 .kept .0) (w .6 .ensures) (w .6 .kept .0)))
+    (λ w. rw (w .9) (search needs, joining-inside (h .inv .1) (c .before .before .loop-test .taken) (w .0 .taken) (w .2 .ensures) (w .2 .kept .0) (w .6 .ensures) (w .6 .kept .0)))
     (λ w. rw (w .1) (search needs, joining-outside (h .inv .1) (c .before .before .loop-test .taken) (w .0 .left)))
     (c .if1 .came)
 

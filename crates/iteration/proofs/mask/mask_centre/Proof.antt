@@ -24,7 +24,7 @@ mask-next-requires : tie.Need-mask-next-requires Inv-loop μ-loop
 mask-next-requires c κs =
     let start = c .before .before .before .before .before .before .before in
     let h = c .before .before .before .loop in
-    (search needs, search needs, subst (TableThere (start .args .distances .now)) (sym (h .inv .1)) (start .pre .1), h .inv .2 .worked .low)
+    (search needs, search needs, subst (TableThere (start .args .distances .now)) (sym (h .inv .1)) (start .pre .1), h .inv .2 .low)
 
 loop-again : tie.Need-loop-again Inv-loop μ-loop
 loop-again c =

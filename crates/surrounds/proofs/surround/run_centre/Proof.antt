@@ -52,8 +52,8 @@ returns c =
     let raise = c .before .before .combine-strips in
     let made = sym (made-at (g .distances .now) (p .ready) (p .here) (g .run .islands) (g .run .number) (p .number)) ∙ p .made in
     let settled = subst (λ (k : ℕ). Settled (wordsOf (g .sheet .now)) (g .network .roads) k (rowIn (out .last .0) ringRow) (rowIn (out .last .0) xRow) (s .result) (rowIn (s .last .0) xRow)) (count m) (s .ensures .0) in (
-      raised-run (masked m) (out .ensures .1) (s .ensures .1) (raise .ensures) (raise .kept .0) (run-settled (p .ready) (masked m) (out .ensures .0) (out .ensures .1) (p .here) made settled),
-      raised-worked (masked m) (out .ensures .1) (s .ensures .1) (raise .ensures) (raise .kept .0),
+      raised-run (masked m) (out .ensures .1) (s .ensures .1 .0) (raise .ensures) (raise .kept .0) (run-settled (p .ready) (masked m) (out .ensures .0) (out .ensures .1) (p .here) made settled),
+      raised-worked (masked m) (out .ensures .1) (s .ensures .1 .0) (raise .ensures) (raise .kept .0) (out .ensures .0) (p .number) (p .here) (count m),
     )
 
 pub run-centre-spec : {M : Type 1} → statement M

@@ -9,8 +9,8 @@ use lib.ListN.{length, take, drop}
 use lib.Seq.{length-take-le, length-front, take-at}
 use Rattle.checks.specs.Limits.{mostPlaces}
 use Rattle.lanes.specs.Lanes.{outRow}
-use Rattle.lanes.specs.Rows.{KeptBelow}
-use Rattle.lanes.proofs.RowLaws.{kept-below-refl, kept-below-trans, kept-below-lower}
+use Rattle.lanes.specs.Rows.{KeptBelow, KeptPast}
+use Rattle.lanes.proofs.RowLaws.{kept-below-refl, kept-below-trans, kept-below-lower, kept-past-refl, kept-past-trans}
 use Rattle.iteration.specs.WorkRows.{Worked}
 use Rattle.surrounds.specs.Lent.{RowsReadyIn, RunDoneIn}
 use Rattle.iteration.proofs.Masks.{cleared-low}
@@ -33,7 +33,7 @@ loop-holds c =
     let start = c .before .before .before .before .before .before .before in (
       search needs,
       search needs,
-      record { kept = kept-below-refl _ _; low = cleared-low (c .before .before .clear-all .ensures) (start .pre .1) (length-take-le _ _ (omega (arith, start .pre .0 .few-places))) },
+      record { kept = kept-below-refl _ _; past = kept-past-refl _ _; low = cleared-low (c .before .before .clear-all .ensures) (start .pre .1) (length-take-le _ _ (omega (arith, start .pre .0 .few-places))) },
       run-none _,
     )
 
@@ -91,7 +91,11 @@ loop-again-2 c =
     let again : take (n t) (flags ++ drop (n t) (h .inside)) ≡ flags = take-at flags _ (n t) (run .kept .1 .0 ∙ all t) in (
       omega (arith, t .loop-test .taken),
       length-front (h .inside) flags (n t) (run .kept .1 .0) ∙ h .inv .1,
-      subst (λ (f : List Bool). Worked outRow f (cleared t) (run .last .0)) (sym again) (record { kept = kept-below-trans (h .inv .2 .kept) (run .ensures .1 .kept); low = run .ensures .1 .low }),
+      subst (λ (f : List Bool). Worked outRow f (cleared t) (run .last .0)) (sym again) (record {
+        kept = kept-below-trans (h .inv .2 .kept) (run .ensures .1 .kept);
+        past = kept-past-trans (subst (λ (k : ℕ). KeptPast k (cleared t) (h .rows)) (sym (run .kept .1 .0)) (h .inv .2 .past)) (run .ensures .1 .past);
+        low = run .ensures .1 .low;
+      }),
       rw (c .greater-of .ensures) (run-made (h .inv .3) (centre-run-kept (h .inv .2 .kept) (run .ensures .0))),
     )
 
