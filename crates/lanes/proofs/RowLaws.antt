@@ -106,6 +106,9 @@ kept-past-trans w v = record { kept = λ row place lane c b l. v .kept row place
 pub kept-past-strip : (n row place : ℕ) {f : ℕ → ℕ} {before after : List ℕ} → row < rowCount → place < n → Written (stripOf row place) lanes f before after → KeptPast n before after
 kept-past-strip n row place b c w = record { kept = λ other k lane d h l. strip-kept row place w b other k lane d l (λ _ same. absurd (omega arith)) }
 
+pub kept-past-row : {row n : ℕ} {f : Numbers} {before after : List ℕ} → RowWritten row n f before after → KeptPast n before after
+kept-past-row w = record { kept = λ other place lane c b l. w .kept other place lane c l (λ _. b) }
+
 -- ---- masks and flags
 pub masked-in : (test : ℕ → Bool) (row : Numbers) (lane place : ℕ) → test place ≡ true → row lane place ≡ maskedBy test row lane place
 unfolding masked

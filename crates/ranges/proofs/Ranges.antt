@@ -119,5 +119,7 @@ range-done words left n distances block bounds dual before loaded after ready de
       ∙ gathered-same (within distances n centre bounds) (rowIn loaded leftRow lane) (λ _. 0) n
       (λ k d. lane-zero words left n block (rowIn loaded leftRow) (decoded .written) lane k h c d) dual
       ∙ gathered-meant dual (λ _ _. 0) n _ (bounds .lower) (bounds .upper) lane centre (λ _. omega arith);
+  operand = record { at = λ place lane b h. other-row-kept done leftRow (omega arith) (λ e. absurd (omega arith)) place lane h ∙ decoded .written .at place lane b h };
+  kept = λ row place lane b h left-past out-past. done .kept row place lane b h out-past ∙ decoded .kept row place lane b h left-past;
   long = done .long ∙ decoded .long;
 }

@@ -11,8 +11,8 @@ use Rattle.checks.specs.Limits.{mostPlaces}
 use Rattle.lines.specs.declared.operator.Bounds.{Bounds}
 use Rattle.values.specs.Chain.{chains, chainLattice, highest}
 use Rattle.values.specs.Signals.{signalIn, turned, inTable}
-use Rattle.lanes.specs.Lanes.{lanes, outRow, Numbers, rowIn}
-use Rattle.lanes.specs.Rows.{within}
+use Rattle.lanes.specs.Lanes.{lanes, rowCount, leftRow, outRow, Numbers, rowIn}
+use Rattle.lanes.specs.Rows.{RowOf, laneSignal, within}
 
 -- somewhere, or its dual, everywhere: the opposite of somewhere of the opposite
 abbrev pub somewhereIn : Bool → List ℕ → ℕ → Signal chains → ℕ → ℕ → Signal chains
@@ -41,10 +41,13 @@ module _ (words : List ℕ) (left n : ℕ) (distances : List ℕ) (first count :
     pub there : left + (first + count) * n ≤ length words
     pub distances-there : n * n ≤ length distances
 
-  -- row `outRow` has the value of sample first + lane at each centre; a lane without a sample has the value of the lowest signal
+  -- row `outRow` has the value of sample first + lane at each centre, where a lane without a sample has the value of the lowest signal; the row of the operand
+  -- has its signal, and all else is kept
   pub record RangeDone (lower upper : ℕ) (dual : Bool) (before after : List ℕ) : Type 0 where
     pub values : (centre lane : ℕ) → centre < n → lane < count
         → rowIn after outRow lane centre ≡ somewhereIn dual distances n (signalIn words left n) lower upper (first + lane) centre
     pub idle : (centre lane : ℕ) → centre < n → count ≤ lane → lane < lanes
         → rowIn after outRow lane centre ≡ somewhereIn dual distances n (λ _ _. 0) lower upper lane centre
+    pub operand : RowOf (laneSignal words left n (record { first = first; count = count })) (rowIn after leftRow) n
+    pub kept : (row place lane : ℕ) → row < rowCount → lane < lanes → (row ≡ leftRow → n ≤ place) → (row ≡ outRow → n ≤ place) → rowIn after row lane place ≡ rowIn before row lane place
     pub long : length after ≡ length before

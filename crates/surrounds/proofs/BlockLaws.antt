@@ -21,7 +21,7 @@ use Rattle.values.specs.Signals.{signalIn}
 use Rattle.values.proofs.Valid.{valid-kept}
 use Rattle.lanes.specs.declared.rows.Block.{Block}
 use Rattle.lanes.specs.Lanes.{lanes, Numbers, leftRow, rightRow, outRow, rowIn}
-use Rattle.lanes.specs.Rows.{RowOf, RowWritten, laneSignal}
+use Rattle.lanes.specs.Rows.{RowOf, RowWritten, KeptPast, laneSignal}
 use Rattle.lanes.proofs.RowLaws.{other-row-kept, lane-signal, lane-zero}
 use Rattle.surrounds.specs.declared.surround.Surround.{Surround}
 use Rattle.surrounds.specs.Surround.{surroundIn, surroundRoundsIn, blockRounds}
@@ -105,10 +105,10 @@ module _ (words : List ℕ) (s : Surround) (n : ℕ) (sheet : List ℕ) (roads :
   unfolding laneRounds
   no-rounds centre lane c h = low-rounds N (s .bounds .lower) (s .bounds .upper) centre (s .islands) _ _ _ _ (λ k b. low words (s .left) n block l wl lane k h c b)
 
-  pub block-done : (before after : List ℕ) (m : ℕ) → length after ≡ length before → CentresDone l r N (s .bounds) (s .islands) (rowIn after outRow) m
+  pub block-done : (before after : List ℕ) (m : ℕ) → length after ≡ length before → RowOf l (rowIn after leftRow) n → RowOf r (rowIn after rightRow) n → KeptPast n before after → CentresDone l r N (s .bounds) (s .islands) (rowIn after outRow) m
       → BlockDone words s n sheet roads (block .first) (block .count) before after m
   unfolding laneSurround surroundIn surroundAt blockRounds
-  block-done before after m long done = record {
+  block-done before after m long kl kr past done = record {
     values = λ centre lane b c.
         done .values .at centre lane b (omega (arith, ready .few))
         ∙ surround-kept chainLattice chainLattice (λ u v. u ≡ v) (same-kept chainLattice) (joined N) n _ _ _ _
@@ -117,6 +117,9 @@ module _ (words : List ℕ) (s : Surround) (n : ℕ) (sheet : List ℕ) (roads :
     idle = λ centre lane b c h.
         done .values .at centre lane b h
         ∙ surround-low (joined N) n (s .islands) _ _ (l lane) (r lane) centre b (lane-zero words (s .left) n block l wl lane centre h c b);
+    left-row = record { at = λ place lane b h. kl .at place lane b h ∙ wl .at place lane b h };
+    right-row = record { at = λ place lane b h. kr .at place lane b h ∙ wr .at place lane b h };
+    past = past;
     long = long;
     rounds = done .rounds ∙ most-same _ _ n (λ centre b.
         most-front (roundsAt centre) (block .count) lanes 0 (ready .few) (ready .some) (no-rounds centre)

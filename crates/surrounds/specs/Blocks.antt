@@ -13,7 +13,8 @@ use Rattle.lines.specs.declared.operator.Bounds.{Bounds}
 use Rattle.roads.specs.Roads.{networkOf, distanceNumber, Measured}
 use Rattle.values.specs.Chain.{Valid}
 use Rattle.values.specs.Signals.{signalIn}
-use Rattle.lanes.specs.Lanes.{lanes, Numbers, outRow, rowIn}
+use Rattle.lanes.specs.Lanes.{lanes, Numbers, leftRow, rightRow, outRow, rowIn}
+use Rattle.lanes.specs.Rows.{RowOf, KeptPast, laneSignal}
 use Rattle.surrounds.specs.declared.surround.Surround.{Surround}
 use Rattle.surrounds.specs.Surround.{surroundIn, blockRounds}
 use Rattle.iteration.specs.Steps.{RoadsIn, ValidRow}
@@ -49,9 +50,12 @@ module _ (words : List ℕ) (s : Surround) (n : ℕ) (sheet : List ℕ) (roads :
     pub right-valid : (t l : ℕ) → first ≤ t → t < first + count → l < n → Valid (signalIn words (s .right) n t l)
 
   -- the lanes of the row of what comes of the operands are the surrounds of the samples from `first` on, and r the greatest rounds; a lane without a sample
-  -- is lowest
+  -- is lowest. The rows of the operands have their signals, and what stands past the n places is kept
   pub record BlockDone (before after : List ℕ) (r : ℕ) : Type 0 where
     pub values : (centre lane : ℕ) → centre < n → lane < count → rowIn after outRow lane centre ≡ surroundIn words s (networkOf sheet n roads) (first + lane) centre
     pub idle : (centre lane : ℕ) → centre < n → count ≤ lane → lane < lanes → rowIn after outRow lane centre ≡ 0
+    pub left-row : RowOf (laneSignal words (s .left) n (record { first = first; count = count })) (rowIn after leftRow) n
+    pub right-row : RowOf (laneSignal words (s .right) n (record { first = first; count = count })) (rowIn after rightRow) n
+    pub past : KeptPast n before after
     pub long : length after ≡ length before
     pub rounds : r ≡ blockRounds words s (networkOf sheet n roads) first count

@@ -2,7 +2,7 @@
 ghost use mathlib.Core.Path.{_≡_};
 ghost use Prim.Native.Nat.{_≤_, max};
 ghost use Rattle.lanes.specs.Lanes.{outRow};
-ghost use Rattle.lanes.specs.Rows.{Room, RowWritten, KeptBelow};
+ghost use Rattle.lanes.specs.Rows.{Room, RowWritten, KeptBelow, KeptPast};
 ghost use Rattle.iteration.specs.WorkRows.{Worked};
 ghost use Rattle.surrounds.specs.Lent.{RowsReadyIn, CentreReadyIn, CentreRunIn, RunDoneIn, CentresDoneIn, BlockReadyIn, BlockDoneIn};
 use crate::runs::Run;
@@ -77,6 +77,7 @@ fn run_centres(rows: &mut [u32], sheet: &[u8], network: Network, distances: &[u8
     requires { ⌜ RowsReadyIn (now rows) (now sheet) network (now distances) (run .bounds) × Room (network .places) (now rows) × (run .number ≤ network .places) ⌝ }
     ensures done { λ r. ⌜ RunDoneIn (now (rows .entry)) (now (sheet .entry)) network run (network .places) (now (rows .exit)) r ⌝ }
     ensures kept { λ _. ⌜ KeptBelow outRow (now (rows .entry)) (now (rows .exit)) ⌝ }
+    ensures past { λ _. ⌜ KeptPast (network .places) (now (rows .entry)) (now (rows .exit)) ⌝ }
 {
     let mut inside: [bool; MOST_PLACES] = [false; MOST_PLACES];
     let places = network.places;
@@ -102,7 +103,9 @@ fn surround_centres(
     surround: Surround,
 ) -> u64
     requires { ⌜ RowsReadyIn (now rows) (now sheet) network (now distances) (surround .bounds) × Room (network .places) (now rows) ⌝ }
-    ensures { λ r. ⌜ CentresDoneIn (now (rows .entry)) (now (sheet .entry)) network surround (now (rows .exit)) r ⌝ }
+    ensures done { λ r. ⌜ CentresDoneIn (now (rows .entry)) (now (sheet .entry)) network surround (now (rows .exit)) r ⌝ }
+    ensures kept { λ _. ⌜ KeptBelow outRow (now (rows .entry)) (now (rows .exit)) ⌝ }
+    ensures past { λ _. ⌜ KeptPast (network .places) (now (rows .entry)) (now (rows .exit)) ⌝ }
 {
     clear(rows, network.places);
     let bounds = surround.bounds;

@@ -105,10 +105,15 @@ returns c =
     let h = c .before .loop in
     let clear = c .before .before .before .before .clear-all in
     let kept : KeptBelow outRow (g .rows .now) (clear .last .0) = kept-below-lower (clear .ensures .kept) (omega arith) in
+    let few = c .before .before .before .before .before .before .before .before .before .pre .0 .few-places in
+    let all : length (take (g .network .places) (h .inside)) ≡ g .network .places = length-take-le (g .network .places) (h .inside) (omega (arith, few, h .inv .1)) in
     let e : h .centre ≡ g .network .places = omega arith in (
       run-done-kept kept (λ place lane l. clear .ensures .kept .kept outRow place lane (omega arith) l)
           (subst (λ (k : ℕ). RunDoneIn (clear .last .0) (g .sheet .now) (g .network) (g .run) k (h .rows) (h .most)) e (h .inv .3)),
-      kept-below-trans kept (h .inv .2 .kept),
+      (
+        kept-below-trans kept (h .inv .2 .kept),
+        kept-past-trans (clear .ensures .past) (subst (λ (k : ℕ). KeptPast k (clear .last .0) (h .rows)) all (h .inv .2 .past)),
+      ),
     )
 
 pub run-centres-spec : {M : Type 1} → statement M

@@ -2,9 +2,11 @@
 use Prim.Native.Nat.{ℕ}
 use mathlib.Core.Path.{_∙_}
 use mathlib.Core.List.{List}
+use native.Mathlib.Omega.{arith}
 use Rattle.words.specs.Bytes.{wordsOf, numbersOf}
 use Rattle.lanes.specs.Lanes.{leftRow, rightRow, rowIn}
 use Rattle.lanes.specs.Rows.{RowOf, laneSignal}
+use Rattle.lanes.proofs.RowLaws.{kept-past-trans, kept-past-row}
 use Rattle.surrounds.proofs.BlockLaws.{left-loaded, row-valid, block-done}
 use borrow.Author.Needs.{needs}
 use Rattle.surrounds.proofs.surround.surround_block.Statement.{statement}
@@ -46,10 +48,15 @@ returns : tie.Need-returns
 returns c =
     let read = c .before .before .before .before .before .before in
     let g = start read .args in
+    let first = read .before .before .before .before .load .ensures in
+    let second = read .load2 .ensures in
     let s = c .before .before .surround-centres in
     block-done (wordsOf (g .words .now)) (g .surround) (g .network .places) (wordsOf (g .sheet .now)) (g .network .roads) (numbersOf (wordsOf (g .distances .now))) (g .block)
     (rowIn (rows read) leftRow) (rowIn (rows read) rightRow) (start read .pre .0) (left read) (right read) (g .rows .now) (s .last .0) (s .result)
-    (s .kept .0 ∙ read .load2 .ensures .long ∙ read .before .before .before .before .load .ensures .long) (s .ensures)
+    (s .kept .0 ∙ second .long ∙ first .long)
+    (record { at = λ place lane _ l. s .ensures .1 .0 .kept leftRow place lane (omega arith) l })
+    (record { at = λ place lane _ l. s .ensures .1 .0 .kept rightRow place lane (omega arith) l })
+    (kept-past-trans (kept-past-row first) (kept-past-trans (kept-past-row second) (s .ensures .1 .1))) (s .ensures .0)
 
 pub surround-block-spec : {M : Type 1} → statement M
 surround-block-spec =

@@ -4,8 +4,8 @@ use mathlib.Core.Path.{_≡_, refl, subst}
 use mathlib.Core.Bool.{Bool, true, false}
 use native.Mathlib.Omega.{arith}
 use Rattle.lanes.specs.Lanes.{leftRow, rightRow, outRow, rowIn}
-use Rattle.lanes.specs.Rows.{KeptBelow}
-use Rattle.lanes.proofs.RowLaws.{kept-below-refl, kept-below-trans, kept-below-row}
+use Rattle.lanes.specs.Rows.{KeptBelow, KeptPast}
+use Rattle.lanes.proofs.RowLaws.{kept-below-refl, kept-below-trans, kept-below-row, kept-past-refl, kept-past-trans, kept-past-row}
 use Rattle.surrounds.specs.Runs.{runsOf, RunsDone}
 use Rattle.surrounds.specs.Lent.{networkIn}
 use Rattle.surrounds.proofs.RunRows.{runs-none, runs-more, runs-all}
@@ -16,7 +16,7 @@ use Rattle.surrounds.proofs.surround.surround_centres.Tie as tie
 
 abbrev Inv-loop : tie.InvT-loop
 Inv-loop rows₀ sheet network distances bounds islands runs most₀ number₀ rows most number = (number ≤ runs) × KeptBelow outRow rows₀ rows
-    × RunsDone (rowIn rows₀ leftRow) (rowIn rows₀ rightRow) (networkIn sheet network) bounds islands number (rowIn rows outRow) most
+    × RunsDone (rowIn rows₀ leftRow) (rowIn rows₀ rightRow) (networkIn sheet network) bounds islands number (rowIn rows outRow) most × KeptPast (network .places) rows₀ rows
 
 abbrev μ-loop : tie.MeasureT-loop
 μ-loop rows₀ sheet network distances bounds islands runs most₀ number₀ rows most number = runs - number
@@ -38,7 +38,7 @@ module _ (c : tie.After-run-count Inv-loop μ-loop) where
       either false n = omega arith
 
 loop-holds : tie.Need-loop-holds Inv-loop μ-loop
-loop-holds c = (search needs, kept-below-refl _ _, runs-none (c .before .before .before .before .clear .ensures .written))
+loop-holds c = (search needs, kept-below-refl _ _, runs-none (c .before .before .before .before .clear .ensures .written), kept-past-refl _ _)
 
 run-centres-requires : tie.Need-run-centres-requires Inv-loop μ-loop
 run-centres-requires c κs =
@@ -51,7 +51,7 @@ loop-again : tie.Need-loop-again Inv-loop μ-loop
 loop-again c =
     let h = c .before .before .before .before .before .before .loop in
     let run = c .before .before .before .run-centres in
-    (search needs, kept-below-trans (h .inv .1) (run .ensures .1), rw (c .greater-of .ensures) (runs-more (h .inv .2) (run-done-kept (h .inv .1) (λ _ _ _. refl) (run .ensures .0))))
+    (search needs, kept-below-trans (h .inv .1) (run .ensures .1 .0), rw (c .greater-of .ensures) (runs-more (h .inv .2) (run-done-kept (h .inv .1) (λ _ _ _. refl) (run .ensures .0))), kept-past-trans (h .inv .3) (run .ensures .1 .1))
 
 returns : tie.Need-returns Inv-loop μ-loop
 returns c =
@@ -59,9 +59,11 @@ returns c =
     let g = start counted .args in
     let h = c .before .loop in
     let clear = counted .before .before .before .before .clear in
-    let all : h .number ≡ runsOf (g .surround .islands) (g .network .places) = omega (arith, counted .run-count .ensures, c .loop-test .left, h .inv .0) in
-    runs-all (start counted .pre .0 .left-valid) (start counted .pre .0 .right-valid) (runs-done-kept (cleared counted)
-    (subst (λ (k : ℕ). RunsDone (rowIn (clear .last .0) leftRow) (rowIn (clear .last .0) rightRow) (networkIn (g .sheet .now) (g .network)) (g .surround .bounds) (g .surround .islands) k (rowIn (h .rows) outRow) (h .most)) all (h .inv .2)))
+    let all : h .number ≡ runsOf (g .surround .islands) (g .network .places) = omega (arith, counted .run-count .ensures, c .loop-test .left, h .inv .0) in (
+      runs-all (start counted .pre .0 .left-valid) (start counted .pre .0 .right-valid) (runs-done-kept (cleared counted)
+          (subst (λ (k : ℕ). RunsDone (rowIn (clear .last .0) leftRow) (rowIn (clear .last .0) rightRow) (networkIn (g .sheet .now) (g .network)) (g .surround .bounds) (g .surround .islands) k (rowIn (h .rows) outRow) (h .most)) all (h .inv .2))),
+      (kept-below-trans (cleared counted) (h .inv .1), kept-past-trans (kept-past-row (clear .ensures)) (h .inv .3)),
+    )
 
 pub surround-centres-spec : {M : Type 1} → statement M
 surround-centres-spec =
