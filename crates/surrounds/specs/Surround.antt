@@ -1,6 +1,5 @@
 -- The surround of two signals that stand in the words of an answer, with its rounds, on the network of a sheet's roads. These are for contracts
 -- inside the engine: no promise to a host speaks of them.
-use mathlib.Core.Bool.{Bool}
 use mathlib.Core.List.{List}
 use Prim.Native.Nat.{ℕ, _+_}
 use Rattle.network.specs.Network.{Network}
