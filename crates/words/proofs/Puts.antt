@@ -1,14 +1,16 @@
--- Laws of `put`, words in place of others: nothing put, one word more, words after words, what is kept.
-use Prim.Native.Nat.{ℕ, suc, _+_, _<_, _≤_}
-use mathlib.Core.Path.{_≡_, refl, sym, _∙_, ap}
+-- Laws of `put`, words in place of others: nothing put, one word more, words after words, what is kept, and the words of bytes that are put.
+use Prim.Native.Nat.{ℕ, suc, _+_, _*_, _<_, _≤_}
+use mathlib.Core.Path.{_≡_, refl, sym, _∙_, ap, ap₂}
 use mathlib.Core.List.{List, [], _∷_, _++_, append-assoc, append-nil}
 use native.Mathlib.Nat.{add-zero}
 use native.Mathlib.Numerals.{add-one}
 use native.Mathlib.Omega.{arith}
 use lib.ListN.{length, getD, take, drop, set, length-append, length-drop, take-append-drop}
-use lib.Seq.{length-take-le, drop-cons, set-at, append-snoc, take-at, drop-drop, drop-append-add}
+use lib.Seq.{length-take-le, drop-cons, set-at, append-snoc, take-at, take-suc, drop-drop, drop-append-add}
+use Rattle.words.specs.Bytes.{wordsOf}
 use Rattle.words.specs.Rows.{row, put}
 use Rattle.words.proofs.Rows.{length-row}
+use Rattle.words.proofs.Words.{words-count, length-words, words-append, words-drop, words-take}
 
 pub put-nil : (s : List ℕ) (i : ℕ) → put s i [] ≡ s
 unfolding put
@@ -53,6 +55,14 @@ put-more s i f n a h e =
     let r = row-more f n in
     rw (r, ← e) (rw q at p)
 
+-- a turn of a loop that copies a list
+pub put-take : (s : List ℕ) (i : ℕ) (v : List ℕ) (n : ℕ) → i + length v ≤ length s → n < length v → set (put s i (take n v)) (i + n) (getD v n 0) ≡ put s i (take (n + 1) v)
+put-take s i v n h k =
+    let l = length-take-le n v (omega arith) in
+    let p = put-snoc s i (take n v) (getD v n 0) (omega arith) in
+    let q : i + length (take n v) ≡ i + n = omega arith in
+    rw (add-one n, take-suc v n 0 k) (rw q at p)
+
 -- words put after words that were put
 pub put-append : (s : List ℕ) (i : ℕ) (v w : List ℕ) → i ≤ length s → put (put s i v) (i + length v) w ≡ put s i (v ++ w)
 unfolding put
@@ -87,3 +97,14 @@ put-four s i a b c d h =
 pub front-take : (s v : List ℕ) (n : ℕ) → length v ≡ n → take n (put s 0 v) ≡ v
 unfolding put
 front-take s v n e = take-at v (drop (0 + length v) s) n e
+
+-- whole words among bytes
+pub words-put : (b v : List ℕ) (i k : ℕ) → length v ≡ k * 4 → i + k ≤ length (wordsOf b) → wordsOf (put b (i * 4) v) ≡ put (wordsOf b) i (wordsOf v)
+unfolding put
+words-put b v i k long inside =
+    let count : length (wordsOf v) ≡ k = omega (arith, length-words v) in
+    let before : length (take (i * 4) b) ≡ i * 4 = length-take-le (i * 4) b (omega (arith, words-count b)) in
+    let end : i * 4 + length v ≡ (i + k) * 4 = omega arith in
+    let rest : wordsOf (drop (i * 4 + length v) b) ≡ drop (i + length (wordsOf v)) (wordsOf b) = rw (end, count) (words-drop b (i + k)) in
+    words-append (take (i * 4) b ++ v) (drop (i * 4 + length v) b) (i + k) (omega (arith, length-append (take (i * 4) b) v))
+    ∙ ap₂ _++_ (words-append (take (i * 4) b) v i before ∙ ap (λ (t : List ℕ). t ++ wordsOf v) (words-take b i)) rest

@@ -1,4 +1,4 @@
--- The bytes past the last whole word stay as they were when a word is put.
+-- The bytes past the last whole word stay as they were when whole words are put.
 use mathlib.Core.Path.{_≡_, ap, _∙_}
 use mathlib.Core.List.{List, [], _∷_, _++_}
 use Prim.Native.Nat.{ℕ, _+_, _-_, _*_, _<_, _≤_}
@@ -20,11 +20,13 @@ drop-put s i v k behind room =
     let back : i + length v + more ≡ k = omega arith in
     ap (λ (n : ℕ). drop n (take i s ++ v ++ rest)) index ∙ drop-append-add (take i s ++ v) rest more ∙ drop-drop more (i + length v) s ∙ ap (λ (n : ℕ). drop n s) back
 
+pub put-tail : (b v : List ℕ) (i k : ℕ) → length v ≡ k * 4 → i + k ≤ length (wordsOf b) → afterWords (put b (i * 4) v) ≡ afterWords b
+put-tail b v i k long inside =
+    let room : i * 4 + length v ≤ length b = omega (arith, words-count b) in
+    let end : length (wordsOf (put b (i * 4) v)) * 4 ≡ length (wordsOf b) * 4 = omega (arith, length-put b (i * 4) v room, length-words (put b (i * 4) v), length-words b) in
+    ap (λ (n : ℕ). drop n (put b (i * 4) v)) end ∙ drop-put b (i * 4) v (length (wordsOf b) * 4) (omega arith) room
+
+-- one word
 pub word-tail : (b after : List ℕ) (i w : ℕ) → i < length (wordsOf b) → after ≡ put b (i * 4) (bytesOf (w ∷ [])) → afterWords after ≡ afterWords b
 unfolding bytesOf
-word-tail b after i w inside stored =
-    let v = bytesOf (w ∷ []) in
-    let room : i * 4 + length v ≤ length b = omega (arith, words-count b) in
-    let same : length after ≡ length b = ap length stored ∙ length-put b (i * 4) v room in
-    let end : length (wordsOf after) * 4 ≡ length (wordsOf b) * 4 = omega (arith, length-words after, length-words b) in
-    ap (λ (n : ℕ). drop n after) end ∙ ap (drop (length (wordsOf b) * 4)) stored ∙ drop-put b (i * 4) v (length (wordsOf b) * 4) (omega arith) room
+word-tail b after i w inside stored = ap afterWords stored ∙ put-tail b (bytesOf (w ∷ [])) i 1 (omega arith) (omega arith)

@@ -1,12 +1,13 @@
 -- Bytes that are zero: the words and the numbers that they hold, and what lies past the last whole one.
-use mathlib.Core.Path.{_≡_, refl, sym, ap, _∙_}
+use mathlib.Core.Path.{_≡_, refl, sym, ap, ap₂, _∙_}
 use mathlib.Core.List.{List, _++_}
-use Prim.Native.Nat.{ℕ, zero, suc, _+_, _-_, _*_, _≤_}
+use Prim.Native.Nat.{ℕ, zero, suc, _+_, _-_, _*_, _/_, _≤_}
 use native.Mathlib.Omega.{arith}
 use lib.ListN.{length, getD, take, drop, replicate, length-append, length-take, length-drop, length-replicate}
 use lib.Seq.{drop-at, drop-drop}
 use Rattle.words.specs.Bytes.{wordsOf, numbersOf, afterWords, afterNumbers}
-use Rattle.words.proofs.Words.{length-words, words-zeros}
+use Rattle.words.specs.Rows.{padded}
+use Rattle.words.proofs.Words.{words-count, length-words, words-append, words-take, words-zeros}
 use Rattle.words.proofs.Numbers.{length-numbers, bytes-zeros}
 
 pub zero-words : (b : List ℕ) → wordsOf (replicate (length b) 0) ≡ replicate (length (wordsOf b)) 0
@@ -60,10 +61,15 @@ module _ (b e : List ℕ) (m : ℕ) (same : m ≡ length b) (zeros : e ≡ repli
   zero-numbers-tail = numbers-tail b e 0 long from-first (omega arith)
 
 -- ---- of bytes that are cleared from an index on
-pub cleared-words-tail : (b bytes after : List ℕ) (from : ℕ) → length bytes ≡ length b → from ≤ length (wordsOf b) * 4
-    → after ≡ take from bytes ++ replicate (length bytes - from) 0 → afterWords after ≡ replicate (length (afterWords b)) 0
-cleared-words-tail b bytes after from same inside cleared =
-    let front : length (take from bytes) ≡ from = omega (arith, length-take from bytes, length-words b) in
-    let long : length after ≡ length b = ap length cleared ∙ length-append (take from bytes) _ ∙ omega (arith, length-replicate {A = ℕ} (length bytes - from) 0, length-words b) in
-    words-tail b after from long
-    (ap (drop from) cleared ∙ drop-at (take from bytes) _ from front ∙ ap (λ (k : ℕ). replicate (k - from) 0) same) inside
+-- behind k words
+pub cleared-words : (b : List ℕ) (k : ℕ) → k ≤ length (wordsOf b) → wordsOf (take (k * 4) b ++ replicate (length b - k * 4) 0) ≡ padded (take k (wordsOf b)) (length (wordsOf b))
+cleared-words b k inside =
+    let rest : (length b - k * 4) / 4 ≡ length (wordsOf b) - length (take k (wordsOf b)) = omega (arith, words-count b, length-take k (wordsOf b)) in
+    words-append (take (k * 4) b) (replicate (length b - k * 4) 0) k (omega (arith, length-take (k * 4) b, words-count b))
+    ∙ ap₂ _++_ (words-take b k) (words-zeros (length b - k * 4) ∙ ap (λ (m : ℕ). replicate m 0) rest)
+
+pub cleared-words-tail : (b after : List ℕ) (from : ℕ) → from ≤ length (wordsOf b) * 4 → after ≡ take from b ++ replicate (length b - from) 0 → afterWords after ≡ replicate (length (afterWords b)) 0
+cleared-words-tail b after from inside cleared =
+    let front : length (take from b) ≡ from = omega (arith, length-take from b, length-words b) in
+    let long : length after ≡ length b = ap length cleared ∙ length-append (take from b) _ ∙ omega (arith, length-replicate {A = ℕ} (length b - from) 0, length-words b) in
+    words-tail b after from long (ap (drop from) cleared ∙ drop-at (take from b) _ from front) inside

@@ -1,11 +1,11 @@
 // Words of 32 bits and numbers of 64 bits in bytes, lowest byte first, and the fields of a word.
 ghost use mathlib.Core.Path.{_≡_};
 ghost use mathlib.Core.List.{[], _∷_};
-ghost use Prim.Native.Nat.{_+_, _*_, _<_, _^_};
-ghost use lib.ListN.{length, getD, set, replicate};
+ghost use Prim.Native.Nat.{_+_, _*_, _<_, _≤_, _^_};
+ghost use lib.ListN.{length, getD, take, set, replicate};
 ghost use Rattle.words.specs.Word.{kindOf, payloadOf, sampleOf};
-ghost use Rattle.words.specs.Bytes.{wordOfBytes, wordsOf, numbersOf, bytesOf, halvesOf};
-ghost use Rattle.words.specs.Rows.{put};
+ghost use Rattle.words.specs.Bytes.{wordOfBytes, wordsOf, numbersOf, bytesOf, halvesOf, afterWords};
+ghost use Rattle.words.specs.Rows.{put, padded};
 
 // Bits 31..28.
 pub fn kind(w: u32) -> u32
@@ -112,6 +112,28 @@ pub fn fill_zero(s: &mut [u8])
     let mut i = 0;
     while i < s.len() {
         s[i] = 0;
+        i += 1;
+    }
+}
+
+// Keeps the first words and sets every byte behind them to zero.
+pub fn clear_behind(s: &mut [u8], count: usize)
+    requires { ⌜ count ≤ length (wordsOf (now s)) ⌝ }
+    ensures kept { λ _. ⌜ wordsOf (now (s .exit)) ≡ padded (take count (wordsOf (now (s .entry)))) (length (wordsOf (now (s .entry)))) ⌝ }
+    ensures tail { λ _. ⌜ afterWords (now (s .exit)) ≡ replicate (length (afterWords (now (s .entry)))) 0 ⌝ }
+{
+    let after = count * 4;
+    fill_zero(&mut s[after..]);
+}
+
+// Puts bytes in place of as many others, from an index on.
+pub fn copy_bytes(from: &[u8], to: &mut [u8], at: usize)
+    requires { ⌜ at + length (now from) ≤ length (now to) ⌝ }
+    ensures { λ _. ⌜ now (to .exit) ≡ put (now (to .entry)) at (now (from .entry)) ⌝ }
+{
+    let mut i = 0;
+    while i < from.len() {
+        to[at + i] = from[i];
         i += 1;
     }
 }
