@@ -1,3 +1,5 @@
+pub mod Alike
 pub mod Checks
 pub mod Heads
 pub mod Tests
+pub mod ReadBack
