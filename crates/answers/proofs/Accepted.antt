@@ -19,7 +19,7 @@ use Rattle.sheet.proofs.Accepted.{SizesWithin}
 use Rattle.sheet.proofs.Whole.{AcceptedSheet, accepted-sheet}
 use Rattle.lines.proofs.AcceptedLines.{good-end, table-good, good-constants}
 use Rattle.sheet.proofs.Samples.{recording-bits}
-use Rattle.sheet.proofs.RefusalNumbers.{Number, Numbered, refuses, check-numbered}
+use Rattle.sheet.proofs.RefusalNumbers.{anyNumber, Numbered, refuses, check-numbered}
 use Rattle.answers.specs.Meant.{meantAt}
 use Rattle.answers.specs.Answer.{wordsNeeded}
 use Rattle.answers.specs.Judged.{Judged, refusal, answered, judgedBy, judged}
@@ -34,8 +34,8 @@ pub record Answered (s : List ℕ) (distances answer : ℕ) : Type 0 where
   pub found : checked s distances ≡ accepted layout
   pub left : judged s distances answer ≡ answered s distances answer layout
 
-number-zero : (number : ℕ) → Number number → number ≡ 0 → ⊥
-number-zero number h e = subst Number e h
+number-zero : (number : ℕ) → T (anyNumber number) → number ≡ 0 → ⊥
+number-zero number h e = subst (λ k. T (anyNumber k)) e h
 
 module _ (s : List ℕ) (distances answer : ℕ) where
   -- a sheet that the check accepts is answered where there is room, and refused with 15 otherwise
@@ -55,7 +55,7 @@ module _ (s : List ℕ) (distances answer : ℕ) where
   unfolding judged
   accepted-answered z = go (checked s distances) refl (check-numbered s distances)
     where
-      go : (c : Checked Layout) → checked s distances ≡ c → Numbered c → Answered s distances answer
+      go : (c : Checked Layout) → checked s distances ≡ c → Numbered anyNumber c → Answered s distances answer
       go (accepted L) e n = by-room L e z
       go (refused number place) e (refuses n) = absurd (number-zero number n (sym (ap (λ (c : Checked Layout). judgedBy s distances answer c .result .number) e) ∙ z))
 
@@ -73,9 +73,12 @@ module _ (s : List ℕ) (distances : ℕ) (L : Layout) (sheet : AcceptedSheet s 
 
   pub fields : InFields (isWide s) (L.sizes.places) (L.sizes.samples) (L.lines)
   fields = record {
-    places = in-field (isWide s) (sheet .few);
-    count = omega (arith, table .bound);
-    samples = omega (arith, limits .samples-most);
+    head = record {
+      kind-fits = omega arith;
+      places-fit = in-field (isWide s) (sheet .few);
+      count-fits = omega (arith, table .bound);
+      samples-fit = omega (arith, limits .samples-most);
+    };
     ends = λ i. omega (arith, good-end (L.sizes.signals) (L.sizes.samples) (L.lines) (table .good) i, limits .samples-most);
   }
 

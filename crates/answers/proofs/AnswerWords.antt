@@ -3,7 +3,7 @@
 use mathlib.Core.Path.{_≡_, refl, sym, ap, ap₂, _∙_}
 use mathlib.Core.Bool.{Bool}
 use mathlib.Core.List.{List, [], _∷_, _++_, append-assoc}
-use Prim.Native.Nat.{ℕ, zero, suc, _+_, _-_, _*_, _^_, _<_, _≤_}
+use Prim.Native.Nat.{ℕ, zero, suc, _+_, _-_, _*_, _<_, _≤_}
 use native.Mathlib.Omega.{arith}
 use lib.ListN.{length, getD, replicate, length-append, List·getD-append}
 use lib.Seq.{getD-append-add, getD-append-seam}
@@ -16,10 +16,11 @@ use Rattle.network.specs.Network.{Network}
 use Rattle.formulas.specs.Formulas.{Extent, Line, lineIn, Recording}
 use Rattle.counting.specs.Totals.{sumBelow}
 use Rattle.checks.specs.Checked.{wordAt}
+use Rattle.checks.proofs.ReadBack.{head-length}
 use Rattle.answers.specs.Answer.{lineIndex, firstWord, wordFor, lineWords, answerHead, answerWords}
 use Rattle.checks.specs.Heads.{headWords, placesOf}
 use Rattle.lookup.specs.Lookup.{extentAt, lineStart, lineExtent}
-use Rattle.answers.proofs.AnswerHead.{InFields, head-length, answerOf, layout-read, places-read}
+use Rattle.answers.proofs.AnswerHead.{InFields, answerOf, layout-read, places-read}
 
 -- a word of the part between the head and the end
 behind-head : (h m e z : List ℕ) (k : ℕ) → k < length m → getD ((h ++ (m ++ e)) ++ z) (length h + k) 0 ≡ getD m k 0
@@ -89,7 +90,7 @@ module _ (wide : Bool) (N : Network) (T : ℕ) (x : Recording) (lines : List Lin
   head = answerHead wide (N.places) (length lines) T
 
   long : length head ≡ headWords wide
-  long = head-length wide (N.places) (length lines) T
+  long = head-length 13 wide (N.places) (length lines) T
 
   -- ---- a line's words
   line-word : (i j : ℕ) → i < length lines → j < 1 + lineIn lines i .extent .length * N.places → wordAt answer (lineIndex wide (N.places) lines i + j) ≡ getD (lineWords N T x lines i) j 0

@@ -13,7 +13,7 @@ use Rattle.logic.specs.Counts.{runRounds, surroundRounds, roundsAt, greatestRou
 use Rattle.checks.specs.Checked.{isKind}
 use Rattle.lines.specs.Codes.{codes}
 use Rattle.lines.specs.Lines.{constantAt, boundsAt, operatorAt, lineAt, linesFrom}
-use Rattle.checks.specs.Heads.{isWide, headOf, placesOf, wideCounted, wideFollowed}
+use Rattle.checks.specs.Heads.{isWide, headOf, placesOf, wideCounted, wideFollowed, headFor}
 use Rattle.sheet.specs.Layout.{sizesOf, narrowChecked, wideChecked, headChecked, samplesFrom, endChecked, checked}
 use Rattle.roads.specs.Roads.{roadChecked, roadsFrom}
 use Rattle.roads.specs.Roads.{joins, weightAmong, distanceTable}
@@ -29,5 +29,5 @@ unfolding leastOver greatestOver direct distance joined distanceIn within reache
     surround iterate masked except first atRest rounds leastSoFar untilSoFar untilAt somewhereAt surroundAt value valuesAfter valueAt mostBelow sumBelow
     runRounds surroundRounds roundsAt greatestRounds yesCount isKind codes constantAt boundsAt operatorAt lineAt linesFrom isWide headOf placesOf wideCounted wideFollowed sizesOf narrowChecked wideChecked headChecked roadChecked
     roadsFrom samplesFrom endChecked checked joins weightAmong network recording distanceTable row concat lineIndex wordsNeeded wordFor
-    lineWords answerHead answerWords answered judged said lineStart saidAt
+    lineWords headFor answerWords answered judged said lineStart saidAt
 answerOf s = judged s 4096 64

@@ -22,7 +22,7 @@ use Rattle.logic.specs.Table.{verdicts, margins, valueAt}
 use Rattle.logic.specs.Counts.{yesCount}
 use Rattle.logic.proofs.Small.{Small, margins-small}
 use Rattle.checks.specs.Limits.{mostPlaces, mostSamples, mostLines}
-use Rattle.checks.specs.Heads.{isWide}
+use Rattle.checks.specs.Heads.{isWide, headFor}
 use Rattle.checks.proofs.Heads.{most-of-any}
 use Rattle.roads.specs.Roads.{roadAt, distanceNumber, distanceTable}
 use Rattle.roads.proofs.DistanceStart.{light}
@@ -59,11 +59,11 @@ some-words : 0 < 2 ^ 32
 some-words = omega arith
 
 head-below : (wide : Bool) {n T : ℕ} {lines : List Line} → InFields wide n T lines → Below (2 ^ 32) (answerHead wide n (length lines) T)
-unfolding answerHead
+unfolding headFor
 head-below true {T = T} {lines = lines} fits =
-    below-more some-words _ (wordOf 13 (length lines * 2 ^ 12 + T) ∷ []) (omega (arith, fits .places))
-    (below-more some-words _ [] (omega (arith, fits .count, fits .samples)) (below-none some-words))
-head-below false fits = below-more some-words _ [] (omega (arith, fits .places, fits .count, fits .samples)) (below-none some-words)
+    below-more some-words _ (wordOf 13 (length lines * 2 ^ 12 + T) ∷ []) (omega (arith, fits .head .places-fit))
+    (below-more some-words _ [] (omega (arith, fits .head .count-fits, fits .head .samples-fit)) (below-none some-words))
+head-below false fits = below-more some-words _ [] (omega (arith, fits .head .places-fit, fits .head .count-fits, fits .head .samples-fit)) (below-none some-words)
 
 module _ (wide : Bool) (N : Network) (T : ℕ) (x : Recording) (lines : List Line) (fits : InFields wide (N.places) T lines)
     (samples : (s t l : ℕ) → InBits 27 (x s t l)) (constants : ConstantsIn (InBits 27) lines) (sizes : InAnswer wide (N.places) T lines) where

@@ -1,13 +1,13 @@
 -- The answer to an accepted sheet is a whole answer, so the lookup gives what the answer says.
-use mathlib.Core.Path.{_≡_, refl, sym, ap, _∙_}
+use mathlib.Core.Path.{_≡_, sym, ap, _∙_}
 use mathlib.Core.Bool.{Bool, true, false, cond, _&&_}
-use mathlib.Core.List.{List}
+use mathlib.Core.List.{List, _++_}
 use Prim.Native.Nat.{ℕ, zero, suc, _+_, _*_, _/_, _%_, _^_, _<_, _≤_}
 use native.Mathlib.Nat.{le-of-lt, mod-lt, div-add-mod', div-lt-iff-lt-mul, mul-le-mul}
 use native.Mathlib.Omega.{arith}
 use lib.Dec.{T, leb, ltb, eqb, le→leb, ltb→lt}
 use lib.ListN.{length}
-use Rattle.words.specs.Word.{bits, payloadOf, wordOf}
+use Rattle.words.specs.Word.{bits, payloadOf}
 use Rattle.logic.specs.Lattice.{verdictLattice, leastOver}
 use Rattle.network.specs.Network.{Network}
 use Rattle.formulas.specs.Formulas.{Extent, endOf, Line, lineIn, Recording, InBits, ConstantsIn}
@@ -19,15 +19,14 @@ use Rattle.checks.specs.Limits.{mostPlaces, mostNarrow, mostSamples, mostLines}
 use Rattle.checks.specs.Checked.{between, wordAt, isKind}
 use Rattle.checks.specs.Heads.{mostOf, placesOf, wideCounted, wideFollowed}
 use Rattle.checks.proofs.Heads.{few-head-words, most-of-any}
+use Rattle.checks.proofs.ReadBack as head
+use Rattle.checks.proofs.Tests.{equal, in-limits, kind-there}
 use Rattle.values.specs.Said.{saidBy}
-use Rattle.answers.specs.Answer.{lineIndex, firstWord, answerHead, answerWords}
+use Rattle.answers.specs.Answer.{lineIndex, firstWord, answerHead}
 use Rattle.lookup.specs.Lookup.{isSaid, headLines, headSamples, lineStart, lineExtent, wholePlaces, wholeHead, wholeLineAt, wholeLine, wholeEnd, wholeAnswer}
-use Rattle.answers.proofs.AnswerHead.{equal, kind-there, InFields, answerOf, layout-read, places-read, lines-read, samples-read}
+use Rattle.answers.proofs.AnswerHead.{InFields, answerOf, afterHead, begins, layout-read, places-read, lines-read, samples-read}
 use Rattle.answers.proofs.AnswerWords.{answer, wordAfter, first-word, start-read, extent-read, verdict-word, end-word, zeros-after, end-inside}
 use Rattle.answers.proofs.AnswerSays.{word-says}
-
-within : (low high x : ℕ) → low ≤ x → x ≤ high → T (between low high x)
-within low high x h k = and-i (leb low x) (leb x high) (le→leb low x h) (le→leb x high k)
 
 -- sizes of an accepted sheet
 pub record InAnswer (wide : Bool) (n horizon : ℕ) (lines : List Line) : Type 0 where
@@ -59,17 +58,17 @@ module _ (N : Network) (horizon : ℕ) (x : Recording) (lines : List Line) (room
 
   places-by : (wide : Bool) → InFields wide (N.places) horizon lines → (1 ≤ N.places) × (N.places ≤ mostOf wide)
       → T (cond wide (wideCounted (told wide) && wideFollowed (told wide) 13) (isKind 13 (told wide) 0 && between 1 mostNarrow (placesOf (told wide))))
-  unfolding wideCounted wideFollowed answerWords answerHead
   places-by true fits most =
       let n : ℕ = N.places in
-      let field : bits 0 16 (wordOf 10 n) ≡ n = omega (arith, fits .places) in
-      and-i (between 1 mostPlaces (bits 0 16 (wordOf 10 n)) && eqb (bits 16 12 (wordOf 10 n)) 0) _
-      (and-i (between 1 mostPlaces (bits 0 16 (wordOf 10 n))) _ (rw field (within 1 mostPlaces n (most .0) (most .1))) (equal (bits 16 12 (wordOf 10 n)) 0 (omega (arith, fits .places))))
-      (and-i (isKind 13 (told true) 1) _ (kind-there (told true) 13 (length lines * 2 ^ 12 + horizon) 1 (omega arith) refl (omega (arith, fits .count, fits .samples)))
-      (equal (bits 20 8 (wordOf 13 (length lines * 2 ^ 12 + horizon))) 0 (omega (arith, fits .count, fits .samples))))
+      let count = length lines in
+      let rest = afterHead N horizon x lines room true in
+      rw (begins N horizon x lines room true)
+      (and-i (wideCounted (answerHead true n count horizon ++ rest)) _ (head.wide-counted 13 n count horizon rest (fits .head) most)
+      (head.wide-followed 13 n count horizon rest (fits .head)))
   places-by false fits most =
-      and-i (isKind 13 (told false) 0) _ (kind-there (told false) 13 (N.places * 2 ^ 20 + length lines * 2 ^ 12 + horizon) 0 (omega arith) refl (omega (arith, fits .places, fits .count, fits .samples)))
-      (rw (places-read N horizon x lines room false fits) (within 1 mostNarrow (N.places) (most .0) (most .1)))
+      and-i (isKind 13 (told false) 0) _
+      (rw (begins N horizon x lines room false) (head.narrow-kind 13 (N.places) (length lines) horizon (afterHead N horizon x lines room false) (fits .head)))
+      (rw (places-read N horizon x lines room false fits) (in-limits 1 mostNarrow (N.places) (most .0) (most .1)))
 
   places-whole : (wide : Bool) → InFields wide (N.places) horizon lines → (1 ≤ N.places) × (N.places ≤ mostOf wide) → T (wholePlaces (told wide))
   unfolding wholePlaces
@@ -134,8 +133,8 @@ module _ (wide : Bool) (N : Network) (horizon : ℕ) (x : Recording) (lines : Li
   unfolding wholeHead
   head-whole =
       and-i (wholePlaces a) _ (places-whole N horizon x lines room wide fits (sizes .places))
-      (and-i (between 1 mostLines (headLines a)) _ (rw (lines-read N horizon x lines room wide fits) (within 1 mostLines (length lines) (sizes .count .0) (sizes .count .1)))
-      (rw (samples-read N horizon x lines room wide fits) (within 1 mostSamples horizon (sizes .samples .0) (sizes .samples .1))))
+      (and-i (between 1 mostLines (headLines a)) _ (rw (lines-read N horizon x lines room wide fits) (in-limits 1 mostLines (length lines) (sizes .count .0) (sizes .count .1)))
+      (rw (samples-read N horizon x lines room wide fits) (in-limits 1 mostSamples horizon (sizes .samples .0) (sizes .samples .1))))
 
   pub answer-whole : T (wholeAnswer a)
   unfolding wholeAnswer

@@ -8,7 +8,7 @@ use Rattle.lookup.specs.Lookup.{wholePlaces, wholeHead, wholeLineAt, wholeEnd, 
 use Rattle.answers.specs.Judged.{refusal, judged}
 use Rattle.answers.proofs.Computing.{answerOf}
 
-sheetWide : List ℕ
+abbrev pub sheetWide : List ℕ
 sheetWide = 0xA0000002 ∷ 0x10001002 ∷ 0x20000001 ∷ 0x30000003 ∷ 0x40000005 ∷ 0x47FFFFFE ∷ 0x40000001 ∷ 0x40000004 ∷ 0x50100000 ∷ 0x80000000 ∷ 0x50900000 ∷ 0x60000000 ∷ 0x70000001
     ∷ 0x50600000 ∷ 0x60000001 ∷ 0x70000003 ∷ 0x50700800 ∷ 0x60000000 ∷ 0x70000003 ∷ 0xF0000013 ∷ []
 
@@ -22,7 +22,7 @@ wide-judged : judged sheetWide 4 22 ≡ record {
   answer = answerWide ++ (0 ∷ []);
   distances = 0 ∷ 3 ∷ 3 ∷ 0 ∷ [];
 }
-unfolding answerOf sheetWide answerWide
+unfolding answerOf answerWide
 wide-judged = refl
 
 wide-lookup : (lookedUp answerWide 0 0 0 ≡ 1) × (lookedUp answerWide 0 0 1 ≡ 2) × (lookedUp answerWide 3 1 1 ≡ 1) × (lookedUp answerWide 0 0 2 ≡ 0)
@@ -30,5 +30,5 @@ unfolding answerOf wholePlaces wholeHead wholeLineAt wholeEnd wholeAnswer looked
 wide-lookup = (refl, refl, refl, refl)
 
 wide-short : (judged sheetWide 3 64 ≡ refusal 3 64 1 0) × (judged sheetWide 4 20 ≡ refusal 4 20 15 20)
-unfolding answerOf sheetWide
+unfolding answerOf
 wide-short = (refl, refl)

@@ -1,6 +1,6 @@
 -- Document 01, "The answer", and requests M-100 and M-104: the words of the answer to an accepted sheet, wide if the sheet is.
 use Prim.Native.Nat.{ℕ, _+_, _*_, _^_}
-use mathlib.Core.Bool.{Bool, true, false}
+use mathlib.Core.Bool.{Bool}
 use mathlib.Core.List.{List, [], _∷_, _++_}
 use lib.ListN.{length}
 use Rattle.words.specs.Word.{wordOf}
@@ -9,14 +9,12 @@ use Rattle.network.specs.Network.{Network}
 use Rattle.formulas.specs.Formulas.{Extent, Line, lineIn, Recording}
 use Rattle.logic.specs.Table.{verdicts, margins, valueAt}
 use Rattle.counting.specs.Totals.{sumBelow}
-use Rattle.checks.specs.Heads.{headWords}
+use Rattle.checks.specs.Heads.{headWords, headFor}
 use Rattle.values.specs.Said.{verdictWord}
 
--- the head, by the places, how many lines there are, and the samples. Narrow: kind 13, bits 27..20 the places, 19..12 the lines, 11..0 the samples. Wide: kind 10 with
--- the places, as the sheet begins, and then kind 13 without them.
-unfoldable pub answerHead : Bool → ℕ → ℕ → ℕ → List ℕ
-answerHead true n count T = wordOf 10 n ∷ wordOf 13 (count * 2 ^ 12 + T) ∷ []
-answerHead false n count T = wordOf 13 (n * 2 ^ 20 + count * 2 ^ 12 + T) ∷ []
+-- the head, by the places, how many lines there are, and the samples: of kind 13
+abbrev pub answerHead : Bool → ℕ → ℕ → ℕ → List ℕ
+answerHead = headFor 13
 
 module _ (wide : Bool) (n : ℕ) (lines : List Line) where
   -- the index of line i's first word: after the head and the earlier lines

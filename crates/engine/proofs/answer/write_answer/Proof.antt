@@ -1,24 +1,23 @@
--- The head, the lines and the end are put one after the other, and the part behind the end is lent to be cleared.
+-- The head, the lines and the end are put one after the other, and what is behind the end is cleared.
 use mathlib.Core.Path.{_≡_, sym, ap, ap₂, _∙_}
 use mathlib.Core.List.{List, [], _∷_, _++_}
 use Prim.Native.Nat.{ℕ, _+_, _*_, _^_, _<_, _≤_}
 use native.Mathlib.Omega.{arith}
 use lib.ListN.{length, set, take, replicate, length-append, length-drop}
 use borrow.Author.Needs.{needs}
-use Rattle.words.specs.Bytes.{wordsOf}
+use Rattle.words.specs.Bytes.{wordsOf, afterWords}
 use Rattle.words.specs.Word.{wordOf}
-use Rattle.words.specs.Rows.{concat, put}
-use Rattle.words.proofs.Parts.{tail-list, tail-back}
+use Rattle.words.specs.Rows.{concat, put, padded}
+use Rattle.words.proofs.Puts.{front-take}
 use Rattle.words.proofs.Words.{words-count}
-use Rattle.words.proofs.Zeros.{cleared-words-tail}
 use Rattle.checks.specs.Heads.{headWords, isWide}
+use Rattle.checks.proofs.ReadBack.{head-length}
 use Rattle.sheet.specs.Layout.{Layout}
 use Rattle.sheet.specs.Recording.{network, recording}
 use Rattle.answers.specs.Answer.{lineIndex, wordsNeeded, lineWords, answerHead, answerWords}
-use Rattle.answers.proofs.AnswerHead.{head-length}
 use Rattle.evaluation.specs.Lent.{foundIn}
-use Rattle.engine.proofs.Sizes.{lines-end, limits, end-bound}
-use Rattle.engine.proofs.WholeWriting.{three-parts, zeros-behind}
+use Rattle.engine.proofs.Sizes.{lines-end, head-fits, end-bound}
+use Rattle.engine.proofs.WholeWriting.{three-parts}
 use Rattle.engine.proofs.answer.write_answer.Statement.{statement}
 use Rattle.engine.proofs.answer.write_answer.Tie as tie
 
@@ -33,10 +32,6 @@ room : (c : tie.Start) → End c < length (wordsOf (c .args .answer .now))
 unfolding wordsNeeded
 room c = omega (arith, c .pre .1)
 
--- the index that the lines have come to, and the lengths that stay
-ends : (c : tie.After-struct-known) → (c .before .before .before .before .write-lines .result .end ≡ End (c .before .before .before .before .before .before .before .before .before .before .before .before .before .before)) × (length (c .before .before .before .before .write-lines .last .1 .1 .1 .0) ≡ length (c .before .before .before .before .before .before .before .before .before .before .before .before .before .before .args .answer .now))
-ends c = (c .before .before .before .before .write-lines .ensures .0 .ends, c .before .before .before .before .write-lines .kept .1 .1 .1 .0 ∙ c .before .before .before .before .before .before .before .before .put-head .kept .0)
-
 -- and so have the words of the head
 head-room : (c : tie.Start) → headWords (isWide (wordsOf (c .args .sheet .now))) ≤ length (wordsOf (c .args .answer .now))
 unfolding lineIndex
@@ -45,8 +40,7 @@ head-room c = omega (arith, room c)
 put-head-requires : tie.Need-put-head-requires
 put-head-requires c κs =
     let start = c .before .before .before .before .before in
-    let l = limits (start .pre .0) in
-    rw (c .is-wide .ensures) (l .0, l .1, l .2, head-room start)
+    rw (c .is-wide .ensures) (head-fits (start .pre .0), head-room start)
 
 write-lines-requires : tie.Need-write-lines-requires
 write-lines-requires c κs =
@@ -55,30 +49,39 @@ write-lines-requires c κs =
     let fits : End start ≤ length (wordsOf bytes) = omega (arith, room start, c .before .before .before .put-head .kept .0, words-count bytes, words-count (start .args .answer .now)) in
     (start .pre .0, rw (start .pre .0 .laid) fits)
 
+-- ---- once the lines are written
+abbrev began : tie.After-struct-known → tie.Start
+began c = c .before .before .before .before .before .before .before .before .before .before .before .before .before .before
+
+-- the index that they have come to, and the lengths that stay
+ends : (c : tie.After-struct-known) → (c .before .before .before .before .write-lines .result .end ≡ End (began c)) × (length (c .before .before .before .before .write-lines .last .1 .1 .1 .0) ≡ length (began c .args .answer .now))
+ends c = (c .before .before .before .before .write-lines .ensures .0 .ends, c .before .before .before .before .write-lines .kept .1 .1 .1 .0 ∙ c .before .before .before .before .before .before .before .before .put-head .kept .0)
+
 cast-put-word : tie.Need-cast-put-word
-cast-put-word c = omega (arith, ends c, end-bound (c .before .before .before .before .before .before .before .before .before .before .before .before .before .before .pre .0))
+cast-put-word c = omega (arith, ends c, end-bound (began c .pre .0))
 
 add-put-word : tie.Need-add-put-word
-add-put-word c = omega (arith, ends c, end-bound (c .before .before .before .before .before .before .before .before .before .before .before .before .before .before .pre .0))
+add-put-word c = omega (arith, ends c, end-bound (began c .pre .0))
 
 put-word-requires : tie.Need-put-word-requires
-put-word-requires c κs = omega (arith, ends c, room (c .before .before .before .before .before .before .before .before .before .before .before .before .before .before), words-count (c .before .before .before .before .write-lines .last .1 .1 .1 .0), words-count (c .before .before .before .before .before .before .before .before .before .before .before .before .before .before .args .answer .now))
+put-word-requires c κs = omega (arith, ends c, room (began c), words-count (c .before .before .before .before .write-lines .last .1 .1 .1 .0), words-count (began c .args .answer .now))
 
--- the answer ends inside what is lent
-inside : (c : tie.After-struct-known2) → (c .before .before .before .before .before .before .before .before .write-lines .result .end + 1) * 4 ≤ length (c .before .before .before .put-word .last .0)
-inside c = omega (arith, ends (c .before .before .before .before), room (c .before .before .before .before .before .before .before .before .before .before .before .before .before .before .before .before .before .before), c .before .before .before .put-word .kept .0, words-count (c .before .before .before .before .before .before .before .before .before .before .before .before .before .before .before .before .before .before .args .answer .now))
+-- ---- once the end is
+abbrev lined : tie.After-struct-known2 → tie.After-struct-known
+lined c = c .before .before .before .before .before
 
-add-after : tie.Need-add-after
-add-after c = omega (arith, ends (c .before .before .before .before), end-bound (c .before .before .before .before .before .before .before .before .before .before .before .before .before .before .before .before .before .before .pre .0))
+-- as many bytes as were lent, and so as many words
+long : (c : tie.After-struct-known2) → length (c .before .before .before .before .put-word .last .0) ≡ length (began (lined c) .args .answer .now)
+long c = c .before .before .before .before .put-word .kept .0 ∙ ends (lined c) .1
 
-mul-after : tie.Need-mul-after
-mul-after c = omega (arith, ends (c .before .before .before .before), end-bound (c .before .before .before .before .before .before .before .before .before .before .before .before .before .before .before .before .before .before .pre .0))
+same : (c : tie.After-struct-known2) → length (wordsOf (c .before .before .before .before .put-word .last .0)) ≡ length (wordsOf (began (lined c) .args .answer .now))
+same c = omega (arith, long c, words-count (c .before .before .before .before .put-word .last .0), words-count (began (lined c) .args .answer .now))
 
-sub-fill-zero : tie.Need-sub-fill-zero
-sub-fill-zero c = inside c
+add-clear-behind : tie.Need-add-clear-behind
+add-clear-behind c = omega (arith, ends (lined c), end-bound (began (lined c) .pre .0))
 
-part-fill-zero-start : tie.Need-part-fill-zero-start
-part-fill-zero-start c = inside c
+clear-behind-requires : tie.Need-clear-behind-requires
+clear-behind-requires c κs = omega (arith, ends (lined c), room (began (lined c)), same c)
 
 abbrev Whole : tie.Start → List ℕ
 Whole c =
@@ -94,7 +97,7 @@ Middle c =
     concat (lineWords (network s (Found c)) (Found c .sizes .samples) (recording s (Found c)) (Found c .lines)) (length (Found c .lines))
 
 head-long : (c : tie.Start) → length (Head c) ≡ headWords (isWide (wordsOf (c .args .sheet .now)))
-head-long c = head-length (isWide (wordsOf (c .args .sheet .now))) (Found c .sizes .places) (length (Found c .lines)) (Found c .sizes .samples)
+head-long c = head-length 13 (isWide (wordsOf (c .args .sheet .now))) (Found c .sizes .places) (length (Found c .lines)) (Found c .sizes .samples)
 
 -- head and lines end where the end stands
 end-at : (c : tie.Start) → length (Head c) + length (Middle c) ≡ End c
@@ -110,45 +113,39 @@ whole-length c =
     omega (arith, length-append (Head c) (Middle c ++ end), length-append (Middle c) end, end-at c)
 
 -- the words up to the end
-parts : (c : tie.After-struct-known2) → let start = c .before .before .before .before .before .before .before .before .before .before .before .before .before .before .before .before .before .before in wordsOf (c .before .before .before .put-word .last .0) ≡ put (wordsOf (start .args .answer .now)) 0 (Whole start)
+parts : (c : tie.After-struct-known2) → wordsOf (c .before .before .before .before .put-word .last .0) ≡ put (wordsOf (began (lined c) .args .answer .now)) 0 (Whole (began (lined c)))
 unfolding answerWords network
 parts c =
-    let start = c .before .before .before .before .before .before .before .before .before .before .before .before .before .before .before .before .before .before in
-    let s = wordsOf (start .args .sheet .now) in
+    let start = began (lined c) in
     let w = wordsOf (start .args .answer .now) in
-    let long = head-long start in
-    let wide = c .before .before .before .before .before .before .before .before .before .before .before .before .before .is-wide .ensures in
-    let index : c .before .before .before .before .before .before .before .before .write-lines .result .end ≡ length (Head start) + length (Middle start) = ends (c .before .before .before .before) .0 ∙ sym (end-at start) in
-    let head : wordsOf (c .before .before .before .before .before .before .before .before .before .before .before .before .put-head .last .0) ≡ put w 0 (Head start) =
-    c .before .before .before .before .before .before .before .before .before .before .before .before .put-head .ensures
-    ∙ ap₂ (λ b l. put w 0 (answerHead b (l .places) (l .lines) (l .samples))) wide (start .pre .0 .laid) in
-    let lines = c .before .before .before .before .before .before .before .before .write-lines .ensures .0 .written ∙ ap₂ (λ v i. put v i (Middle start)) head (sym long) in
-    c .before .before .before .put-word .ensures .0
-    ∙ ap₂ (λ v i. set v i (15 * 2 ^ 28 + i)) lines index
+    let lines = c .before .before .before .before .before .before .before .before .before .write-lines in
+    let index : lines .result .end ≡ length (Head start) + length (Middle start) = ends (lined c) .0 ∙ sym (end-at start) in
+    let head : wordsOf (c .before .before .before .before .before .before .before .before .before .before .before .before .before .put-head .last .0) ≡ put w 0 (Head start) =
+    c .before .before .before .before .before .before .before .before .before .before .before .before .before .put-head .ensures .0
+    ∙ ap₂ (λ b l. put w 0 (answerHead b (l .places) (l .lines) (l .samples))) (c .before .before .before .before .before .before .before .before .before .before .before .before .before .before .is-wide .ensures) (start .pre .0 .laid) in
+    c .before .before .before .before .put-word .ensures .0
+    ∙ ap₂ (λ v i. set v i (15 * 2 ^ 28 + i)) (lines .ensures .0 .written ∙ ap₂ (λ v i. put v i (Middle start)) head (sym (head-long start))) index
     ∙ three-parts w (Head start) (Middle start) _ (omega (arith, room start, end-at start))
     ∙ ap (λ i. put w 0 (Head start ++ (Middle start ++ ((15 * 2 ^ 28 + i) ∷ [])))) (end-at start)
 
 returns : tie.Need-returns
 returns c =
-    let start = c .before .before .before .before .before .before .before .before .before .before .before .before .before .before .before .before .before .before .before .before .before .before in
+    let ended = c .before .before .before in
+    let start = began (lined ended) in
     let lines = c .before .before .before .before .before .before .before .before .before .before .before .before .write-lines in
     let bytes = c .before .before .before .before .before .before .before .put-word .last .0 in
+    let cleared = c .before .before .clear-behind in
     let k = lines .result .end + 1 in
-    let fits = inside (c .before .before .before .before) in
     let count : length (Whole start) ≡ k = whole-length start ∙ ap (λ n. n + 1) (sym (lines .ensures .0 .ends)) in
-    let same : length (wordsOf bytes) ≡ length (wordsOf (start .args .answer .now)) =
-    omega (arith, ends (c .before .before .before .before .before .before .before .before), c .before .before .before .before .before .before .before .put-word .kept .0, words-count bytes, words-count (start .args .answer .now)) in
-    let zeros = c .before .before .fill-zero .ensures ∙ ap (λ n. replicate n 0) (ap length (tail-list bytes (k * 4) fits) ∙ length-drop (k * 4) bytes) in
-    let cleared = tail-back bytes (c .before .before .fill-zero .last .0) (k * 4) fits ∙ ap (λ z. take (k * 4) bytes ++ z) zeros in
-    let long = c .before .before .before .before .before .before .before .put-word .kept .0 ∙ ends (c .before .before .before .before .before .before .before .before) .1 in (
+    let rest : length (afterWords bytes) ≡ length (afterWords (start .args .answer .now)) =
+    omega (arith, long ended, same ended, length-drop (length (wordsOf bytes) * 4) bytes, length-drop (length (wordsOf (start .args .answer .now)) * 4) (start .args .answer .now)) in (
       record {
-        written = ap wordsOf cleared
-            ∙ zeros-behind bytes (wordsOf (start .args .answer .now)) (Whole start) k (parts (c .before .before .before .before)) same count (omega (arith, room start, ends (c .before .before .before .before .before .before .before .before)));
+        written = cleared .ensures .0 ∙ ap₂ padded (ap (take k) (parts ended) ∙ front-take (wordsOf (start .args .answer .now)) (Whole start) k count) (same ended);
         ends = lines .ensures .0 .ends;
         greatest = lines .ensures .0 .greatest;
         counted = lines .ensures .0 .counted;
       },
-      cleared-words-tail (start .args .answer .now) bytes _ (k * 4) long (omega (arith, room start, ends (c .before .before .before .before .before .before .before .before))) cleared,
+      cleared .ensures .1 ∙ ap (λ n. replicate n 0) rest,
     )
 
 pub write-answer-spec : {M : Type 1} → statement M
@@ -161,11 +158,7 @@ write-answer-spec =
     cast-put-word
     add-put-word
     put-word-requires
-    add-after
-    mul-after
-    sub-fill-zero
-    part-fill-zero-start
-    (λ c. search needs)
-    (λ c κs. search needs)
+    add-clear-behind
+    clear-behind-requires
     (λ c. search needs)
     returns)
