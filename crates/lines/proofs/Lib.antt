@@ -3,3 +3,5 @@ pub mod Reading
 pub mod Lines
 pub mod AcceptedLines
 pub mod Walk
+pub mod FewWords
+pub mod Moved

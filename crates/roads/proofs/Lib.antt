@@ -2,3 +2,4 @@ pub mod Passing
 pub mod AcceptedRoads
 pub mod DistanceStages
 pub mod DistanceStart
+pub mod SameRoads

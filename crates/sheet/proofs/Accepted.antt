@@ -8,20 +8,21 @@ use native.Mathlib.Omega.{arith}
 use lib.Dec.{leb, eqb}
 use lib.ListN.{length}
 use borrow.Author.Tests.{leb-true, eqb-true}
-use Rattle.words.specs.Word.{bits, payloadOf}
+use Rattle.words.specs.Word.{bits, payloadOf, wordOf}
 use Rattle.checks.specs.Limits.{mostPlaces, mostNarrow, mostSignals, mostSamples, leastDistances}
 use Rattle.checks.specs.Checked.{accepted, require, between, wordAt, isKind}
 use Rattle.checks.specs.Heads.{mostOf, isWide, placesOf, wideCounted, wideFollowed}
 use Rattle.sheet.specs.Layout.{Sizes, sampleCount, sizesOf, narrowChecked, wideChecked, headChecked, samplesFrom, endChecked}
 use Rattle.checks.specs.Checked.{mapped}
 use Rattle.checks.proofs.Checks.{same-accepted, require-accepted}
-use Rattle.checks.proofs.Tests.{and-true}
+use Rattle.checks.proofs.Tests.{and-true, kind-told}
 
 -- ---- head
 
 pub record SizesWithin (z : Sizes) : Type 0 where
   pub places-some : 1 ≤ z .places
   pub places-most : z .places ≤ mostPlaces
+  pub signals-some : 1 ≤ z .signals
   pub signals-most : z .signals ≤ mostSignals
   pub samples-some : 1 ≤ z .samples
   pub samples-most : z .samples ≤ mostSamples
@@ -46,6 +47,7 @@ module _ (s : List ℕ) where
       record {
         places-some = p .0;
         places-most = p .1;
+        signals-some = v .0;
         signals-most = v .1;
         samples-some = t .0;
         samples-most = t .1;
@@ -108,12 +110,13 @@ samples-end s (suc count) at e =
 -- ---- end
 
 pub end-accepted : {A : Type 0} (s : List ℕ) (at : ℕ) (found : A) {layout : A} → endChecked s at found ≡ accepted layout
-    → (length s ≡ at + 1) × (found ≡ layout)
+    → (length s ≡ at + 1) × (found ≡ layout) × (wordAt s at ≡ wordOf 15 at)
 unfolding endChecked
 end-accepted s at found e =
     let word = require-accepted (isKind 15 s at && eqb (payloadOf (wordAt s at)) at) 14 at _ e in
     let last = require-accepted (eqb (length s) (at + 1)) 14 (at + 1) _ (word .1) in
-    (eqb-true _ _ (last .0), same-accepted (last .1))
+    let both = and-true (isKind 15 s at) (eqb (payloadOf (wordAt s at)) at) (word .0) in
+    (eqb-true _ _ (last .0), same-accepted (last .1), omega (arith, kind-told 15 s at (both .0) .1, eqb-true (payloadOf (wordAt s at)) at (both .1)))
 
 -- the end is checked alike whatever was found before it
 pub end-mapped : {A B : Type 0} (f : A → B) (s : List ℕ) (at : ℕ) (a : A) → mapped f (endChecked s at a) ≡ endChecked s at (f a)

@@ -1,8 +1,11 @@
 pub mod Refusals
 pub mod Samples
+pub mod MovedSamples
 pub mod Accepted
 pub mod Whole
+pub mod HeadWords
 pub mod SameLayout
 pub mod SameNetwork
 pub mod RefusalNumbers
 pub mod Surveys
+pub mod Further

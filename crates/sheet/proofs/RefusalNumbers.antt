@@ -1,55 +1,101 @@
--- Every refusal of the check of a sheet has a number from 1 to 14 or 17, so the number 0 says that the sheet was accepted.
+-- Every refusal of the check of a sheet has a number from 1 to 14 or 17, so the number 0 says that the sheet was accepted; and the check for those that ask for no
+-- distance never refuses with 1.
+use mathlib.Core.Path.{_≡_, refl, subst}
+use mathlib.Core.Logic.{⊎-elim}
 use mathlib.Core.Bool.{Bool, true, false, cond, _||_}
 use mathlib.Core.List.{List, [], _∷_, _++_}
-use Prim.Native.Nat.{ℕ, zero, suc, _+_}
-use lib.Dec.{T, eqb}
+use Prim.Native.Nat.{ℕ, zero, suc, _+_, _*_, _≤_}
+use native.Mathlib.Nat.{mul-le-mul}
+use native.Mathlib.Omega.{arith}
+use lib.Dec.{T, leb, eqb, leb→le, le→leb}
 use lib.ListN.{length}
+use Rattle.words.specs.Word.{bits}
+use Rattle.counting.proofs.Tests.{and-l, and-r, or-l, or-r, or-e}
 use Rattle.formulas.specs.Formulas.{Extent, Line, lineIn}
-use Rattle.checks.specs.Checked.{Checked, accepted, refused, _>>=_, require, between, isKind}
+use Rattle.checks.specs.Limits.{mostPlaces, mostLines, leastDistances}
+use Rattle.checks.specs.Checked.{Checked, accepted, refused, _>>=_, require, between, wordAt, isKind}
+use Rattle.checks.proofs.Tests.{in-limits}
 use Rattle.lines.specs.Codes.{Code, constant, atom, unary, binary, unaryBounded, binaryBounded, unknown}
 use Rattle.lines.specs.Lines.{constantAt, boundsAt, operatorBy, operatorAt, lineAt, linesFrom}
-use Rattle.checks.specs.Heads.{isWide}
-use Rattle.sheet.specs.Layout.{Layout, narrowChecked, wideChecked, headChecked, samplesFrom, endChecked, checked}
+use Rattle.checks.specs.Heads.{isWide, placesOf, wideCounted, wideFollowed}
+use Rattle.sheet.specs.Layout.{Sizes, Layout, sampleCount, sizesOf, narrowChecked, wideChecked, headChecked, samplesFrom, endChecked, checked, validated}
 use Rattle.roads.specs.Roads.{roadAt, roadChecked, roadsFrom}
 
-abbrev pub Number : ℕ → Type 0
-Number k = T (between 1 14 k || eqb k 17)
+-- the numbers of the check, and without the one of too few distances
+abbrev pub anyNumber : ℕ → Bool
+anyNumber k = between 1 14 k || eqb k 17
 
-pub data Numbered {A : Type 0} : Checked A → Type 0 where
-  accepts : {a : A} → Numbered (accepted a)
-  refuses : {number place : ℕ} → Number number → Numbered (refused number place)
+abbrev notOne : ℕ → Bool
+notOne k = between 2 14 k || eqb k 17
 
-module _ {A : Type 0} where
-  required : (t : Bool) (number place : ℕ) (next : Checked A) → Number number → Numbered next → Numbered (require t number place next)
+pub data Numbered (allowed : ℕ → Bool) {A : Type 0} : Checked A → Type 0 where
+  accepts : {a : A} → Numbered allowed (accepted a)
+  refuses : {number place : ℕ} → T (allowed number) → Numbered allowed (refused number place)
+
+module _ {allowed : ℕ → Bool} {A : Type 0} where
+  required : (t : Bool) (number place : ℕ) (next : Checked A) → T (allowed number) → Numbered allowed next → Numbered allowed (require t number place next)
   required true number place next n h = h
   required false number place next n h = refuses n
 
-  chosen : (t : Bool) (a b : Checked A) → Numbered a → Numbered b → Numbered {A = A} (elim t as (λ _. Checked A) [ true ↦ a | false ↦ b ])
+  -- a test that holds refuses nothing, and what follows a test may rest on it
+  passed : (t : Bool) (number place : ℕ) (next : Checked A) → T t → Numbered allowed next → Numbered allowed (require t number place next)
+  passed true number place next p h = h
+  passed false number place next p h = absurd p
+
+  onward : (t : Bool) (number place : ℕ) (next : Checked A) → T (allowed number) → (T t → Numbered allowed next) → Numbered allowed (require t number place next)
+  onward true number place next n h = h tt
+  onward false number place next n h = refuses n
+
+  chosen : (t : Bool) (a b : Checked A) → Numbered allowed a → Numbered allowed b → Numbered allowed {A = A} (elim t as (λ _. Checked A) [ true ↦ a | false ↦ b ])
   chosen true a b h k = h
   chosen false a b h k = k
 
-  either : (t : Bool) (a b : Checked A) → Numbered a → Numbered b → Numbered (cond t a b)
-  either true a b h k = h
-  either false a b h k = k
+  either : (t : Bool) (a b : Checked A) → (t ≡ true → Numbered allowed a) → (t ≡ false → Numbered allowed b) → Numbered allowed (cond t a b)
+  either true a b h k = h refl
+  either false a b h k = k refl
 
-bound : {A B : Type 0} (c : Checked A) (f : A → Checked B) → Numbered c → ((a : A) → Numbered (f a)) → Numbered (c >>= f)
+  number-told : {number place : ℕ} → Numbered allowed {A = A} (refused number place) → T (allowed number)
+  number-told (refuses h) = h
+
+bound : {allowed : ℕ → Bool} {A B : Type 0} (c : Checked A) (f : A → Checked B) → Numbered allowed c → ((a : A) → Numbered allowed (f a)) → Numbered allowed (c >>= f)
 bound (accepted a) f h k = k a
 bound (refused number place) f (refuses n) k = refuses n
 
-module _ (s : List ℕ) where
-  head-numbered : (distances : ℕ) → Numbered (headChecked s distances)
-  unfolding headChecked narrowChecked wideChecked
-  head-numbered distances = either (isWide s) _ _ (search (required, accepts)) (search (required, accepts))
+any : {A : Type 0} {c : Checked A} → Numbered notOne c → Numbered anyNumber c
+any accepts = accepts
+any (refuses {number = k} h) = refuses (⊎-elim
+    (λ b. or-l (between 1 14 k) (eqb k 17) (in-limits 1 14 k (omega (arith, leb→le 2 k (and-l (leb 2 k) (leb k 14) b))) (leb→le k 14 (and-r (leb 2 k) (leb k 14) b))))
+    (or-r (between 1 14 k) (eqb k 17))
+    (or-e (between 2 14 k) (eqb k 17) h))
 
-  constant-numbered : (at : ℕ) → Numbered (constantAt s at)
+module _ (s : List ℕ) where
+  head-numbered : (distances : ℕ) → Numbered anyNumber (headChecked s distances)
+  unfolding headChecked narrowChecked wideChecked
+  head-numbered distances = either (isWide s) _ _ (λ _. search (required, accepts)) (λ _. search (required, accepts))
+
+  -- the places of a wide sheet whose first word passes have no more distances
+  enough : isWide s ≡ true → T (wideCounted s) → T (leb (sizesOf s .places * sizesOf s .places) (mostPlaces * mostPlaces))
+  unfolding wideCounted sizesOf placesOf
+  enough wide counted =
+      let n : ℕ = bits 0 16 (wordAt s 0) in
+      let most : n ≤ mostPlaces = leb→le n mostPlaces (and-r (leb 1 n) (leb n mostPlaces) (and-l (between 1 mostPlaces n) _ counted)) in
+      rw wide (le→leb (n * n) (mostPlaces * mostPlaces) (mul-le-mul most most))
+
+  head-validated : Numbered notOne (headChecked s (mostPlaces * mostPlaces))
+  unfolding headChecked narrowChecked wideChecked
+  head-validated = either (isWide s) _ _
+      (λ wide. onward (wideCounted s) 17 0 _ tt (λ counted. let some = enough wide counted in search (required, passed, accepts)))
+      (λ _. passed (leb leastDistances (mostPlaces * mostPlaces)) 1 0 _ tt (search (required, accepts)))
+
+  constant-numbered : (at : ℕ) → Numbered notOne (constantAt s at)
   unfolding constantAt
   constant-numbered at = search (required, accepts)
 
-  bounds-numbered : (at : ℕ) → Numbered (boundsAt s at)
+  bounds-numbered : (at : ℕ) → Numbered notOne (boundsAt s at)
   unfolding boundsAt
   bounds-numbered at = search (required, accepts)
 
-  operator-numbered : (code : Code) (at left right v lines : ℕ) → Numbered (operatorBy s code at left right v lines)
+  operator-numbered : (code : Code) (at left right v lines : ℕ) → Numbered notOne (operatorBy s code at left right v lines)
   operator-numbered (constant o) at left right v lines = search (required, accepts)
   operator-numbered (atom o) at left right v lines = search (required, accepts, bound, constant-numbered)
   operator-numbered (unary o) at left right v lines = search (required, accepts)
@@ -58,37 +104,55 @@ module _ (s : List ℕ) where
   operator-numbered (binaryBounded o) at left right v lines = search (required, accepts, bound, bounds-numbered)
   operator-numbered unknown at left right v lines = refuses tt
 
-  line-numbered : (v T lines : ℕ) (extents : ℕ → Extent) (at : ℕ) → Numbered (lineAt s v T lines extents at)
+  line-numbered : (v T lines : ℕ) (extents : ℕ → Extent) (at : ℕ) → Numbered notOne (lineAt s v T lines extents at)
   unfolding lineAt operatorAt
   line-numbered v T lines extents at = search (required, accepts, bound, operator-numbered)
 
-  lines-numbered : (v T room : ℕ) (lines : List Line) (at : ℕ) → Numbered (linesFrom s v T room lines at)
+  lines-numbered : (v T room : ℕ) (lines : List Line) (at : ℕ) → Numbered notOne (linesFrom s v T room lines at)
   unfolding linesFrom
   lines-numbered v T zero lines at = search (required, accepts)
   lines-numbered v T (suc room) lines at =
-      let onward = lines-numbered v T room in
-      chosen (isKind 5 s at) _ _ (bound _ _ (line-numbered v T (length lines) (λ i. lineIn lines i .extent) at) (λ read. onward (lines ++ (read .0 ∷ [])) (read .1))) (search (required, accepts))
+      let next = lines-numbered v T room in
+      chosen (isKind 5 s at) _ _ (bound _ _ (line-numbered v T (length lines) (λ i. lineIn lines i .extent) at) (λ read. next (lines ++ (read .0 ∷ [])) (read .1))) (search (required, accepts))
 
-  samples-numbered : (count at : ℕ) → Numbered (samplesFrom s count at)
+  samples-numbered : (count at : ℕ) → Numbered notOne (samplesFrom s count at)
   unfolding samplesFrom
   samples-numbered zero at = accepts
-  samples-numbered (suc count) at = let onward = samples-numbered count (at + 1) in search (required)
+  samples-numbered (suc count) at = let next = samples-numbered count (at + 1) in search (required)
 
-  road-numbered : (n at last : ℕ) → Numbered (roadChecked s n at last)
+  road-numbered : (n at last : ℕ) → Numbered notOne (roadChecked s n at last)
   unfolding roadChecked
   road-numbered n at last = search (required, accepts)
 
-  roads-numbered : (n words r last : ℕ) → Numbered (roadsFrom s n words r last)
+  roads-numbered : (n words r last : ℕ) → Numbered notOne (roadsFrom s n words r last)
   unfolding roadsFrom
   roads-numbered n zero r last = accepts
   roads-numbered n (suc words) r last =
-      let onward = roads-numbered n words (suc r) in
-      chosen (isKind 2 s (roadAt (isWide s) r)) _ _ (bound _ _ (road-numbered n (roadAt (isWide s) r) last) onward) accepts
+      let next = roads-numbered n words (suc r) in
+      chosen (isKind 2 s (roadAt (isWide s) r)) _ _ (bound _ _ (road-numbered n (roadAt (isWide s) r) last) next) accepts
 
-  end-numbered : (at : ℕ) (L : Layout) → Numbered (endChecked s at L)
+  end-numbered : (at : ℕ) (L : Layout) → Numbered notOne (endChecked s at L)
   unfolding endChecked
   end-numbered at L = search (required, accepts)
 
-  pub check-numbered : (distances : ℕ) → Numbered (checked s distances)
+  abbrev afterHead : Sizes → Checked Layout
+  afterHead sizes = do
+    roads ← roadsFrom s (sizes .places) (length s) 0 0
+    linesAt ← samplesFrom s (sampleCount sizes) (roadAt (isWide s) roads)
+    found ← linesFrom s (sizes .signals) (sizes .samples) mostLines [] linesAt
+    endChecked s (found .1) (record { sizes = sizes; roads = roads; lines = found .0 })
+
+  after-numbered : (sizes : Sizes) → Numbered notOne (afterHead sizes)
+  after-numbered sizes = search (bound, roads-numbered, samples-numbered, lines-numbered, end-numbered) depth 8
+
+  pub check-numbered : (distances : ℕ) → Numbered anyNumber (checked s distances)
   unfolding checked
-  check-numbered distances = search (required, bound, head-numbered, roads-numbered, samples-numbered, lines-numbered, end-numbered) depth 8
+  check-numbered distances = bound (headChecked s distances) afterHead (head-numbered distances) (λ sizes. any (after-numbered sizes))
+
+  validated-numbered : Numbered notOne (validated s)
+  unfolding checked validated
+  validated-numbered = bound (headChecked s (mostPlaces * mostPlaces)) afterHead head-validated after-numbered
+
+  -- those who ask for no distance are never told of too few
+  pub never-refused-1 : (place : ℕ) → validated s ≡ refused 1 place → ⊥
+  never-refused-1 place e = number-told (subst (Numbered notOne) e validated-numbered)

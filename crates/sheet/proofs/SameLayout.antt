@@ -3,17 +3,18 @@
 use mathlib.Core.Path.{_≡_, refl, sym, ap, ap₂, subst, _∙_}
 use mathlib.Core.Logic.{_⊎_, inl, ⊎-elim}
 use mathlib.Core.Bool.{Bool, true, false, not, cond, _&&_, and-false}
-use mathlib.Core.List.{List, [], _∷_, _++_}
+use mathlib.Core.List.{List, []}
 use Prim.Native.Nat.{ℕ, zero, suc, _+_}
-use lib.Dec.{T, eqb, ltb, leb}
+use native.Mathlib.Omega.{arith}
+use borrow.Author.Tests.{ne-eqb}
+use lib.Dec.{T, eqb, ltb, leb, leb→le}
 use lib.ListN.{length}
 use lib.IntN.{ℤ}
 use Rattle.words.specs.Word.{kindOf, payloadOf, bits}
-use Rattle.formulas.specs.Formulas.{Operator, Extent, Line, lineIn}
-use Rattle.checks.specs.Limits.{mostPlaces, mostLines, leastDistances}
-use Rattle.checks.specs.Checked.{Checked, accepted, _>>=_, require, between, wordAt, isKind}
-use Rattle.lines.specs.Codes.{Code, constant, atom, unary, binary, unaryBounded, binaryBounded, unknown, codeOf}
-use Rattle.lines.specs.Lines.{codeField, leftField, rightField, constantAt, boundsAt, operatorBy, operatorAt, lineAt, linesFrom}
+use Rattle.formulas.specs.Formulas.{Line}
+use Rattle.checks.specs.Limits.{mostLines, leastDistances}
+use Rattle.checks.specs.Checked.{Checked, accepted, _>>=_, between, wordAt, isKind}
+use Rattle.lines.specs.Lines.{linesFrom}
 use Rattle.checks.specs.Heads.{isWide, headOf, placesOf, wideCounted, wideFollowed}
 use Rattle.sheet.specs.Layout.{Sizes, Layout, sizesOf, narrowChecked, wideChecked, headChecked, sampleCount, samplesFrom, endChecked, checked}
 use Rattle.roads.specs.Roads.{roadAt, roadChecked, roadsFrom}
@@ -21,32 +22,14 @@ use Rattle.sheet.specs.Alike.{BothSamples, AlikeButSamples}
 use Rattle.counting.proofs.Tests.{and-l, fails}
 use Rattle.counting.proofs.Lists.{each-at, each-length}
 use Rattle.checks.proofs.Checks.{same-accepted, bind-accepted}
+use Rattle.checks.proofs.Alike.{Alike, accept, SameUpTo, Same, require-alike, choice-alike, bind-alike, same-checks}
+use Rattle.lines.proofs.Moved.{lines-move}
 use Rattle.sheet.proofs.Accepted.{head-passed}
+use Rattle.sheet.proofs.MovedSamples.{samples-move}
 
--- ---- the same checks from the same parts
-bind-same : {A B : Type 0} (c d : Checked A) (f g : A → Checked B) → c ≡ d → ((a : A) → f a ≡ g a) → (c >>= f) ≡ (d >>= g)
-bind-same c d f g e h = ap₂ _>>=_ e (λ i a. h a i)
-
-require-same : {A : Type 0} (t u : Bool) (number place : ℕ) (c d : Checked A) → t ≡ u → (T u → c ≡ d) → require t number place c ≡ require u number place d
-require-same t true number place c d e h = rw e (h tt)
-require-same t false number place c d e h = rw e refl
-
--- a choice between two checks
-abbrev choose : {A : Type 0} → Bool → Checked A → Checked A → Checked A
-choose t a c = elim t [ true ↦ a | false ↦ c ]
-
-choice-same : {A : Type 0} (t u : Bool) (a b c : Checked A) → t ≡ u → (T u → a ≡ b) → choose t a c ≡ choose u b c
-choice-same t true a b c e h = rw e (h tt)
-choice-same t false a b c e h = rw e refl
-
--- road r, and then the roads after it
-abbrev roadThen : List ℕ → ℕ → ℕ → ℕ → ℕ → Checked ℕ
-roadThen s n words r last = roadChecked s n (roadAt (isWide s) r) last >>= λ pair. roadsFrom s n words (suc r) pair
-
--- the line at an index, and then the lines after it
-abbrev lineThen : List ℕ → ℕ → ℕ → ℕ → List Line → ℕ → Checked (List Line × ℕ)
-lineThen s v T room lines at =
-    lineAt s v T (length lines) (λ i. lineIn lines i .extent) at >>= (λ read. linesFrom s v T room (lines ++ (read .0 ∷ [])) (read .1))
+-- a line has words of other kinds than a sample's
+not-four : (kind : ℕ) → T (between 5 8 kind) → T (not (eqb 4 kind))
+not-four kind inside = rw (ne-eqb 4 kind (λ e. omega (arith, leb→le 5 kind (and-l (leb 5 kind) _ inside)))) tt
 
 module _ (Related : ℤ → ℤ → Type 0) (X Y : List ℕ) (alike : AlikeButSamples Related X Y) where
   same-length : length X ≡ length Y
@@ -92,10 +75,10 @@ module _ (Related : ℤ → ℤ → Type 0) (X Y : List ℕ) (alike : AlikeButSa
   unfolding isWide
   layout-same = kind-same 10 0
 
-  narrow-same : (d : ℕ) → isWide Y ≡ false → narrowChecked X d ≡ narrowChecked Y d
+  narrow-same : (d : ℕ) → isWide Y ≡ false → Same (narrowChecked X d) (narrowChecked Y d)
   unfolding narrowChecked sizesOf headOf placesOf
-  narrow-same d narrow = require-same (leb leastDistances d) (leb leastDistances d) 1 0 _ _ refl (λ _.
-      require-same (isKind 1 X 0) (isKind 1 Y 0) 2 0 _ _ (kind-same 1 0) (λ h. rw (layout-same, narrow, word-same 1 0 tt h) refl))
+  narrow-same d narrow = require-alike (leb leastDistances d) (leb leastDistances d) 1 0 0 _ _ refl refl (λ _.
+      require-alike _ _ 2 0 0 _ _ (kind-same 1 0) refl (λ h. rw (layout-same, narrow, word-same 1 0 tt h) (search (require-alike, accept))))
 
   wide-first : isWide Y ≡ true → wordAt X 0 ≡ wordAt Y 0
   unfolding isWide
@@ -109,84 +92,55 @@ module _ (Related : ℤ → ℤ → Type 0) (X Y : List ℕ) (alike : AlikeButSa
   unfolding wideFollowed
   wide-head h = word-same 1 1 tt (and-l (isKind 1 Y 1) _ h)
 
-  wide-same : (d : ℕ) → isWide Y ≡ true → wideChecked X d ≡ wideChecked Y d
+  wide-same : (d : ℕ) → isWide Y ≡ true → Same (wideChecked X d) (wideChecked Y d)
   unfolding wideChecked wideCounted sizesOf headOf placesOf
-  wide-same d wide = rw (layout-same, wide, wide-first wide) (require-same (between 1 mostPlaces (bits 0 16 (wordAt Y 0)) && eqb (bits 16 12 (wordAt Y 0)) 0) (between 1 mostPlaces (bits 0 16 (wordAt Y 0)) && eqb (bits 16 12 (wordAt Y 0)) 0) 17 0 _ _ refl (λ _.
-      require-same (wideFollowed X 1) (wideFollowed Y 1) 17 1 _ _ followed-same (λ h. rw (wide-head h) refl)))
+  wide-same d wide = rw (layout-same, wide, wide-first wide) (require-alike (wideCounted Y) (wideCounted Y) 17 0 0 _ _ refl refl (λ _.
+      require-alike _ _ 17 1 1 _ _ followed-same refl (λ h. rw (wide-head h) (search (require-alike, accept)))))
 
-  head-same : (d : ℕ) → headChecked X d ≡ headChecked Y d
+  head-same : (d : ℕ) → Same (headChecked X d) (headChecked Y d)
   unfolding headChecked
   head-same d = rw layout-same (go (isWide Y) refl)
     where
-      go : (wide : Bool) → isWide Y ≡ wide → cond wide (wideChecked X d) (narrowChecked X d) ≡ cond wide (wideChecked Y d) (narrowChecked Y d)
+      go : (wide : Bool) → isWide Y ≡ wide → Same (cond wide (wideChecked X d) (narrowChecked X d)) (cond wide (wideChecked Y d) (narrowChecked Y d))
       go true e = wide-same d e
       go false e = narrow-same d e
 
-  road-same : (n at last : ℕ) → wordAt X at ≡ wordAt Y at → roadChecked X n at last ≡ roadChecked Y n at last
+  road-same : (n r last : ℕ) → T (isKind 2 Y (roadAt (isWide Y) r))
+      → Same (roadChecked X n (roadAt (isWide X) r) last) (roadChecked Y n (roadAt (isWide Y) r) last)
   unfolding roadChecked
-  road-same n at last e = rw (e, layout-same, test-same 3 (at + 1) (λ w. ltb 0 (payloadOf w)) tt) refl
-
-  roads-same : (n words r last : ℕ) → roadsFrom X n words r last ≡ roadsFrom Y n words r last
-  unfolding roadsFrom
-  roads-same n zero r last = refl
-  roads-same n (suc words) r last =
+  road-same n r last h =
       let at : ℕ = roadAt (isWide Y) r in
-      choice-same (isKind 2 X (roadAt (isWide X) r)) (isKind 2 Y at) (roadThen X n words r last) (roadThen Y n words r last) (accepted r)
-      (rw layout-same (kind-same 2 at))
-      (λ h. bind-same (roadChecked X n (roadAt (isWide X) r) last) (roadChecked Y n at last) (λ pair. roadsFrom X n words (suc r) pair) (λ pair. roadsFrom Y n words (suc r) pair)
-      (rw layout-same (road-same n at last (word-same 2 at tt h))) (λ pair. roads-same n words (suc r) pair))
+      rw (layout-same, word-same 2 at tt h, test-same 3 (at + 1) (λ w. ltb 0 (payloadOf w)) tt) (search (require-alike, accept))
 
-  constant-same : (at : ℕ) → constantAt X at ≡ constantAt Y at
-  unfolding constantAt
-  constant-same at = require-same (isKind 8 X at) (isKind 8 Y at) 12 at _ _ (kind-same 8 at) (λ h. rw (word-same 8 at tt h) refl)
+  roads-same : (n words r last : ℕ) → Same (roadsFrom X n words r last) (roadsFrom Y n words r last)
+  unfolding roadsFrom
+  roads-same n zero r last = accept refl
+  roads-same n (suc words) r last =
+      choice-alike (isKind 2 X (roadAt (isWide X) r)) (isKind 2 Y (roadAt (isWide Y) r)) _ _ _ _ (rw layout-same (kind-same 2 (roadAt (isWide Y) r)))
+      (λ h. bind-alike _ _ (road-same n r last h) (λ a b e. rw e (roads-same n words (suc r) b))) (accept refl)
 
-  bounds-same : (at : ℕ) → boundsAt X at ≡ boundsAt Y at
-  unfolding boundsAt
-  bounds-same at = require-same (isKind 6 X at) (isKind 6 Y at) 12 at _ _ (kind-same 6 at)
-      (λ h. require-same (isKind 7 X (at + 1)) (isKind 7 Y (at + 1)) 12 (at + 1) _ _ (kind-same 7 (at + 1))
-      (λ k. rw (word-same 6 at tt h, word-same 7 (at + 1) tt k) refl))
+  samples-same : (count at : ℕ) → Same (samplesFrom X count at) (samplesFrom Y count at)
+  samples-same count at =
+      samples-move X Y (λ i j. i ≡ j) (λ i j k e. ap (λ l. l + k) e) (λ i j e. rw e (kind-same 4 j)) (λ i j e _. rw e (spare-same j)) count at at refl
 
-  operator-same : (code : Code) (at left right v lines : ℕ) → operatorBy X code at left right v lines ≡ operatorBy Y code at left right v lines
-  operator-same (constant o) at left right v lines = refl
-  operator-same (atom o) at left right v lines = rw (constant-same (at + 1)) refl
-  operator-same (unary o) at left right v lines = refl
-  operator-same (binary o) at left right v lines = refl
-  operator-same (unaryBounded o) at left right v lines = rw (bounds-same (at + 1)) refl
-  operator-same (binaryBounded o) at left right v lines = rw (bounds-same (at + 1)) refl
-  operator-same unknown at left right v lines = refl
+  lines-same : (v T room : ℕ) (lines : List Line) (at : ℕ)
+      → Alike (λ p q. p ≡ q) (SameUpTo (λ p q. p ≡ q) (List Line)) (linesFrom X v T room lines at) (linesFrom Y v T room lines at)
+  lines-same v T room lines at =
+      lines-move X Y (λ i j. i ≡ j) (λ i j k e. ap (λ l. l + k) e) (λ kind i j _ e. rw e (kind-same kind j))
+      (λ kind i j inside e h. rw e (word-same kind j (not-four kind inside) h)) v T room lines at at refl
 
-  line-same : (v T lines : ℕ) (extents : ℕ → Extent) (at : ℕ) → wordAt X at ≡ wordAt Y at → lineAt X v T lines extents at ≡ lineAt Y v T lines extents at
-  unfolding lineAt operatorAt
-  line-same v T lines extents at e =
-      let by : ℕ → Checked (Operator × ℕ) = λ w. operatorBy X (codeOf (codeField w)) at (leftField w) (rightField w) v lines in
-      let w : ℕ = wordAt Y at in
-      bind-same (operatorAt X v lines at) (operatorAt Y v lines at) _ _
-      (ap by e ∙ operator-same (codeOf (codeField w)) at (leftField w) (rightField w) v lines) (λ _. refl)
-
-  lines-same : (v T room : ℕ) (lines : List Line) (at : ℕ) → linesFrom X v T room lines at ≡ linesFrom Y v T room lines at
-  unfolding linesFrom
-  lines-same v T zero lines at = rw (kind-same 5 at) refl
-  lines-same v T (suc room) lines at = choice-same (isKind 5 X at) (isKind 5 Y at) (lineThen X v T room lines at) (lineThen Y v T room lines at) _ (kind-same 5 at)
-      (λ h. bind-same _ _ _ _ (line-same v T (length lines) (λ i. lineIn lines i .extent) at (word-same 5 at tt h)) (λ read. lines-same v T room (lines ++ (read .0 ∷ [])) (read .1)))
-
-  samples-same : (count at : ℕ) → samplesFrom X count at ≡ samplesFrom Y count at
-  unfolding samplesFrom
-  samples-same zero at = refl
-  samples-same (suc count) at = require-same (isKind 4 X at) (isKind 4 Y at) 8 at _ _ (kind-same 4 at)
-      (λ _. require-same (eqb (bits 27 1 (wordAt X at)) 0) (eqb (bits 27 1 (wordAt Y at)) 0) 9 at _ _ (spare-same at) (λ _. samples-same count (at + 1)))
-
-  end-same : {A : Type 0} (at : ℕ) (found : A) → endChecked X at found ≡ endChecked Y at found
+  end-same : {A : Type 0} (at : ℕ) (found : A) → Same (endChecked X at found) (endChecked Y at found)
   unfolding endChecked
-  end-same at found = rw (test-same 15 at (λ w. eqb (payloadOf w) at) tt, same-length) refl
+  end-same at found = rw (test-same 15 at (λ w. eqb (payloadOf w) at) tt, same-length) (search (require-alike, accept))
 
   -- ---- the whole
   pub checked-alike : (d : ℕ) → checked X d ≡ checked Y d
   unfolding checked
-  checked-alike d =
-      bind-same _ _ _ _ (head-same d) (λ sizes.
-      bind-same _ _ _ _ (roads-same (sizes .places) (length X) 0 0 ∙ ap (λ n. roadsFrom Y (sizes .places) n 0 0) same-length) (λ roads.
-      bind-same _ _ _ _ (ap (λ wide. samplesFrom X (sampleCount sizes) (roadAt wide roads)) layout-same ∙ samples-same (sampleCount sizes) (roadAt (isWide Y) roads)) (λ begins.
-      bind-same _ _ _ _ (lines-same (sizes .signals) (sizes .samples) mostLines [] begins) (λ found. end-same (found .1) _))))
+  checked-alike d = same-checks
+      (bind-alike _ _ (head-same d) (λ z sizes e. rw (e, same-length, layout-same)
+      (bind-alike _ _ (roads-same (sizes .places) (length Y) 0 0) (λ q roads e. rw e
+      (bind-alike _ _ (samples-same (sampleCount sizes) (roadAt (isWide Y) roads)) (λ i begins e. rw e
+      (bind-alike _ _ (lines-same (sizes .signals) (sizes .samples) mostLines [] begins) (λ a found e. rw (e .0, e .1) (end-same (found .1) _)))))))))
 
 -- so where both are accepted they have the same layout, whatever was lent to either: what is lent decides of the head alone
 afterHead : List ℕ → Sizes → Checked Layout
@@ -196,7 +150,7 @@ afterHead s sizes = do
   found ← linesFrom s (sizes .signals) (sizes .samples) mostLines [] linesAt
   endChecked s (found .1) (record { sizes = sizes; roads = roads; lines = found .0 })
 
-lent-otherwise : (s : List ℕ) (d e : ℕ) {L M : Layout} → checked s d ≡ accepted L → checked s e ≡ accepted M → L ≡ M
+pub lent-otherwise : (s : List ℕ) (d e : ℕ) {L M : Layout} → checked s d ≡ accepted L → checked s e ≡ accepted M → L ≡ M
 unfolding checked afterHead
 lent-otherwise s d e x y =
     let a = bind-accepted (headChecked s d) (afterHead s) x in

@@ -1,13 +1,14 @@
 -- The whole check from its parts: how the last parts decide it, and what its acceptance tells of each part.
-use Prim.Native.Nat.{ℕ, _+_, _-_, _*_, _/_, _<_, _≤_}
+use Prim.Native.Nat.{ℕ, _+_, _-_, _*_, _/_, _<_, _≤_, _^_}
 use mathlib.Core.List.{List, []}
 use mathlib.Core.Path.{_≡_, sym, _∙_, ap, ap₂, subst}
 use native.Mathlib.Omega.{arith}
 use lib.ListN.{length}
+use Rattle.words.specs.Word.{wordOf}
 use Rattle.formulas.specs.Formulas.{Line}
 use Rattle.sheet.specs.declared.check.Layout as Code
 use Rattle.checks.specs.Limits.{mostLines}
-use Rattle.checks.specs.Checked.{Checked, accepted, refused, _>>=_}
+use Rattle.checks.specs.Checked.{Checked, accepted, refused, _>>=_, wordAt}
 use Rattle.checks.specs.Heads.{mostOf, isWide}
 use Rattle.lines.specs.Lines.{linesFrom}
 use Rattle.sheet.specs.Layout.{Sizes, Layout, sampleCount, headChecked, samplesFrom, endChecked, checked}
@@ -17,8 +18,10 @@ use Rattle.lines.specs.Decoding.{lineCount}
 use Rattle.sheet.specs.Checking.{layoutOf}
 use Rattle.checks.proofs.Checks.{bind-accepted, mapped-accepted, mapped-refused}
 use Rattle.checks.proofs.Heads.{few-head-words}
-use Rattle.sheet.proofs.Accepted.{SizesWithin, head-passed, head-accepted, samples-end, end-accepted, end-mapped}
+use Rattle.sheet.proofs.Accepted.{SizesWithin, head-passed, head-accepted, sample-count, samples-end, end-accepted, end-mapped}
 use Rattle.lines.proofs.Walk.{first-inside}
+use Rattle.lines.proofs.FewWords.{table-ends}
+use Rattle.roads.proofs.AcceptedRoads.{few-roads}
 
 -- ---- the lines and the end, where what stands before them has passed
 
@@ -74,9 +77,11 @@ pub record AcceptedSheet (s : List ℕ) (d : ℕ) (L : Layout) : Type 0 where
   pub sizes : SizesWithin (L.sizes)
   pub few : L.sizes.places ≤ mostOf (isWide s)
   pub roads : roadsFrom s (L.sizes.places) (length s) 0 0 ≡ accepted (L.roads)
+  pub recorded : samplesFrom s (sampleCount (L.sizes)) (roadAt (isWide s) (L.roads)) ≡ accepted (layoutOf s L .table)
   -- the lines stand from `table` on, and the end word is the last
   pub table : linesFrom s (L.sizes.signals) (L.sizes.samples) mostLines [] (layoutOf s L .table) ≡ accepted (L.lines, length s - 1)
   pub table-there : layoutOf s L .table < length s
+  pub last : wordAt s (length s - 1) ≡ wordOf 15 (length s - 1)
 
 pub accepted-sheet : (s : List ℕ) (d : ℕ) (L : Layout) → checked s d ≡ accepted L → AcceptedSheet s d L
 unfolding checked
@@ -98,7 +103,19 @@ accepted-sheet s d L e =
       sizes = head-accepted s d (head .1);
       few = subst (λ (k : Sizes). k .places ≤ mostOf (isWide s)) (passed .0) (passed .3);
       roads = roads .1;
+      recorded = samples .1 ∙ ap accepted begins;
       table = ap (linesFrom s (z .signals) (z .samples) mostLines []) (sym begins) ∙ lines .1 ∙ ap ended last;
       table-there = subst (λ (n : ℕ). n < length s) begins (first-inside s (z .signals) (z .samples) (samples .0) (lines .1));
+      last = subst (λ (n : ℕ). wordAt s n ≡ wordOf 15 n) last (ends .2);
     } in
     subst (AcceptedSheet s d) (ends .1) sheet
+
+-- ---- how long it can be: roads rise, and the other sizes have limits
+pub few-words : (s : List ℕ) (d : ℕ) (L : Layout) → AcceptedSheet s d L → length s < 2 ^ 26
+few-words s d L sheet = omega (
+  arith,
+  few-head-words (isWide s),
+  few-roads s (L.sizes.places) (length s) (L.roads) (sheet .roads),
+  sample-count (sheet .sizes) .1,
+  table-ends s (L.sizes.signals) (L.sizes.samples) mostLines [] (layoutOf s L .table) (sheet .table),
+)

@@ -6,7 +6,7 @@ use lib.Dec.{leb, eqb}
 use lib.ListN.{length}
 use Rattle.words.specs.Word.{bits, payloadOf}
 use Rattle.formulas.specs.Formulas.{Line}
-use Rattle.checks.specs.Limits.{mostNarrow, mostSignals, mostSamples, mostLines, leastDistances}
+use Rattle.checks.specs.Limits.{mostPlaces, mostNarrow, mostSignals, mostSamples, mostLines, leastDistances}
 use Rattle.checks.specs.Checked.{Checked, accepted, _>>=_, require, between, wordAt, isKind}
 use Rattle.checks.specs.Heads.{isWide, headOf, placesOf, wideCounted, wideFollowed}
 use Rattle.lines.specs.Lines.{linesFrom}
@@ -74,3 +74,7 @@ module _ (s : List ℕ) where
     linesAt ← samplesFrom (sampleCount sizes) (roadAt (isWide s) roads)
     found ← linesFrom s (sizes .signals) (sizes .samples) mostLines [] linesAt
     endChecked (found .1) (record { sizes = sizes; roads = roads; lines = found .0 })
+
+  -- for those that ask for no distance: with as many as the most places have, so that no 1 arises (M-105)
+  unfoldable pub validated : Checked Layout
+  validated = checked (mostPlaces * mostPlaces)

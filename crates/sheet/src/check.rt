@@ -3,6 +3,7 @@ use crate::stages::Head;
 use crate::stages::check_head;
 use crate::stages::check_samples;
 use checks::fault::Fault;
+use checks::limits::MOST_PLACES;
 use checks::stage::Stage;
 use checks::word::is_end;
 use lines::table::Table;
@@ -10,7 +11,7 @@ use lines::table::check_lines;
 use roads::check::check_roads;
 ghost use mathlib.Core.Path.{_≡_};
 ghost use Rattle.words.specs.Bytes.{wordsOf};
-ghost use Rattle.sheet.specs.Layout.{endChecked, checked};
+ghost use Rattle.sheet.specs.Layout.{endChecked, checked, validated};
 ghost use Rattle.checks.specs.Checked.{mapped};
 ghost use Rattle.sheet.specs.Checking.{checkSaid, layoutOf};
 
@@ -80,4 +81,11 @@ pub fn check_sheet(s: &[u8], distances: usize) -> Check
             },
         ),
     }
+}
+
+// Checks a sheet for those that ask for no distance.
+pub fn check_words(s: &[u8]) -> Check
+    ensures { λ r. ⌜ checkSaid r ≡ mapped (layoutOf (wordsOf (now (s .entry)))) (validated (wordsOf (now (s .entry)))) ⌝ }
+{
+    check_sheet(s, MOST_PLACES * MOST_PLACES)
 }
