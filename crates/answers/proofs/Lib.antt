@@ -5,6 +5,8 @@ pub mod AnswerWords
 pub mod AnswerSays
 pub mod WholeAnswer
 pub mod Accepted
+pub mod LineValues
+pub mod SameSamples
 pub mod Compared
 pub mod Steadiness
 pub mod Raising

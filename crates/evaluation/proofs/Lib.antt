@@ -1,4 +1,3 @@
-pub mod LineValues
 pub mod EarlierLines
 pub mod LineMeant
 pub mod SpaceTable

@@ -1,46 +1,24 @@
 -- A line that is made from the earlier lines' signals says what the logic gives it: its words, its yes verdicts and its rounds.
-use mathlib.Core.Path.{_≡_, refl, sym, _∙_, ap, subst}
+use mathlib.Core.Path.{_≡_, refl, sym, _∙_, ap}
 use mathlib.Core.List.{List}
 use Prim.Native.Nat.{ℕ, _+_, _<_}
-use native.Mathlib.Omega.{arith}
 use lib.ListN.{length}
 use Rattle.words.specs.Rows.{rows}
 use Rattle.words.proofs.Rows.{rows-ext}
 use Rattle.network.specs.Network.{Network}
-use Rattle.formulas.specs.Formulas.{Operator, True, AtLeast, AtMost, Not, And, Until, Somewhere, Surrounded, Or, Eventually, Always, Everywhere, Extent, Line, lineIn, extentOf, Recording, InBits}
-use Rattle.formulas.proofs.Extents.{Has, has-left, has-right}
+use Rattle.formulas.specs.Formulas.{Line, lineIn, Recording, InBits}
+use Rattle.formulas.proofs.Extents.{Has, has-row}
 use Rattle.logic.specs.Table.{Signal, verdicts, margins, value, valueAt}
 use Rattle.counting.specs.Totals.{count, sumBelow, mostBelow}
 use Rattle.logic.specs.Counts.{roundsAt}
-use Rattle.logic.proofs.Counts.{surround-rounds-same}
 use Rattle.formulas.specs.Formulas.{ConstantsIn}
 use Rattle.counting.proofs.Totals.{sum-same, most-same}
-use Rattle.lines.specs.GoodLines.{extentsOf, Sound, GoodTable}
+use Rattle.lines.specs.GoodLines.{extentsOf, GoodTable}
 use Rattle.values.specs.Chain.{chains, chainWord, chainVerdict, chainMargin}
 use Rattle.values.proofs.ChainTable.{chains-margin, chains-verdict}
 use Rattle.answers.specs.Answer.{wordFor}
-use Rattle.evaluation.proofs.LineValues.{operands-same, value-step}
+use Rattle.answers.proofs.LineValues.{operands-same, operand-rounds-same, value-step}
 use Rattle.evaluation.proofs.EarlierLines.{word-meant}
-
--- the rounds of a line depend on its operands within their extents alone
-module _ (N : Network) (T v k : ℕ) (extents : ℕ → Extent) (line line′ : ℕ → Signal margins)
-    (alike : (i t l : ℕ) → i < k → Has (extents i) t → l < N.places → line i t l ≡ line′ i t l) where
-  rounds-alike : (o : Operator) → Sound v k o → (t l : ℕ) → Has (extentOf T extents o) t → roundsAt N line o t l ≡ roundsAt N line′ o t l
-  unfolding roundsAt
-  rounds-alike True sound t l u = refl
-  rounds-alike (AtLeast signal c) sound t l u = refl
-  rounds-alike (AtMost signal c) sound t l u = refl
-  rounds-alike (Not i) sound t l u = refl
-  rounds-alike (And i j) sound t l u = refl
-  rounds-alike (Until side i j lower upper) sound t l u = refl
-  rounds-alike (Somewhere i lower upper) sound t l u = refl
-  rounds-alike (Surrounded islands i j lower upper) sound t l u = surround-rounds-same N lower upper l islands _ _ _ _
-      (λ m b. alike i t m (sound .0) (has-left (extents i) (extents j) t u) b)
-      (λ m b. alike j t m (sound .1) (has-right (extents i) (extents j) t u) b)
-  rounds-alike (Or i j) sound t l u = refl
-  rounds-alike (Eventually side i lower upper) sound t l u = refl
-  rounds-alike (Always side i lower upper) sound t l u = refl
-  rounds-alike (Everywhere i lower upper) sound t l u = refl
 
 module _ (N : Network) (T : ℕ) (x : Recording) (samples : (s t l : ℕ) → InBits 27 (x s t l)) (lines : List Line) (constants : ConstantsIn (InBits 27) lines)
     (v : ℕ) (good : GoodTable v T lines) (k : ℕ) (inside : k < length lines) (earlier : ℕ → Signal chains)
@@ -55,13 +33,10 @@ module _ (N : Network) (T : ℕ) (x : Recording) (samples : (s t l : ℕ) → In
   abbrev many : ℕ
   many = extentsOf lines k .length
 
-  among : {u : ℕ} → u < many → Has (extentsOf lines k) (first + u)
-  among h = record { from = omega arith; to = omega arith }
-
   value-meant : (u l : ℕ) → u < many → l < N.places → here (first + u) l ≡ valueAt chains N x lines k (first + u) l
   value-meant u l h b =
-      operands-same chains N x v T lines good k inside earlier (valueAt chains N x lines) same (first + u) l (among h) b
-      ∙ sym (value-step chains N x v T lines good k inside (first + u) l (among h) b)
+      operands-same N v T lines good k inside chains x x (λ _ _ _ _ _ _. refl) earlier (valueAt chains N x lines) same (first + u) l (has-row (extentsOf lines k) u h) b
+      ∙ sym (value-step N v T lines good k inside chains x (first + u) l (has-row (extentsOf lines k) u h) b)
 
   pub words-meant : rows (λ u l. chainWord (here (first + u) l)) many (N.places) ≡ rows (λ u. wordFor N T x lines k (first + u)) many (N.places)
   words-meant = rows-ext _ _ many (N.places) (λ u l h b. ap chainWord (value-meant u l h b) ∙ word-meant N T x samples lines constants k (first + u) l b)
@@ -74,6 +49,5 @@ module _ (N : Network) (T : ℕ) (x : Recording) (samples : (s t l : ℕ) → In
   pub rounds-meant : mostBelow (λ u. mostBelow (λ l. roundsAt N (λ i t m. chainMargin (earlier i t m)) (lineIn lines k .operator) (first + u) l) (N.places)) many
       ≡ mostBelow (λ u. mostBelow (λ l. roundsAt N (valueAt margins N x lines) (lineIn lines k .operator) (first + u) l) (N.places)) many
   rounds-meant = most-same _ _ many (λ u h. most-same _ _ (N.places)
-      (λ l b. rounds-alike N T v k (extentsOf lines) (λ i t m. chainMargin (earlier i t m)) (valueAt margins N x lines)
-      (λ i t m h c d. ap chainMargin (same i t m h c d) ∙ chains-margin N x samples lines constants i t m d)
-      (lineIn lines k .operator) (good k inside .sound) (first + u) l (subst (λ (e : Extent). Has e (first + u)) (good k inside .extent) (among h))))
+      (λ l b. operand-rounds-same N v T lines good k inside (λ i t m. chainMargin (earlier i t m)) (valueAt margins N x lines)
+      (λ i t m h c d. ap chainMargin (same i t m h c d) ∙ chains-margin N x samples lines constants i t m d) (first + u) l (has-row (extentsOf lines k) u h)))

@@ -1,6 +1,6 @@
 -- The samples of an extent; those of two operands; and that a line which has a sample ends within the recording (M-100: first plus length is at
 -- most T).
-use Prim.Native.Nat.{ℕ, _≤_, _<_}
+use Prim.Native.Nat.{ℕ, _+_, _≤_, _<_}
 use native.Mathlib.Omega.{arith}
 use lib.Dec.{T, leb, leb→le, ltb→lt, le→leb, lt→ltb}
 use Rattle.counting.proofs.Tests.{and-i, and-l, and-r}
@@ -16,6 +16,10 @@ has-e e t h = record { from = leb→le (e .first) t (and-l (leb (e .first) t) _ 
 
 pub has-i : (e : Extent) (t : ℕ) → Has e t → T (has e t)
 has-i e t h = and-i (leb (e .first) t) _ (le→leb (e .first) t (h .from)) (lt→ltb t (endOf e) (h .to))
+
+-- sample u of an extent is sample first + u of the recording
+pub has-row : (e : Extent) (u : ℕ) → u < e .length → Has e (e .first + u)
+has-row e u h = record { from = omega arith; to = omega arith }
 
 -- a sample of both extents is one of each
 pub has-left : (a b : Extent) (t : ℕ) → Has (common a b) t → Has a t

@@ -1,12 +1,14 @@
--- The rounds count of a table is at most the number of places, and that of a surround depends on the margins of the places alone.
-use mathlib.Core.Path.{_≡_, ap}
+-- The rounds count of a table is at most the number of places, that of a surround depends on the margins of the places alone, and that of a line on its
+-- operands within their extents alone.
+use mathlib.Core.Path.{_≡_, refl, ap}
 use mathlib.Core.Bool.{Bool, true, false, not, cond}
 use mathlib.Core.List.{List}
 use Prim.Native.Nat.{ℕ, _+_, _<_, _≤_, zero-le}
 use lib.Dec.{eqb}
 use lib.ListN.{length}
 use Rattle.network.specs.Network.{Network, joined, within, other}
-use Rattle.formulas.specs.Formulas.{Operator, True, AtLeast, AtMost, Not, And, Until, Somewhere, Surrounded, Or, Eventually, Always, Everywhere, Line, lineIn, Recording}
+use Rattle.formulas.specs.Formulas.{Operator, True, AtLeast, AtMost, Not, And, Until, Somewhere, Surrounded, Or, Eventually, Always, Everywhere, Extent, Line, lineIn, extentOf, Recording}
+use Rattle.formulas.proofs.Extents.{Has, has-left, has-right}
 use Rattle.logic.specs.Margin.{Margin, marginLattice}
 use Rattle.logic.specs.Iteration.{masked, except}
 use Rattle.logic.specs.Table.{Signal, margins, valueAt}
@@ -40,6 +42,25 @@ module _ (N : Network) (lower upper centre : ℕ) where
   surround-rounds-same true p q p′ q′ hp hq = run-same p q p′ q′ hp hq
   surround-rounds-same false p q p′ q′ hp hq = most-same _ _ (N.places)
       (λ k _. ap (λ (r : ℕ). cond (other N centre k) r 0) (run-same _ q _ q′ (masked-alike (λ l. not (eqb l k)) p p′ hp) hq))
+
+module _ (N : Network) (line line′ : ℕ → Signal margins) (extent : ℕ → Extent)
+    (alike : (i t l : ℕ) → Has (extent i) t → l < N.places → line i t l ≡ line′ i t l) (T : ℕ) where
+  pub line-rounds-same : (o : Operator) (t l : ℕ) → Has (extentOf T extent o) t → roundsAt N line o t l ≡ roundsAt N line′ o t l
+  unfolding roundsAt
+  line-rounds-same True t l b = refl
+  line-rounds-same (AtLeast x c) t l b = refl
+  line-rounds-same (AtMost x c) t l b = refl
+  line-rounds-same (Not i) t l b = refl
+  line-rounds-same (And i j) t l b = refl
+  line-rounds-same (Until side i j lower upper) t l b = refl
+  line-rounds-same (Somewhere i lower upper) t l b = refl
+  line-rounds-same (Surrounded islands i j lower upper) t l b = surround-rounds-same N lower upper l islands _ _ _ _
+      (λ m c. alike i t m (has-left (extent i) (extent j) t b) c)
+      (λ m c. alike j t m (has-right (extent i) (extent j) t b) c)
+  line-rounds-same (Or i j) t l b = refl
+  line-rounds-same (Eventually side i lower upper) t l b = refl
+  line-rounds-same (Always side i lower upper) t l b = refl
+  line-rounds-same (Everywhere i lower upper) t l b = refl
 
 rounds-at : (N : Network) → 1 ≤ N.places → (line : ℕ → Signal margins) (o : Operator) (t l : ℕ) → roundsAt N line o t l ≤ N.places
 unfolding roundsAt
