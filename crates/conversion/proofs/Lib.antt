@@ -1,0 +1,9 @@
+pub mod Examples
+pub mod Words
+pub mod Road
+pub mod Roads
+pub mod Accepted
+pub mod Back
+pub mod Contents
+pub mod Conversion
+pub mod Converting

@@ -1,0 +1,2 @@
+pub mod Relaid
+pub mod Lent
