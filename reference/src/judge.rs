@@ -3,15 +3,16 @@
 use crate::answer;
 use crate::distance::Distances;
 use crate::evaluation::Evaluation;
+use crate::numbers::{self, BYTES_PER_NUMBER};
 use crate::refusal::{Fault, Refusal};
 use crate::sheet;
 use crate::words::{self, BYTES_PER_WORD};
 
 /// The bytes of one entry of the distance table.
-pub const BYTES_PER_DISTANCE: usize = 8;
+pub const BYTES_PER_DISTANCE: usize = BYTES_PER_NUMBER;
 
 /// The bytes of a result: five numbers of eight bytes each.
-pub const RESULT_BYTES: usize = 40;
+pub const RESULT_BYTES: usize = 5 * BYTES_PER_NUMBER;
 
 /// "The result holds: number and place (both 0 on acceptance), words written,
 /// rounds, and the count of yes verdicts."
@@ -33,22 +34,15 @@ impl Outcome {
     /// The result's bytes: "five numbers, eight bytes each in the order above",
     /// lowest byte first.
     pub fn to_bytes(self) -> [u8; RESULT_BYTES] {
-        let numbers = [self.number, self.place, self.words, self.rounds, self.yes];
         let mut bytes = [0; RESULT_BYTES];
-        for (place, number) in bytes.chunks_exact_mut(8).zip(numbers) {
-            place.copy_from_slice(&number.to_le_bytes());
-        }
+        numbers::put(&mut bytes, [self.number, self.place, self.words, self.rounds, self.yes]);
         bytes
     }
 
     /// The result that bytes hold, if they are 40.
     pub fn from_bytes(bytes: &[u8]) -> Option<Outcome> {
-        let bytes: &[u8; RESULT_BYTES] = bytes.try_into().ok()?;
-        let mut numbers = bytes
-            .chunks_exact(8)
-            .map(|chunk| chunk.iter().rev().fold(0, |n, &b| n << 8 | u64::from(b)));
-        let mut next = || numbers.next().unwrap_or(0);
-        Some(Outcome { number: next(), place: next(), words: next(), rounds: next(), yes: next() })
+        let [number, place, words, rounds, yes] = numbers::read(bytes)?;
+        Some(Outcome { number, place, words, rounds, yes })
     }
 }
 
@@ -114,16 +108,8 @@ fn accept<E: Evaluation>(
     }
     let distances = Distances::new(sheet.head.places, &sheet.roads);
     let evaluation = E::evaluate(&sheet, &distances);
-    put_distances(&distances, lent_distances);
+    // "The lent distance table (64-bit) holds n·n distances row by row."
+    numbers::put(lent_distances, distances.entries());
     let yes = answer::write(&sheet, &evaluation, lent_answer);
     Ok(Outcome { words: needed as u64, rounds: evaluation.rounds(), yes, ..Outcome::default() })
-}
-
-/// "The lent distance table (64-bit) holds n·n distances row by row after
-/// acceptance."
-fn put_distances(distances: &Distances, lent: &mut [u8]) {
-    let places = lent.chunks_exact_mut(BYTES_PER_DISTANCE);
-    for (place, distance) in places.zip(distances.entries()) {
-        place.copy_from_slice(&distance.to_le_bytes());
-    }
 }

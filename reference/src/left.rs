@@ -2,7 +2,7 @@
 
 use crate::answer::Answer;
 use crate::judge::{Outcome, BYTES_PER_DISTANCE};
-use crate::words;
+use crate::{numbers, words};
 
 /// The number given back, and the bytes of the lent buffers after the call.
 #[derive(Clone, Debug, PartialEq, Eq)]
@@ -36,6 +36,6 @@ impl Left {
     /// The entry of the distance table at an index, if it has one.
     pub fn distance(&self, index: usize) -> Option<u64> {
         let entry = self.distances.chunks_exact(BYTES_PER_DISTANCE).nth(index)?;
-        Some(entry.iter().rev().fold(0, |number, &byte| number << 8 | u64::from(byte)))
+        numbers::read(entry).map(|[distance]| distance)
     }
 }

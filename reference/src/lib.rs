@@ -33,6 +33,7 @@ pub mod left;
 pub mod lookup;
 pub mod margin;
 pub mod meaning;
+pub mod numbers;
 pub mod page;
 pub mod print;
 pub mod refusal;
