@@ -45,6 +45,12 @@ impl SheetBuilder {
         self
     }
 
+    /// Adds words as they stand in another sheet.
+    pub fn copied(mut self, words: &[u32]) -> Self {
+        self.words.extend_from_slice(words);
+        self
+    }
+
     /// Adds a road's two words.
     pub fn road(mut self, first: u32, second: u32, weight: u32) -> Self {
         self.words.push(self.layout.pair_word(first, second));

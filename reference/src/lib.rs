@@ -16,13 +16,15 @@
 //!   of the paper does: made for networks of any size.
 //!
 //! [`judge()`], [`lookup()`] and [`print()`] are what a host and the printing
-//! program see.
+//! program see. Beside them a host has tools, which write words without judging:
+//! [`sheet_to_wide()`] and [`sheet_to_narrow()`].
 
 #![forbid(unsafe_code)]
 #![warn(missing_docs)]
 
 pub mod answer;
 pub mod builder;
+pub mod convert;
 pub mod distance;
 pub mod evaluation;
 pub mod fast;
@@ -38,9 +40,11 @@ pub mod page;
 pub mod print;
 pub mod refusal;
 pub mod sheet;
+pub mod tool;
 pub mod words;
 pub mod worked;
 
+pub use convert::{sheet_to_narrow, sheet_to_wide};
 pub use judge::judge;
 pub use lookup::lookup;
 pub use print::print;

@@ -35,17 +35,19 @@ pub enum Fault {
     LineLength = 13,
     /// The end is absent, not kind 15, of a wrong count, or a word follows.
     End = 14,
-    /// The lent answer has fewer words than needed.
+    /// The lent answer, or a tool's lent output, has fewer words than needed.
     AnswerTable = 15,
     /// The lent bytes do not have the lengths they must have.
     Bytes = 16,
     /// A wide head has a count outside its limits, spare bits set, or no kind 1
     /// word with places 0 after it.
     WideHead = 17,
+    /// "A wide sheet of more than 64 places asked into narrow."
+    NarrowPlaces = 18,
 }
 
 /// "The place is the index of the faulty word, the sheet's length if it is
-/// missing."
+/// missing." A number that is told of no word "has place 0".
 #[derive(Clone, Copy, Debug, PartialEq, Eq)]
 pub struct Refusal {
     /// What is wrong.

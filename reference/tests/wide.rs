@@ -6,10 +6,8 @@ mod common;
 use common::*;
 use reference::builder::SheetBuilder;
 use reference::fast::Fast;
-use reference::generate::random::Random;
-use reference::generate::{valid, Case};
+use reference::generate::Case;
 use reference::judge::Outcome;
-use reference::layout::{Front, Layout};
 use reference::left::Left;
 use reference::words::{self, kinds};
 use reference::worked::WIDE_A;
@@ -180,31 +178,5 @@ fn as_many_distances_as_places_squared() {
         assert_eq!(path(places, squared).number, 0);
         assert_eq!(path(places, squared + 100).number, 0);
         assert_eq!(path(places, squared - 1).number, 1);
-    }
-}
-
-/// A valid narrow sheet laid out wide: front and roads anew, and the end's count.
-fn widened(words: &[u32]) -> Vec<u32> {
-    let front = Front { layout: Layout::Wide, ..Front::told(words) };
-    let behind = words[1..words.len() - 1].iter().map(|&word| match words::kind(word) {
-        kinds::ROAD_PLACES => word & 0xF000_0000 | (word & 0xFF00) << 4 | word & 0xFF,
-        _ => word,
-    });
-    let mut wide: Vec<u32> = front.words(kinds::HEAD).into_iter().chain(behind).collect();
-    wide.push(words::word(kinds::END, wide.len() as u32));
-    wide
-}
-
-#[test]
-fn both_layouts_of_a_sheet_say_the_same() {
-    assert_eq!(widened(&EXAMPLE_A), WIDE_A);
-    let sheets = (0..300).map(|seed| valid::small_sheet(&mut Random::new(seed), 6));
-    for narrow in sheets.filter(|words| !Layout::of(words).is_wide()) {
-        let [one, other] = [&narrow, &widened(&narrow)].map(|words| judged_words(words));
-        let expected = Outcome { words: outcome(&one).words + 1, ..outcome(&one) };
-        assert_eq!(outcome(&other), expected);
-        let [one, other] = [one, other].map(|left| left.whole_answer().expect("an answer"));
-        assert_eq!((one.layout, other.layout), (Layout::Narrow, Layout::Wide));
-        assert_eq!((one.places, one.lines), (other.places, other.lines));
     }
 }

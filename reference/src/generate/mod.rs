@@ -15,6 +15,7 @@ pub mod rounds;
 mod runs;
 pub mod table;
 mod ties;
+pub mod tools;
 pub mod valid;
 pub mod windows;
 

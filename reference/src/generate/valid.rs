@@ -83,8 +83,21 @@ pub fn city(random: &mut Random, most_places: usize) -> Vec<u32> {
 /// places, for tables that grow without regard to what their lines cost.
 pub fn bare_city(random: &mut Random) -> Vec<u32> {
     let places = random.count(MOST_PLACES + 1, MOST_PLACES + 8);
+    bare(random, places)
+}
+
+/// One sample of one signal at so many places, and one line or two.
+fn bare(random: &mut Random, places: usize) -> Vec<u32> {
     let lines = random.count(1, 2);
     sheet_of(random, Sizes { places, signals: 1, samples: 1, lines })
+}
+
+/// The words of a valid sheet of one sample, one line or two, and as many places as
+/// a narrow sheet can have, or one or two more or fewer.
+pub fn around_limit(random: &mut Random) -> Vec<u32> {
+    let most = MOST_PLACES;
+    let places = random.pick(&[most - 1, most, most, most, most + 1, most + 1, most + 2]);
+    bare(random, places)
 }
 
 /// The words of a small valid sheet.

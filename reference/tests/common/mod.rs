@@ -4,13 +4,17 @@
 
 use reference::answer::AnswerLine;
 use reference::builder::SheetBuilder;
+use reference::convert::convert;
 use reference::evaluation::Evaluation;
 use reference::fast::Fast;
+use reference::generate::tools::Given;
 use reference::generate::Case;
 use reference::judge::{judge, Outcome};
+use reference::layout::Layout;
 use reference::left::Left;
 use reference::margin::{Margin, Verdict};
 use reference::meaning::Meaning;
+use reference::tool;
 
 /// The result of a call for which 40 bytes were lent.
 pub fn outcome(left: &Left) -> Outcome {
@@ -34,6 +38,25 @@ pub fn judged_by<E: Evaluation>(case: &Case) -> Left {
     let mut result = vec![0xC3; case.result];
     let number = judge::<E>(&case.sheet, &mut distances, &mut answer, &mut result);
     Left { number, distances, answer, result }
+}
+
+/// Takes a sheet to a layout, in buffers that are not clean.
+pub fn converted(layout: Layout, given: &Given) -> tool::Left {
+    let mut output = vec![0x5A; given.output];
+    let mut result = vec![0xC3; given.result];
+    let number = convert(layout, &given.inputs[0], &mut output, &mut result);
+    tool::Left { number, output, result }
+}
+
+/// "On refusal the output is all zero", and no words are written. A result that is
+/// not of 24 bytes is zero as well.
+pub fn assert_tool_refused(left: &tool::Left) {
+    assert_ne!(left.number, 0);
+    assert!(left.output.iter().all(|&byte| byte == 0));
+    match left.outcome() {
+        Some(outcome) => assert_eq!((outcome.number, outcome.words), (left.number, 0)),
+        None => assert!(left.result.iter().all(|&byte| byte == 0)),
+    }
 }
 
 /// Judges a case with both evaluators, which must leave the same bytes.

@@ -32,16 +32,10 @@ pub fn short_answer(random: &mut Random, case: &mut Case) {
 pub fn odd_bytes(random: &mut Random, case: &mut Case) {
     let mask = random.field(1, 15);
     if mask & 1 != 0 {
-        let odd = random.count(1, BYTES_PER_WORD - 1);
-        let length = case.sheet.len();
-        if random.chance(50) && length > odd {
-            case.sheet.truncate(length - odd);
-        } else {
-            case.sheet.resize(length + odd, 0);
-        }
+        odd_input(random, &mut case.sheet);
     }
     if mask & 2 != 0 {
-        case.answer += random.count(1, BYTES_PER_WORD - 1);
+        case.answer += odd(random);
     }
     if mask & 4 != 0 {
         case.distances += random.count(1, BYTES_PER_DISTANCE - 1);
@@ -49,4 +43,20 @@ pub fn odd_bytes(random: &mut Random, case: &mut Case) {
     if mask & 8 != 0 {
         case.result = random.pick(&[0, 1, 8, 32, RESULT_BYTES - 1, RESULT_BYTES + 1, 80]);
     }
+}
+
+/// Takes some bytes of a last word away, or adds some of one more.
+pub fn odd_input(random: &mut Random, bytes: &mut Vec<u8>) {
+    let odd = odd(random);
+    let length = bytes.len();
+    if random.chance(50) && length > odd {
+        bytes.truncate(length - odd);
+    } else {
+        bytes.resize(length + odd, 0);
+    }
+}
+
+/// Fewer bytes than a word has, at least one.
+pub fn odd(random: &mut Random) -> usize {
+    random.count(1, BYTES_PER_WORD - 1)
 }
