@@ -3,15 +3,23 @@
 //! `sheets FOLDER FIRST_SEED COUNT`
 //!
 //! The file `expected` has a row for each sheet, in the order of the files'
-//! names: the five numbers of the result that a host gets which lends enough.
+//! names: the five numbers of the result that a host gets which lends enough. The
+//! files `expected.wide` and `expected.narrow` have the three numbers that such a
+//! host gets which takes the sheet to that layout.
 
+use reference::convert::convert;
 use reference::fast::Fast;
 use reference::generate::case;
 use reference::judge::{judge, Outcome, BYTES_PER_DISTANCE, RESULT_BYTES};
-use reference::layout::Front;
+use reference::layout::{Front, Layout};
+use reference::tool;
+use reference::words::BYTES_PER_WORD;
 use std::fs;
 use std::io;
 use std::path::PathBuf;
+
+/// Sheets that are to be accepted have at most so many places.
+const MOST_PLACES: usize = 8;
 
 /// Enough answer bytes for every sheet of at most eight places that the
 /// generator makes.
@@ -26,16 +34,18 @@ fn main() -> io::Result<()> {
     };
     let folder = PathBuf::from(folder);
     fs::create_dir_all(&folder)?;
-    let mut expected = String::new();
-    for seed in first..first + count {
-        let sheet = case(seed, 8).sheet;
-        fs::write(folder.join(format!("{seed:08}.sheet")), &sheet)?;
-        expected.push_str(&row(&sheet));
+    let sheets: Vec<Vec<u8>> =
+        (first..first + count).map(|seed| case(seed, MOST_PLACES).sheet).collect();
+    for (seed, sheet) in (first..).zip(&sheets) {
+        fs::write(folder.join(format!("{seed:08}.sheet")), sheet)?;
     }
-    fs::write(folder.join("expected"), expected)
+    let rows = |row: fn(&[u8]) -> String| sheets.iter().map(|sheet| row(sheet)).collect::<String>();
+    fs::write(folder.join("expected"), rows(judged))?;
+    fs::write(folder.join("expected.wide"), rows(|sheet| converted(sheet, Layout::Wide)))?;
+    fs::write(folder.join("expected.narrow"), rows(|sheet| converted(sheet, Layout::Narrow)))
 }
 
-fn row(sheet: &[u8]) -> String {
+fn judged(sheet: &[u8]) -> String {
     let entries = Front::told_by_bytes(sheet).distances_needed();
     let mut distances = vec![0; entries * BYTES_PER_DISTANCE];
     let mut answer = vec![0; ANSWER_BYTES];
@@ -44,4 +54,14 @@ fn row(sheet: &[u8]) -> String {
     let Outcome { number, place, words, rounds, yes } =
         Outcome::from_bytes(&result).unwrap_or_default();
     format!("number {number}, place {place}, words {words}, rounds {rounds}, yes {yes}\n")
+}
+
+fn converted(sheet: &[u8], layout: Layout) -> String {
+    let most_words = sheet.len() / BYTES_PER_WORD + 1;
+    let mut output = vec![0; most_words * BYTES_PER_WORD];
+    let mut result = [0; tool::RESULT_BYTES];
+    convert(layout, sheet, &mut output, &mut result);
+    let tool::Outcome { number, place, words } =
+        tool::Outcome::from_bytes(&result).unwrap_or_default();
+    format!("number {number}, place {place}, words {words}\n")
 }
