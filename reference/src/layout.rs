@@ -30,12 +30,23 @@ pub enum Layout {
 }
 
 impl Layout {
+    /// Both of them.
+    pub const BOTH: [Layout; 2] = [Layout::Narrow, Layout::Wide];
+
     /// The layout of a sheet's or an answer's words: "a first word of kind 10
     /// makes a sheet wide". No words are narrow.
     pub fn of(words: &[u32]) -> Self {
         match words.first() {
             Some(&first) if words::kind(first) == kinds::WIDE => Layout::Wide,
             _ => Layout::Narrow,
+        }
+    }
+
+    /// The layout that this is not.
+    pub fn other(self) -> Self {
+        match self {
+            Layout::Narrow => Layout::Wide,
+            Layout::Wide => Layout::Narrow,
         }
     }
 

@@ -15,7 +15,7 @@ use reference::tool::Outcome;
 use reference::words::{self, kinds};
 use reference::worked::WIDE_A;
 
-const BOTH: [Layout; 2] = [Layout::Narrow, Layout::Wide];
+const BOTH: [Layout; 2] = Layout::BOTH;
 
 /// The number and place that words are refused with, with so many words of room.
 fn refused_with(layout: Layout, words: &[u32], room: usize) -> (u64, u64) {

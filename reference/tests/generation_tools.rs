@@ -57,7 +57,7 @@ fn sheets_around_the_limit_of_narrow_ones() {
 /// that of distances.
 #[test]
 fn cases_reach_every_number() {
-    for layout in [Layout::Narrow, Layout::Wide] {
+    for layout in Layout::BOTH {
         let mut counts = [0; 19];
         for seed in 0..4000 {
             let sheet = case(seed, 80).sheet;

@@ -32,7 +32,7 @@ pub fn invented(random: &mut Random) -> Vec<u32> {
 /// The words of an answer that is laid out as it must be, but for its places, of
 /// which it has none or one more than its layout allows.
 pub fn beyond_limits(random: &mut Random) -> Vec<u32> {
-    let layout = random.pick(&[Layout::Narrow, Layout::Wide]);
+    let layout = random.pick(&Layout::BOTH);
     let places = random.pick(&[0, layout.most_places() + 1]);
     let (middle, samples) = (random.count(1, 2), random.count(1, 3));
     laid_out(random, Front { layout, places, middle, samples })

@@ -2,8 +2,7 @@
 
 use super::aim::lent::{odd, odd_input};
 use super::random::Random;
-use crate::convert;
-use crate::layout::Layout;
+use crate::layout::{Front, Layout};
 use crate::tool::RESULT_BYTES;
 use crate::words::{self, BYTES_PER_WORD};
 
@@ -68,10 +67,10 @@ fn odd_lengths(random: &mut Random, given: &mut Given) {
     }
 }
 
-/// A sheet's bytes, right or wrong, to be taken to a layout.
-pub fn conversion(random: &mut Random, sheet: &[u8], layout: Layout) -> Given {
-    let words = words::from_bytes(sheet).unwrap_or_default();
-    let written = convert::laid_out(&words, layout);
-    let needed = written.map_or(words.len(), |written| written.len());
+/// A sheet's bytes, right or wrong, to be taken to a layout. Where they are wrong,
+/// the words that would be needed were they right are what room is measured by.
+pub fn conversion(random: &mut Random, sheet: &[u8], to: Layout) -> Given {
+    let from = Front::told_by_bytes(sheet).layout;
+    let needed = sheet.len() / BYTES_PER_WORD + to.front_words() - from.front_words();
     Given::lend(random, vec![sheet.to_vec()], needed)
 }
