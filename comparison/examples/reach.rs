@@ -16,7 +16,7 @@ fn main() -> ExitCode {
         eprintln!("usage: reach FIRST_SEED COUNT");
         return ExitCode::from(2);
     };
-    let mut comparison = Comparison::new(&Implementation, None);
+    let mut comparison = Comparison::new(&Implementation, &Implementation, None);
     for seed in first..first + count {
         if let Err(difference) = comparison.seed(seed) {
             println!("seed {seed}: {}", difference.what);

@@ -3,21 +3,22 @@
 use crate::difference::Checked;
 use crate::printing::{self, Printer};
 use crate::reached::Reached;
-use crate::{deciding, judging, laws, lookups, mirror, raising, steadiness, Engine};
+use crate::tools::Tools;
+use crate::{converting, deciding, judging, laws, lookups, mirror, raising, steadiness, Engine};
 use reference::generate::random::Random;
 use reference::generate::{aim, case, largest, Case};
 use reference::judge::BYTES_PER_DISTANCE;
 use reference::layout::Front;
 use reference::page;
 use reference::print::ANSWER_WORDS;
-use reference::worked;
+use reference::{words, worked};
 
 /// Networks have at most so many places, but for those of [`Comparison::largest`]:
 /// more than 8 bits hold, and few enough for thousands of cities.
 const MOST_PLACES: usize = 300;
 
 /// One seed in so many also tries steadiness, raised samples, laws, time turned
-/// round, and decisions that do not depend on samples.
+/// round, decisions that do not depend on samples, and sheets there and back.
 const PAIRS_EVERY: u64 = 8;
 
 /// One seed in so many is also given to the printing program.
@@ -35,19 +36,24 @@ const OF_TABLE: [u64; 5] = [10, 11, 12, 13, 14];
 /// What is compared, and what has been reached so far.
 pub struct Comparison<'a> {
     engine: &'a dyn Engine,
+    tools: &'a dyn Tools,
     printer: Option<&'a dyn Printer>,
     /// The counts.
     pub reached: Reached,
 }
 
 impl<'a> Comparison<'a> {
-    /// A comparison of an engine, and of a printer if there is one.
-    pub fn new(engine: &'a dyn Engine, printer: Option<&'a dyn Printer>) -> Self {
+    /// A comparison of an engine, of tools, and of a printer if there is one.
+    pub fn new(
+        engine: &'a dyn Engine,
+        tools: &'a dyn Tools,
+        printer: Option<&'a dyn Printer>,
+    ) -> Self {
         let mut reached = Reached::default();
         if printer.is_some() {
             reached.expect(printing::labels());
         }
-        Comparison { engine, printer, reached }
+        Comparison { engine, tools, printer, reached }
     }
 
     /// Compares everything that a seed determines.
@@ -56,6 +62,7 @@ impl<'a> Comparison<'a> {
         // Another stream than the one that made the case.
         let mut random = Random::new(!seed);
         self.judge(&mut random, &case)?;
+        self.convert(seed, &case)?;
         if seed.is_multiple_of(PAIRS_EVERY) {
             steadiness::check(self.engine, &mut random, &mut self.reached)?;
             raising::check(self.engine, &mut random, &mut self.reached)?;
@@ -84,6 +91,8 @@ impl<'a> Comparison<'a> {
         for words in on_page.iter().map(Vec::as_slice).chain(worked::SHEETS) {
             let case = Case::of(words, ANSWER_WORDS);
             self.judge(&mut random, &case)?;
+            let (tools, reached) = (self.tools, &mut self.reached);
+            converting::compare_both_ways(tools, &mut random, words, reached)?;
             if let Some(printer) = self.printer {
                 printing::compare(printer, &case.sheet, &mut self.reached)?;
             }
@@ -104,21 +113,35 @@ impl<'a> Comparison<'a> {
         }
     }
 
+    /// The case's sheet to both layouts, and sometimes another there and back.
+    fn convert(&mut self, seed: u64, case: &Case) -> Checked {
+        // A stream of its own: what is judged does not depend on what is converted.
+        let mut random = Random::new(seed.reverse_bits());
+        converting::compare(self.tools, &mut random, &case.sheet, &mut self.reached)?;
+        if seed.is_multiple_of(PAIRS_EVERY) {
+            converting::check(self.engine, self.tools, &mut random, &mut self.reached)?;
+        }
+        Ok(())
+    }
+
     /// A sheet of 64 places with signals and samples at their limits, and the same
-    /// sheet with faults behind its million samples and with a short answer.
+    /// sheet with faults behind its million samples and with a short answer. It is
+    /// taken to the other layout and back as well.
     pub fn largest(&mut self, random: &mut Random) -> Checked {
         let words = largest::sheet(random);
-        self.whole_and_struck(random, &words)
+        self.whole_and_struck(random, &words)?;
+        converting::compare_both_ways(self.tools, random, &words, &mut self.reached)
     }
 
     /// A sheet of 1,024 places, as it is, with a distance too few, with a short
-    /// answer, and with faults in its table.
+    /// answer, with faults in its table, and taken to both layouts.
     pub fn largest_city(&mut self, random: &mut Random) -> Checked {
         let words = largest::city(random);
         let case = Case::lend(random, &words);
         let needed = Front::told(&words).distances_needed() * BYTES_PER_DISTANCE;
         self.judge(random, &Case { distances: needed - BYTES_PER_DISTANCE, ..case })?;
-        self.whole_and_struck(random, &words)
+        self.whole_and_struck(random, &words)?;
+        converting::compare(self.tools, random, &words::to_bytes(&words), &mut self.reached)
     }
 
     /// A valid sheet, the same with a short answer, and with faults in its table.

@@ -1,5 +1,7 @@
 //! What differs, in words that lead to it.
 
+use crate::tools::Tool;
+use reference::generate::tools::Given;
 use reference::generate::Case;
 
 /// A difference between an engine and what it should have done.
@@ -34,6 +36,22 @@ impl Difference {
         );
         self.on(name, sheet)
     }
+
+    /// The difference with what was given to the tool at which it was found.
+    pub fn on_given(self, tool: Tool, given: &Given) -> Self {
+        let Given { inputs, output, result } = given;
+        let lent = format!("bytes lent: {output} of output, {result} of result");
+        inputs.iter().enumerate().fold(self, |difference, (index, input)| {
+            difference.on(format!("input {index} of {tool:?} ({lent})"), input)
+        })
+    }
+}
+
+/// Demands the same number from an engine as from the implementation.
+pub fn same_number(engine: u64, implementation: u64) -> Checked {
+    demand(engine == implementation, || {
+        format!("number: engine {engine}, implementation {implementation}")
+    })
 }
 
 /// Demands something, or tells what was not so.

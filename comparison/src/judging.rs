@@ -1,6 +1,6 @@
 //! One case judged by an engine and by the implementation.
 
-use crate::difference::{demand, same_bytes, Checked, Difference};
+use crate::difference::{demand, same_bytes, same_number, Checked, Difference};
 use crate::lent::Lent;
 use crate::{Definitions, Engine, Filled, Implementation};
 use reference::answer::Answer;
@@ -64,10 +64,7 @@ fn is_small(left: &Left) -> bool {
 
 /// Demands the same number and the same bytes.
 fn same(left: &Left, right: &Left) -> Checked {
-    let numbers = (left.number, right.number);
-    demand(numbers.0 == numbers.1, || {
-        format!("number: engine {}, implementation {}", numbers.0, numbers.1)
-    })?;
+    same_number(left.number, right.number)?;
     same_bytes("result", BYTES_PER_DISTANCE, &left.result, &right.result)?;
     same_bytes("distances", BYTES_PER_DISTANCE, &left.distances, &right.distances)?;
     same_bytes("answer", BYTES_PER_WORD, &left.answer, &right.answer)

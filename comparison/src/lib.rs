@@ -1,9 +1,9 @@
 //! The checks that hold an engine against the reference implementation.
 //!
 //! An [`Engine`] is anything that judges sheets and looks verdicts up over
-//! bytes. The programs of this package run the checks on the proved engine's
-//! static library; the tests run them on engines that are wrong on purpose and
-//! must be caught.
+//! bytes, [`tools::Tools`] anything that writes words without judging. The programs
+//! of this package run the checks on the proved engine's static library; the tests
+//! run them on engines and tools that are wrong on purpose and must be caught.
 
 #![forbid(unsafe_code)]
 #![warn(missing_docs)]
@@ -11,6 +11,7 @@
 pub mod alike;
 pub mod bench;
 pub mod compare;
+pub mod converting;
 pub mod deciding;
 pub mod difference;
 pub mod judging;
@@ -22,6 +23,7 @@ pub mod printing;
 pub mod raising;
 pub mod reached;
 pub mod steadiness;
+pub mod tools;
 
 #[cfg(test)]
 mod wrong;
@@ -36,7 +38,7 @@ pub struct Filled<'a> {
     pub result: &'a mut [u8],
 }
 
-/// What a host reaches: the two functions of the library, over bytes.
+/// What a host reaches of the engine: two functions of the library, over bytes.
 pub trait Engine {
     /// Judges a sheet into lent buffers and gives the number.
     fn judge(&self, sheet: &[u8], left: Filled) -> u64;

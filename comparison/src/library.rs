@@ -1,7 +1,9 @@
 //! The engine's static library. Only the programs include this file, because
 //! only they are linked with the library.
 
+use comparison::tools::{Tool, Tools, Written};
 use comparison::{Engine, Filled};
+use reference::layout::Layout;
 
 unsafe extern "C" {
     fn judge(
@@ -15,6 +17,22 @@ unsafe extern "C" {
         result_len: usize,
     ) -> u64;
     fn lookup(answer: *const u8, answer_len: usize, line: u64, sample: u64, place: u64) -> u64;
+    fn sheet_to_wide(
+        sheet: *const u8,
+        sheet_length: usize,
+        output: *mut u8,
+        output_length: usize,
+        result: *mut u8,
+        result_length: usize,
+    ) -> u64;
+    fn sheet_to_narrow(
+        sheet: *const u8,
+        sheet_length: usize,
+        output: *mut u8,
+        output_length: usize,
+        result: *mut u8,
+        result_length: usize,
+    ) -> u64;
 }
 
 /// The library as an engine.
@@ -41,6 +59,28 @@ impl Engine for Library {
     fn lookup(&self, answer: &[u8], line: u64, sample: u64, place: u64) -> u64 {
         // SAFETY: the slice is valid for its length.
         unsafe { lookup(start(answer), answer.len(), line, sample, place) }
+    }
+}
+
+impl Tools for Library {
+    fn run(&self, tool: Tool, inputs: &[&[u8]], left: Written) -> u64 {
+        let call = match tool {
+            Tool::Convert(Layout::Wide) => sheet_to_wide,
+            Tool::Convert(Layout::Narrow) => sheet_to_narrow,
+        };
+        let sheet = inputs[0];
+        // SAFETY: slices are valid for their lengths, and borrows that are
+        // exclusive do not overlap. No bytes may be lent as a null pointer.
+        unsafe {
+            call(
+                start(sheet),
+                sheet.len(),
+                start(left.output).cast_mut(),
+                left.output.len(),
+                start(left.result).cast_mut(),
+                left.result.len(),
+            )
+        }
     }
 }
 

@@ -34,7 +34,7 @@ fn main() -> ExitCode {
         println!("no printing program given: not compared");
     }
     let printer = program.as_ref().map(|program| program as &dyn Printer);
-    let mut comparison = Comparison::new(&Library, printer);
+    let mut comparison = Comparison::new(&Library, &Library, printer);
     if let Err(difference) = comparison.worked() {
         println!("comparison: a worked sheet, of docs/SHEETS.md or beside it");
         tell(&difference);

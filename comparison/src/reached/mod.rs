@@ -3,6 +3,7 @@
 //! compared what it should.
 
 mod accepted;
+mod converted;
 mod extents;
 mod layouts;
 mod looked_up;
@@ -15,10 +16,11 @@ mod surrounds;
 mod wide_looked_up;
 mod wide_refused;
 
+pub use converted::Converted;
 pub use looked_up::LookedUp;
 
 use crate::laws::LAWS;
-use crate::{deciding, mirror, raising, steadiness};
+use crate::{converting, deciding, mirror, raising, steadiness};
 use reference::generate::Case;
 use reference::left::Left;
 use reference::sheet::Sheet;
@@ -45,7 +47,9 @@ impl Default for Reached {
             .chain(steadiness::labels())
             .chain(raising::labels())
             .chain(deciding::labels())
-            .chain(layouts::labels_of_checks());
+            .chain(layouts::labels_of_checks())
+            .chain(converted::labels())
+            .chain(converting::labels());
         Reached::of(labels.collect())
     }
 }

@@ -9,7 +9,8 @@ use reference::words::{self, kinds};
 /// What is changed in distances, answer and result.
 type Spoil = fn(&mut [u8], &mut [u8], &mut [u8]);
 
-struct Spoilt(Spoil);
+/// Right, but for what it changes in what is left.
+pub struct Spoilt(pub Spoil);
 
 impl Engine for Spoilt {
     fn judge(&self, sheet: &[u8], left: Filled) -> u64 {
@@ -33,7 +34,7 @@ fn assert_caught(spoil: Spoil) {
 }
 
 /// Changes every word of an answer that is of this kind.
-fn change_words(answer: &mut [u8], kind: u32, change: impl Fn(u32) -> u32) {
+pub fn change_words(answer: &mut [u8], kind: u32, change: impl Fn(u32) -> u32) {
     for chunk in answer.chunks_exact_mut(4) {
         let word = chunk.iter().rev().fold(0, |word, &byte| word << 8 | u32::from(byte));
         if words::kind(word) == kind {
@@ -42,7 +43,7 @@ fn change_words(answer: &mut [u8], kind: u32, change: impl Fn(u32) -> u32) {
     }
 }
 
-fn change_outcome(result: &mut [u8], change: impl Fn(&mut Outcome)) {
+pub fn change_outcome(result: &mut [u8], change: impl Fn(&mut Outcome)) {
     if let Some(mut outcome) = Outcome::from_bytes(result) {
         change(&mut outcome);
         result.copy_from_slice(&outcome.to_bytes());

@@ -89,8 +89,11 @@ fn distances_of_34_bits() {
             }
         }
     });
-    let is_caught =
-        |seed: u64| Comparison::new(&engine, None).largest_city(&mut Random::new(seed)).is_err();
+    let is_caught = |seed: u64| {
+        Comparison::new(&engine, &Implementation, None)
+            .largest_city(&mut Random::new(seed))
+            .is_err()
+    };
     assert!((0..SEEDS_OF_CITIES).any(is_caught));
 }
 

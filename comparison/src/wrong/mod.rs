@@ -3,6 +3,8 @@
 
 mod bytes;
 mod cities;
+mod converters;
+mod converters_bytes;
 mod evaluator;
 mod extents;
 mod falling;
@@ -15,6 +17,7 @@ mod refusals;
 mod sizes;
 mod surrounds;
 mod swayed;
+mod there_and_back;
 mod traps;
 mod wide;
 mod wide_answers;
@@ -22,6 +25,7 @@ mod wide_lookups;
 mod wide_words;
 
 use crate::compare::Comparison;
+use crate::tools::Tools;
 use crate::{Engine, Filled, Implementation};
 use reference::evaluation::Evaluation;
 use std::marker::PhantomData;
@@ -57,7 +61,13 @@ fn caught(engine: &dyn Engine) -> Option<u64> {
 }
 
 fn caught_within(engine: &dyn Engine, seeds: u64) -> Option<u64> {
-    let mut comparison = Comparison::new(engine, None);
+    caught_of(engine, &Implementation, seeds)
+}
+
+/// The seed, up to so many, at which the comparison finds a difference in an engine
+/// or in tools.
+fn caught_of(engine: &dyn Engine, tools: &dyn Tools, seeds: u64) -> Option<u64> {
+    let mut comparison = Comparison::new(engine, tools, None);
     // Seed 0 would judge the largest sheet too, which takes long.
     (1..=seeds).find(|&seed| comparison.seed(seed).is_err())
 }

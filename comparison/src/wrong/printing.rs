@@ -39,7 +39,7 @@ fn caught_within(change: Change, seeds: u64) -> bool {
 }
 
 fn is_caught(printer: &dyn Printer, seeds: u64) -> bool {
-    let mut comparison = Comparison::new(&Implementation, Some(printer));
+    let mut comparison = Comparison::new(&Implementation, &Implementation, Some(printer));
     (1..=seeds).any(|seed| comparison.seed(seed).is_err())
 }
 

@@ -25,7 +25,7 @@ fn places_of_one_byte() {
 #[test]
 fn places_of_two_bytes() {
     let engine = mistaken(|_, outcome| outcome.place %= 65_536);
-    assert!(Comparison::new(&engine, None).largest(&mut Random::new(1)).is_err());
+    assert!(Comparison::new(&engine, &Implementation, None).largest(&mut Random::new(1)).is_err());
 }
 
 #[test]

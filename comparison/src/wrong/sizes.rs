@@ -64,8 +64,9 @@ fn a_wrong_surround_above_48_places_and_48_samples() {
 
 #[test]
 fn a_wrong_surround_above_63_places_and_1_023_samples() {
-    let caught =
-        |engine: &dyn Engine| Comparison::new(engine, None).largest(&mut Random::new(1)).is_err();
+    let caught = |engine: &dyn Engine| {
+        Comparison::new(engine, &Implementation, None).largest(&mut Random::new(1)).is_err()
+    };
     assert!(caught(&over::<InCircles<7, 63, 1023>>()));
     assert!(caught(&over::<InCircles<15, 63, 1023>>()));
 }
@@ -88,5 +89,7 @@ impl Engine for NearSighted {
 
 #[test]
 fn a_lookup_that_finds_nothing_in_long_answers() {
-    assert!(Comparison::new(&NearSighted, None).largest(&mut Random::new(1)).is_err());
+    assert!(Comparison::new(&NearSighted, &Implementation, None)
+        .largest(&mut Random::new(1))
+        .is_err());
 }

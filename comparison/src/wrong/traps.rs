@@ -63,7 +63,7 @@ fn operands_read_from_their_own_first_sample() {
 }
 
 /// Within how many sheets such a check has to find something.
-const DRAWS: usize = 2_500;
+pub const DRAWS: usize = 2_500;
 
 /// A check that has nothing to compare an engine with.
 pub type Alone = fn(&dyn Engine, &mut Random, &mut Reached) -> Checked;

@@ -1,0 +1,252 @@
+//! What the converter was given, and what came of it: every number, where it is told
+//! beside others, and sheets that change or do not, both ways.
+
+use super::layouts::MOST_OF_A_BYTE;
+use reference::generate::tools::Given;
+use reference::layout::{Front, Layout, MOST_PLACES, MOST_WIDE_PLACES};
+use reference::tool::{self, Left, RESULT_BYTES};
+use reference::words::{self, kinds, BYTES_PER_WORD};
+
+/// What a call may show: its text, the numbers that a run must have seen it with, and
+/// whether it is so.
+type Shown = (&'static str, &'static [u64], fn(&Converted) -> bool);
+
+/// The numbers of a sheet's own faults, those of narrow sheets, of wide ones, and of
+/// wide ones whose places are within their limits.
+const OWN: [u64; 14] = [2, 3, 4, 5, 6, 7, 8, 9, 10, 11, 12, 13, 14, 17];
+const OF_NARROW: [u64; 13] = [2, 3, 4, 5, 6, 7, 8, 9, 10, 11, 12, 13, 14];
+const OF_WIDE: [u64; 13] = [3, 4, 5, 6, 7, 8, 9, 10, 11, 12, 13, 14, 17];
+const BEHIND_WIDE_HEAD: [u64; 12] = [3, 4, 5, 6, 7, 8, 9, 10, 11, 12, 13, 14];
+
+const BOTH_WAYS: [Shown; 32] = [
+    ("unaltered, without a road", &[0], |call| !call.changes() && !call.has_roads()),
+    ("unaltered, with roads", &[0], |call| !call.changes() && call.has_roads()),
+    ("unaltered, room exact", &[0], |call| !call.changes() && call.room() == call.needed()),
+    ("unaltered, room longer", &[0], |call| !call.changes() && call.room() > call.needed()),
+    ("unaltered, a word short", &[15], |call| !call.changes() && call.is_a_word_short()),
+    ("unaltered, some room", &[15], |call| !call.changes() && call.has_some_room()),
+    ("unaltered, no room", &[15], |call| !call.changes() && call.room() == 0),
+    ("changed, without a road", &[0], |call| call.changes() && !call.has_roads()),
+    ("changed, with roads", &[0], |call| call.changes() && call.has_roads()),
+    ("changed, room exact", &[0], |call| call.changes() && call.room() == call.needed()),
+    ("changed, room longer", &[0], |call| call.changes() && call.room() > call.needed()),
+    ("changed, a word short", &[15], |call| call.changes() && call.is_a_word_short()),
+    ("changed, some room", &[15], |call| call.changes() && call.has_some_room()),
+    ("changed, no room", &[15], |call| call.changes() && call.room() == 0),
+    ("changed, 1 place", &[0], |call| call.changes() && call.places() == 1),
+    ("changed, 64 places", &[0], |call| call.changes() && call.places() == MOST_PLACES),
+    ("changed, a road to place 63", &[0], |call| call.changes() && call.has_road_to(63)),
+    ("changed, above 65,536 words", &[0, 15], |call| call.changes() && call.is_long()),
+    ("a narrow sheet", &OF_NARROW, |call| !call.layout().is_wide()),
+    ("a wide sheet", &OF_WIDE, |call| call.layout().is_wide()),
+    ("no room", &OWN, |call| call.room() == 0),
+    ("some room", &OWN, |call| call.room() > 0),
+    ("no word", &[2], |call| call.words.is_empty()),
+    ("the sheet", &[16], |call| call.wrong_lengths()[0]),
+    ("the output", &[16], |call| call.wrong_lengths()[1]),
+    ("the result", &[16], |call| call.wrong_lengths()[2]),
+    ("the sheet alone", &[16], |call| call.wrong_lengths() == [true, false, false]),
+    ("the output alone", &[16], |call| call.wrong_lengths() == [false, true, false]),
+    ("the result alone", &[16], |call| call.wrong_lengths() == [false, false, true]),
+    ("no byte of result", &[16], |call| call.given.result == 0),
+    ("a faulty sheet besides", &[16], |call| !call.words.is_empty() && !call.is_valid()),
+    ("a short output besides", &[16], |call| call.is_valid() && call.room() < call.needed()),
+];
+
+const TO_NARROW: [Shown; 8] = [
+    ("65 places", &[18], |call| call.places() == MOST_PLACES + 1),
+    ("more than 65 places", &[18], |call| call.places() > MOST_PLACES + 1),
+    ("1,024 places", &[18], |call| call.places() == MOST_WIDE_PLACES),
+    ("no room", &[18], |call| call.room() == 0),
+    ("too little room", &[18], |call| call.room() < call.needed()),
+    ("enough room", &[18], |call| call.room() >= call.needed()),
+    ("more than 64 places besides", &BEHIND_WIDE_HEAD, |call| call.is_city()),
+    ("more than 64 places besides", &[16], |call| call.is_city() && call.is_valid()),
+];
+
+const TO_WIDE: [Shown; 4] = [
+    ("65 places", &[0], |call| call.places() == MOST_PLACES + 1),
+    ("more than 255 places", &[0, 15], |call| call.places() > MOST_OF_A_BYTE),
+    ("1,024 places", &[0], |call| call.places() == MOST_WIDE_PLACES),
+    ("a road to a place above 255", &[0], |call| {
+        (MOST_OF_A_BYTE + 1..call.places()).any(|place| call.has_road_to(place))
+    }),
+];
+
+/// All labels: for each layout the numbers, and what is shown with them. 1 never
+/// arises, and 18 not of what is asked into wide.
+pub fn labels() -> impl Iterator<Item = String> {
+    Layout::BOTH.into_iter().flat_map(|to| {
+        let numbers = [0, 15, 16].into_iter().chain(OWN).chain((!to.is_wide()).then_some(18));
+        let texts = shown(to).flat_map(move |(text, numbers, _)| {
+            numbers.iter().map(move |&number| label(to, number, text))
+        });
+        numbers.map(move |number| number_label(to, number)).chain(texts)
+    })
+}
+
+fn shown(to: Layout) -> impl Iterator<Item = &'static Shown> {
+    let one_way: &[Shown] = if to.is_wide() { &TO_WIDE } else { &TO_NARROW };
+    BOTH_WAYS.iter().chain(one_way)
+}
+
+fn number_label(to: Layout, number: u64) -> String {
+    let to = if to.is_wide() { "wide" } else { "narrow" };
+    format!("to {to}, number {number}")
+}
+
+fn label(to: Layout, number: u64, text: &str) -> String {
+    format!("{}: {text}", number_label(to, number))
+}
+
+/// A call of the converter.
+pub struct Converted<'a> {
+    to: Layout,
+    given: &'a Given,
+    number: u64,
+    /// The sheet's words; none if its bytes are no whole words.
+    words: Vec<u32>,
+}
+
+impl<'a> Converted<'a> {
+    /// A call to a layout with what was given and what it left.
+    pub fn new(to: Layout, given: &'a Given, left: &Left) -> Self {
+        let words = words::from_bytes(&given.inputs[0]).unwrap_or_default();
+        Converted { to, given, number: left.number, words }
+    }
+
+    /// The labels of the call.
+    pub fn shown(&self) -> Vec<String> {
+        let Converted { to, number, .. } = *self;
+        let asked = shown(to).filter(|(_, numbers, _)| numbers.contains(&number));
+        let texts = asked.filter(|(_, _, is_so)| is_so(self)).map(|(text, ..)| *text);
+        let of_texts = texts.map(|text| label(to, number, text));
+        std::iter::once(number_label(to, number)).chain(of_texts).collect()
+    }
+
+    fn layout(&self) -> Layout {
+        Layout::of(&self.words)
+    }
+
+    fn changes(&self) -> bool {
+        self.layout() != self.to
+    }
+
+    fn places(&self) -> usize {
+        Front::told(&self.words).places
+    }
+
+    fn is_city(&self) -> bool {
+        self.layout().is_wide() && self.places() > MOST_PLACES
+    }
+
+    fn is_valid(&self) -> bool {
+        tool::valid(&self.words).is_ok()
+    }
+
+    fn is_long(&self) -> bool {
+        self.words.len() > 65_536
+    }
+
+    /// Of a valid sheet: behind its front a road begins, or the samples do.
+    fn has_roads(&self) -> bool {
+        words::kind(self.words[self.layout().front_words()]) == kinds::ROAD_PLACES
+    }
+
+    fn has_road_to(&self, place: usize) -> bool {
+        let mut words = self.words.iter();
+        words.any(|&word| {
+            words::kind(word) == kinds::ROAD_PLACES && self.layout().pair(word).second == place
+        })
+    }
+
+    /// The words of room.
+    fn room(&self) -> usize {
+        self.given.output / BYTES_PER_WORD
+    }
+
+    /// The words that are to be written of a valid sheet.
+    fn needed(&self) -> usize {
+        self.words.len() + self.to.front_words() - self.layout().front_words()
+    }
+
+    fn is_a_word_short(&self) -> bool {
+        self.room() + 1 == self.needed()
+    }
+
+    fn has_some_room(&self) -> bool {
+        self.room() > 0 && self.room() + 1 < self.needed()
+    }
+
+    /// Whether the lengths of sheet, output and result cannot be.
+    fn wrong_lengths(&self) -> [bool; 3] {
+        let Given { inputs, output, result } = self.given;
+        let is_odd = |length: usize| !length.is_multiple_of(BYTES_PER_WORD);
+        [is_odd(inputs[0].len()), is_odd(*output), *result != RESULT_BYTES]
+    }
+}
+
+#[cfg(test)]
+mod tests {
+    use super::*;
+    use reference::builder::SheetBuilder;
+    use reference::worked::WIDE_A;
+    use std::collections::BTreeSet;
+
+    /// What is shown by a sheet's words taken to a layout with so many words of room
+    /// and this number given back, beside the number.
+    fn shown_of(to: Layout, words: &[u32], room: usize, number: u64) -> BTreeSet<String> {
+        let given = Given::of(&[words], room);
+        let left = Left { number, output: Vec::new(), result: Vec::new() };
+        Converted::new(to, &given, &left).shown().into_iter().collect()
+    }
+
+    #[track_caller]
+    fn assert_shown(found: BTreeSet<String>, to: Layout, number: u64, texts: &[&str]) {
+        let of_texts = texts.iter().map(|text| label(to, number, text));
+        assert_eq!(found, of_texts.chain([number_label(to, number)]).collect());
+    }
+
+    #[test]
+    fn labels_are_told_once() {
+        let labels: Vec<String> = labels().collect();
+        assert_eq!(labels.iter().collect::<BTreeSet<_>>().len(), labels.len());
+    }
+
+    #[test]
+    fn what_is_written() {
+        let (narrow, wide) = (Layout::Narrow, Layout::Wide);
+        let changed = ["changed, with roads", "changed, room exact"];
+        assert_shown(shown_of(narrow, &WIDE_A, 19, 0), narrow, 0, &changed);
+        let unaltered = ["unaltered, with roads", "unaltered, room longer"];
+        assert_shown(shown_of(wide, &WIDE_A, 21, 0), wide, 0, &unaltered);
+        let lone = SheetBuilder::new(1, 1, 1).samples(&[0]).truth().end();
+        let changed = ["changed, without a road", "changed, room exact", "changed, 1 place"];
+        assert_shown(shown_of(wide, &lone, 5, 0), wide, 0, &changed);
+    }
+
+    #[test]
+    fn what_has_no_room() {
+        let narrow = Layout::Narrow;
+        assert_shown(shown_of(narrow, &WIDE_A, 18, 15), narrow, 15, &["changed, a word short"]);
+        assert_shown(shown_of(narrow, &WIDE_A, 17, 15), narrow, 15, &["changed, some room"]);
+        assert_shown(shown_of(narrow, &WIDE_A, 0, 15), narrow, 15, &["changed, no room"]);
+        let city = SheetBuilder::wide(65, 1, 1).samples(&[0; 65]).truth().end();
+        let texts = ["65 places", "no room", "too little room"];
+        assert_shown(shown_of(narrow, &city, 0, 18), narrow, 18, &texts);
+        let texts = ["65 places", "enough room"];
+        assert_shown(shown_of(narrow, &city, city.len() - 1, 18), narrow, 18, &texts);
+    }
+
+    #[test]
+    fn what_is_at_fault() {
+        let (narrow, wide) = (Layout::Narrow, Layout::Wide);
+        let texts = ["a wide sheet", "some room"];
+        assert_shown(shown_of(wide, &WIDE_A[..19], 20, 14), wide, 14, &texts);
+        let texts = ["a narrow sheet", "no room", "no word"];
+        assert_shown(shown_of(narrow, &[], 0, 2), narrow, 2, &texts);
+        let texts = ["a wide sheet", "some room", "more than 64 places besides"];
+        let city = [0xA000_0041, 0x1000_1001];
+        assert_shown(shown_of(narrow, &city, 1, 8), narrow, 8, &texts);
+    }
+}
