@@ -2,6 +2,7 @@
 //! in the same buffers, in one run.
 
 pub mod cities;
+pub mod conversions;
 pub mod report;
 pub mod sheets;
 mod timing;

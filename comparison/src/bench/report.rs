@@ -1,15 +1,16 @@
 //! What is timed, and the rows that tell it.
 
 use super::sheets::{self, BothWays, Readings};
-use super::{cities, timed, Times};
+use super::{cities, conversions, timed, Times};
+use crate::tools::Tools;
 use crate::Engine;
 use std::time::Duration;
 
 /// Times the three sheets of the benchmark, then how time grows with samples,
 /// places, lines, windows of time and ranges; prints a row for each. Then come
 /// windows ahead beside the same windows back, and surrounds with islands beside
-/// the same without. Last come the smallest sheet and cities.
-pub fn print(engine: &dyn Engine) {
+/// the same without. Last come the smallest sheet, cities, and the converter.
+pub fn print(engine: &dyn Engine, tools: &dyn Tools) {
     section("The three sheets, 64 places and 1,024 samples, surrounds with islands (code 15)");
     row(engine, "8×8 grid, twelve codes", &sheets::full_grid());
     row(engine, "path", &sheets::path());
@@ -23,6 +24,7 @@ pub fn print(engine: &dyn Engine) {
     both_readings(engine);
     smallest(engine);
     by_cities(engine);
+    print_converters(tools);
 }
 
 fn by_samples(engine: &dyn Engine) {
@@ -100,6 +102,30 @@ fn by_cities(engine: &dyn Engine) {
     row(engine, "distances alone", &cities::full_graph());
 }
 
+/// Times the converters; prints a row for each way.
+pub fn print_converters(tools: &dyn Tools) {
+    println!("\nConverters: a million words, 64 places, 2,016 roads, 16 signals, 1,024 samples");
+    let heading = ["engine", "implementation", "share", "plain copy", "engine/copy"];
+    let [engine, implementation, share, copy, ratio] = heading;
+    println!("{:28}{engine:>12}{implementation:>16}{share:>8}{copy:>12}{ratio:>13}", "");
+    for (name, words, to) in conversions::timed_sheets() {
+        let times = conversions::timed(tools, &words, to);
+        let [engine, implementation, copy] = [times.engine, times.implementation, times.copy];
+        println!(
+            "{name:28}{:>12}{:>16}{:>8.2}{:>12}{:>13.1}",
+            milliseconds(engine),
+            milliseconds(implementation),
+            ratio_of(engine, implementation),
+            milliseconds(copy),
+            ratio_of(engine, copy)
+        );
+    }
+}
+
+fn ratio_of(one: Duration, other: Duration) -> f64 {
+    one.as_secs_f64() / other.as_secs_f64()
+}
+
 fn section(title: &str) {
     println!("\n{title}");
     println!("{:28}{:>8}{:>12}{:>16}{:>8}", "", "rounds", "engine", "implementation", "share");
@@ -155,7 +181,7 @@ fn readings(engine: &dyn Engine, name: &str, sheets: &Readings) {
 /// shares.
 fn side_by_side(one: Times, other: Times) -> String {
     let columns = |one: Duration, other: Duration| {
-        let ratio = other.as_secs_f64() / one.as_secs_f64();
+        let ratio = ratio_of(other, one);
         format!("{:>12}{:>12}{ratio:>12.2}", milliseconds(one), milliseconds(other))
     };
     let engine = columns(one.engine, other.engine);

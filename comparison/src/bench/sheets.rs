@@ -4,7 +4,7 @@ use super::cities::grid_roads;
 use reference::builder::SheetBuilder;
 use reference::distance::Distances;
 use reference::generate::random::Random;
-use reference::layout::ENOUGH_DISTANCES;
+use reference::layout::{Layout, ENOUGH_DISTANCES};
 use reference::sheet::{check, Operator};
 
 /// The most samples.
@@ -106,7 +106,7 @@ fn wandering(random: &mut Random) -> Vec<i32> {
 pub fn full_graph() -> Vec<u32> {
     let mut random = Random::new(2016);
     let mut sheet = SheetBuilder::new(PLACES, 2, SAMPLES);
-    for (first, second) in (0..PLACES).flat_map(|a| (a + 1..PLACES).map(move |b| (a, b))) {
+    for (first, second) in full_roads() {
         sheet = sheet.road(first, second, random.field(1, 100));
     }
     let numbers: Vec<i32> =
@@ -118,6 +118,25 @@ pub fn full_graph() -> Vec<u32> {
         .bounded(WITH_ISLANDS, 0, 1, (0, 1000))
         .bounded(WITH_ISLANDS, 0, 1, (3, 12))
         .end()
+}
+
+/// A sheet of a million words in either layout: 64 places with all roads, as many
+/// signals and samples as there can be, and one line. Nothing but its words takes
+/// time in a converter.
+pub fn million(layout: Layout) -> Vec<u32> {
+    const SIGNALS: u32 = 16;
+    let mut random = Random::new(1_048_576);
+    let sheet = SheetBuilder::laid_out(layout, PLACES, SIGNALS, SAMPLES);
+    let sheet = full_roads()
+        .fold(sheet, |sheet, (first, second)| sheet.road(first, second, random.field(1, 100)));
+    let numbers: Vec<i32> =
+        (0..PLACES * SIGNALS * SAMPLES).map(|_| random.between(-50, 50) as i32).collect();
+    sheet.samples(&numbers).at_least(0, 0).end()
+}
+
+/// All 2,016 roads between 64 places.
+fn full_roads() -> impl Iterator<Item = (u32, u32)> {
+    (0..PLACES).flat_map(|first| (first + 1..PLACES).map(move |second| (first, second)))
 }
 
 /// The 6×6 grid with so many lines: two of the signals, then surrounds, untils

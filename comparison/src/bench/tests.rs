@@ -3,6 +3,7 @@
 use super::cities;
 use super::sheets::{self, BothWays, Readings};
 use reference::builder::SheetBuilder;
+use reference::convert::laid_out;
 use reference::fast::Fast;
 use reference::judge::Outcome;
 use reference::layout::{Layout, ENOUGH_DISTANCES};
@@ -79,6 +80,18 @@ fn cities_are_wide_and_have_1024_places() {
     let sheet = checked(&cities::full_graph());
     assert_eq!((sheet.head.layout, sheet.head.places), (Layout::Wide, 1024));
     assert_eq!((sheet.roads.len(), sheet.lines.len()), (523_776, 1));
+}
+
+/// Both layouts of one sheet: each is what the other is taken to.
+#[test]
+fn a_million_words_in_both_layouts() {
+    let [narrow, wide] = Layout::BOTH.map(sheets::million);
+    assert!((1_000_000..1_100_000).contains(&narrow.len()));
+    assert!(laid_out(&narrow, Layout::Wide) == Ok(wide.clone()));
+    assert!(laid_out(&wide, Layout::Narrow) == Ok(narrow));
+    let sheet = checked(&wide);
+    assert_eq!((sheet.head.places, sheet.head.signals, sheet.head.samples), (64, 16, 1024));
+    assert_eq!((sheet.roads.len(), sheet.lines.len()), (2016, 1));
 }
 
 #[test]

@@ -8,7 +8,7 @@ use std::time::{Duration, Instant};
 
 /// Every time is the best of so many runs: other work on the machine can only
 /// make a run slower.
-const RUNS: usize = 5;
+pub const RUNS: usize = 5;
 
 /// No more runs are made of a sheet that has taken so long.
 const LONG_ENOUGH: Duration = Duration::from_secs(4);
