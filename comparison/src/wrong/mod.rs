@@ -5,6 +5,7 @@ mod bytes;
 mod cities;
 mod converters;
 mod converters_bytes;
+mod converters_told;
 mod evaluator;
 mod extents;
 mod falling;
