@@ -4,9 +4,10 @@
  *
  * A host hands over a sheet (stations and roads, counts per sample, a table of
  * conditions) and lends three buffers. judge() decides on the sheet and fills
- * them; lookup() reads one verdict out of an answer. SHEETS.md, which is
- * installed under share/doc/tecuhualma, tells how a sheet and an answer are
- * laid out, word by word.
+ * them; lookup() reads one verdict out of an answer. Tools write words without
+ * judging: sheet_to_wide() and sheet_to_narrow() take a sheet from one layout to
+ * the other. SHEETS.md, which is installed under share/doc/tecuhualma, tells how a
+ * sheet and an answer are laid out, word by word.
  *
  * Bytes. Every buffer is plain bytes at any address. A word is four bytes, a
  * distance and a number of the result eight, always lowest byte first.
@@ -18,19 +19,19 @@
  * Ownership. All buffers are the host's, before, during and after a call. The
  * library keeps nothing between calls, takes no memory of its own but some of
  * the stack, and reads and writes nothing beside what is lent. What the lent
- * buffers hold before the call is of no account; judge() sets each of their bytes.
+ * buffers hold before the call is of no account; judge() and the tools set each of
+ * their bytes.
  *
  * Stack. A call takes at most 64 KiB of it for a sheet or an answer of up to 64
- * places, narrow or wide, and at most 512 KiB for one of more.
+ * places, narrow or wide, and at most 512 KiB for one of more. A tool takes at most
+ * 64 KiB for every sheet.
  *
  * The host's duties, which the library cannot check. Each pointer is valid for
- * as many bytes as its length says, and NULL only where that is 0. The four
- * buffers of judge() do not overlap: not the sheet with a lent one, nor two
- * lent ones.
+ * as many bytes as its length says, and NULL only where that is 0. The buffers of
+ * a call do not overlap: not one that is read with a lent one, nor two lent ones.
  *
- * Threads. Calls may run side by side. They may share a sheet in judge(), or an
- * answer in lookup(), as long as nobody writes to it; each call of judge() has
- * lent buffers of its own.
+ * Threads. Calls may run side by side. They may share a sheet or an answer that
+ * they read, as long as nobody writes to it; each call has lent buffers of its own.
  *
  * Surrounds. A line of code 7, "left surrounded by right", asks for a region with
  * left that has a boundary, and right on all of it. A region with nothing around
@@ -54,9 +55,9 @@
 extern "C" {
 #endif
 
-#define TECUHUALMA_VERSION "0.4.0"
+#define TECUHUALMA_VERSION "0.5.0"
 #define TECUHUALMA_VERSION_MAJOR 0
-#define TECUHUALMA_VERSION_MINOR 4
+#define TECUHUALMA_VERSION_MINOR 5
 #define TECUHUALMA_VERSION_PATCH 0
 
 /* The limits of a sheet; places and roads of a narrow one, then of a wide one. */
@@ -74,7 +75,7 @@ extern "C" {
 #define TECUHUALMA_MOST_SHEET_WORDS 1052801
 #define TECUHUALMA_MOST_WIDE_SHEET_WORDS 17824962
 
-/* What to lend. The result has just 40 bytes.
+/* What to lend. The result has just 40 bytes, that of a tool just 24.
  *
  * The distance table of a narrow sheet has at least 4,096 entries, whatever the
  * number of places; that of a wide sheet at least as many as its places squared,
@@ -89,6 +90,7 @@ extern "C" {
 #define TECUHUALMA_WIDE_DISTANCES_BYTES(places) \
     (TECUHUALMA_WIDE_DISTANCES(places) * TECUHUALMA_DISTANCE_BYTES)
 #define TECUHUALMA_RESULT_BYTES 40
+#define TECUHUALMA_TOOL_RESULT_BYTES 24
 
 /* Answer words that are enough for every sheet of so many places, samples and
  * lines; lines that look ahead or back in time need fewer. The longest answer to a
@@ -104,17 +106,19 @@ extern "C" {
                                  TECUHUALMA_MOST_LINES)
 
 /* The most bytes of the stack that a call takes, for a sheet or an answer of so
- * many places in either layout. */
+ * many places in either layout. For a tool it is that of 1 place, whatever the
+ * sheet. */
 #define TECUHUALMA_STACK_BYTES(places) ((places) <= TECUHUALMA_MOST_PLACES ? 65536 : 524288)
 
 /* The distance of two places that no roads connect. */
 #define TECUHUALMA_NO_DISTANCE UINT64_MAX
 
-/* The five numbers of the result: the index of each, eight bytes apart. */
+/* The five numbers of the result: the index of each, eight bytes apart. A tool's
+ * result has the first three. */
 enum tecuhualma_result {
     TECUHUALMA_NUMBER = 0, /* 0 on acceptance, else why the sheet is refused */
     TECUHUALMA_PLACE = 1,  /* where the fault is, see below; 0 on acceptance */
-    TECUHUALMA_WORDS = 2,  /* the words of the answer, first to end */
+    TECUHUALMA_WORDS = 2,  /* the words of the answer, or those a tool wrote, first to end */
     TECUHUALMA_ROUNDS = 3, /* the greatest rounds of a surround's run, 0 without a run */
     TECUHUALMA_YES = 4     /* the count of yes verdicts */
 };
@@ -122,11 +126,11 @@ enum tecuhualma_result {
 /*
  * The numbers. The first fault counts, front to back. Number 1 comes before every
  * fault of a narrow sheet; of a wide sheet it comes after numbers 17 and 3, before
- * the roads.
+ * the roads. A tool does not give number 1, and judge() does not give number 18.
  *
  * The place is the index of the faulty word, from 0. It is the sheet's length
  * in words, where no word is to be read, if the word is missing, and with
- * number 15; it is 0 with numbers 1 and 16, whatever the sheet holds. With number
+ * number 15; it is 0 with numbers 1, 16 and 18, whatever the sheet holds. With number
  * 17 it is 0 for the word of kind 10 and 1 for the word behind it, and with number
  * 3 it is 1 if the sheet is wide.
  */
@@ -146,10 +150,11 @@ enum tecuhualma_number {
     TECUHUALMA_LINE_PARAMETER = 12,   /* constant or bounds of a line */
     TECUHUALMA_LINE_LENGTH = 13,      /* a line without a sample */
     TECUHUALMA_END = 14,              /* end absent, not kind 15, miscounted, or not last */
-    TECUHUALMA_SHORT_ANSWER = 15,     /* fewer answer words lent than needed */
+    TECUHUALMA_SHORT_ANSWER = 15,     /* fewer words lent than needed: answer, a tool's output */
     TECUHUALMA_BYTE_LENGTHS = 16,     /* a length in bytes that cannot be */
-    TECUHUALMA_WIDE_HEAD = 17         /* places outside 1 to 1,024, spare bits set, or no
+    TECUHUALMA_WIDE_HEAD = 17,        /* places outside 1 to 1,024, spare bits set, or no
                                          kind 1 word with places 0 behind */
+    TECUHUALMA_MANY_PLACES = 18       /* more than 64 places, asked into the narrow layout */
 };
 
 /* What lookup() gives. */
@@ -207,6 +212,48 @@ uint64_t judge(const uint8_t *sheet, size_t sheet_len, uint8_t *distances, size_
  */
 uint64_t lookup(const uint8_t *answer, size_t answer_len, uint64_t line, uint64_t sample,
                 uint64_t place);
+
+/*
+ * Tools. A tool reads a sheet, writes words into `output`, and gives the number, 0
+ * if they are written. It judges nothing and is lent no distances.
+ *
+ * Written: the words stand at the front of `output`, zeros behind them; `result`
+ * holds 0, 0 and how many there are.
+ *
+ * Refused: `output` is all zero; `result` holds the number, the place, and 0.
+ *
+ * In which order. Number 16 comes before all else: sheet_len or output_len is not
+ * a multiple of 4, or result_len is not 24. A result of another length than 24 is
+ * all zero; only the number given back tells. Then comes the sheet's own fault, by
+ * the number and at the place that judge() tells where it is lent enough: a tool
+ * takes no other sheets than judge() does. Then comes what a tool names below, and
+ * number 15 last: `output` has fewer words than are to be written.
+ */
+
+/*
+ * Writes a sheet in the wide layout. Only the first words, the first word of each
+ * road and the count in the end change. A sheet that is wide already is written
+ * unaltered.
+ *
+ * A wide sheet has a word more than the narrow one: sheet_len + 4 bytes of output
+ * are always enough.
+ *
+ * judge() gives both sheets the same verdicts and margins, rounds and yes count.
+ */
+uint64_t sheet_to_wide(const uint8_t *sheet, size_t sheet_len, uint8_t *output, size_t output_len,
+                       uint8_t *result, size_t result_len);
+
+/*
+ * Writes a sheet in the narrow layout: the way back from sheet_to_wide(), and the
+ * same is to be said of it. There and back, from either layout, gives the words of
+ * before. A sheet that is narrow already is written unaltered.
+ *
+ * sheet_len bytes of output are always enough.
+ *
+ * Number 18 is told of a wide sheet of more than 64 places.
+ */
+uint64_t sheet_to_narrow(const uint8_t *sheet, size_t sheet_len, uint8_t *output,
+                         size_t output_len, uint8_t *result, size_t result_len);
 
 #ifdef __cplusplus
 }
