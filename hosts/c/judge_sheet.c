@@ -8,16 +8,10 @@
 #include <stdlib.h>
 #include <string.h>
 
+#include "files.h"
 #include "numbers.h"
+#include "refusals.h"
 #include "tecuhualma.h"
-
-struct bytes {
-    uint8_t *at;
-    size_t length;
-};
-
-/* The bytes that are taken for a file at first. */
-enum { FIRST_ROOM = 65536 };
 
 /* A sheet with the buffers that are lent for it. */
 struct job {
@@ -70,49 +64,6 @@ static struct front front_of(struct bytes words)
     return front;
 }
 
-/* ---- Memory and files ---- */
-
-/* Takes so many bytes; gives 0 if there is no memory for them. */
-static int take(struct bytes *bytes, size_t length)
-{
-    bytes->at = malloc(length > 0 ? length : 1);
-    bytes->length = length;
-    return bytes->at != NULL;
-}
-
-/*
- * Reads on to the end of a file, which may grow meanwhile or be a pipe: its
- * length is not asked for. Gives 0 if reading fails or memory runs out.
- */
-static int read_on(FILE *file, struct bytes *content)
-{
-    size_t room = 0;
-    size_t read = 0;
-    do {
-        content->length += read;
-        if (content->length == room) {
-            room = room > 0 ? 2 * room : FIRST_ROOM;
-            uint8_t *larger = realloc(content->at, room);
-            if (larger == NULL)
-                return 0;
-            content->at = larger;
-        }
-        read = fread(content->at + content->length, 1, room - content->length, file);
-    } while (read > 0);
-    return !ferror(file);
-}
-
-/* Reads a whole file; gives 0 if that fails. */
-static int read_file(const char *path, struct bytes *content)
-{
-    FILE *file = fopen(path, "rb");
-    if (file == NULL)
-        return 0;
-    int whole = read_on(file, content);
-    fclose(file);
-    return whole;
-}
-
 /* ---- Judging ---- */
 
 static size_t distances_bytes(struct front front)
@@ -157,27 +108,6 @@ static void give_back(struct job *job)
 }
 
 /* ---- The summary ---- */
-
-static const char *const MEANINGS[] = {
-    "accepted",
-    "fewer distances lent than needed",
-    "the head is absent or not of kind 1",
-    "places, signals or samples are outside their limits",
-    "spare bits of a road are set",
-    "a road's places are not two rising places of the network",
-    "a road's pair is not above the last",
-    "a road's weight is absent, not of kind 3, or 0",
-    "a sample is absent or not of kind 4",
-    "a sample has bit 27 set",
-    "there is no first line, or a 65th",
-    "a line has an unknown code, signal or operand, or an unused field set",
-    "a line's constant or bounds are absent, of another kind, or out of order",
-    "a line has no sample: it looks past the recording, or its operands share none",
-    "the end is absent, not of kind 15, miscounted, or not the last word",
-    "fewer answer words lent than needed",
-    "a length in bytes cannot be",
-    "a wide sheet's places are outside their limits, or no head without places follows",
-};
 
 /* By what lookup() gives: silence is neither a yes nor a no. */
 static const char *const VERDICTS[] = {" none", " yes", " no"};
@@ -241,7 +171,7 @@ static void print_summary(const struct job *job, uint64_t number)
            number, result_of(job, TECUHUALMA_PLACE), result_of(job, TECUHUALMA_WORDS),
            result_of(job, TECUHUALMA_ROUNDS), result_of(job, TECUHUALMA_YES));
     if (number != TECUHUALMA_ACCEPTED) {
-        printf("refused: %s\n", MEANINGS[number]);
+        print_refusal(number, result_of(job, TECUHUALMA_PLACE));
         return;
     }
     print_distance(job);
@@ -285,7 +215,7 @@ int main(int count, char **arguments)
         int ended = judge_file(arguments[index]);
         status = ended > status ? ended : status;
     }
-    if (fflush(stdout) != 0 || ferror(stdout)) {
+    if (!all_printed()) {
         fputs("the summaries cannot be written\n", stderr);
         return 2;
     }
