@@ -1,38 +1,27 @@
 /*
- * What the header says of lent buffers, tried on example A in both layouts: exact,
- * long, short and impossible lengths, no buffer at all. Every buffer is taken at just its
- * length and dirty, so that valgrind sees a byte beside it, and zeros are seen
- * to be written.
+ * What the header says of the buffers that are lent to judge(), tried on example A in
+ * both layouts: exact, long, short and impossible lengths, no buffer at all.
  */
-#include <stdio.h>
-#include <stdlib.h>
 #include <string.h>
 
+#include "lent.h"
 #include "numbers.h"
 #include "tecuhualma.h"
 
-enum { MOST_SHEET_WORDS = 20, MOST_DISTANCES_BYTES = 2 * TECUHUALMA_DISTANCES_BYTES };
+enum { MOST_DISTANCES_BYTES = 2 * TECUHUALMA_DISTANCES_BYTES };
 
 /* A sheet with what it needs and the first word of its answer. */
 struct example {
-    uint32_t words[MOST_SHEET_WORDS];
-    size_t sheet_words, distances, answer_words;
+    const char *title;
+    const struct sheet *sheet;
+    size_t distances, answer_words;
     uint32_t answer_begins;
 };
 
-static const struct example NARROW = {
-    {0x10201002, 0x20000001, 0x30000003, 0x40000005, 0x47FFFFFE, 0x40000001, 0x40000004,
-     0x50100000, 0x80000000, 0x50900000, 0x60000000, 0x70000001, 0x50600000, 0x60000001,
-     0x70000003, 0x50700800, 0x60000000, 0x70000003, 0xF0000012},
-    19, TECUHUALMA_DISTANCES, 20, 0xD0204002};
+static const struct example NARROW = {"narrow", &NARROW_A, TECUHUALMA_DISTANCES, 20, 0xD0204002};
 
-/* The same laid out wide: a word more in sheet and answer, and as many distances as
- * there are. */
-static const struct example WIDE = {
-    {0xA0000002, 0x10001002, 0x20000001, 0x30000003, 0x40000005, 0x47FFFFFE, 0x40000001,
-     0x40000004, 0x50100000, 0x80000000, 0x50900000, 0x60000000, 0x70000001, 0x50600000,
-     0x60000001, 0x70000003, 0x50700800, 0x60000000, 0x70000003, 0xF0000013},
-    20, TECUHUALMA_WIDE_DISTANCES(2), 21, 0xA0000002};
+/* A word more in the answer too, and as many distances as there are. */
+static const struct example WIDE = {"wide", &WIDE_A, TECUHUALMA_WIDE_DISTANCES(2), 21, 0xA0000002};
 
 _Static_assert(TECUHUALMA_MOST_ANSWER_WORDS == 4194370, "the longest answer to a narrow sheet");
 _Static_assert(TECUHUALMA_MOST_WIDE_ANSWER_WORDS == 67108931, "the longest to a wide one");
@@ -49,48 +38,13 @@ struct left {
     uint8_t *sheet, *distances, *answer, *result;
 };
 
-static int failures = 0;
-
-static void demand(int condition, const char *what)
-{
-    if (!condition) {
-        printf("lent_buffers: %s\n", what);
-        failures++;
-    }
-}
-
-static uint8_t *dirty(size_t length)
-{
-    uint8_t *bytes = length > 0 ? malloc(length) : NULL;
-    if (bytes != NULL)
-        memset(bytes, 0xD1, length);
-    else if (length > 0)
-        exit(2);
-    return bytes;
-}
-
-static int is_zero(const uint8_t *bytes, size_t length)
-{
-    size_t index = 0;
-    while (index < length && bytes[index] == 0)
-        index++;
-    return index == length;
-}
-
-/* Lays as much of the example out as there is room for. */
-static void fill_sheet(uint8_t *sheet, struct lengths lent)
-{
-    for (size_t at = 0; at < lent.sheet && at < 4 * lent.example->sheet_words; at++)
-        sheet[at] = (uint8_t)(lent.example->words[at / 4] >> 8 * (at % 4));
-}
-
 static struct left judged(struct lengths lent)
 {
-    struct left left = {.sheet = dirty(lent.sheet),
-                        .distances = dirty(lent.distances),
-                        .answer = dirty(lent.answer),
-                        .result = dirty(lent.result)};
-    fill_sheet(left.sheet, lent);
+    struct left left = {.sheet = take_dirty(lent.sheet),
+                        .distances = take_dirty(lent.distances),
+                        .answer = take_dirty(lent.answer),
+                        .result = take_dirty(lent.result)};
+    lay_out(lent.example->sheet, left.sheet, lent.sheet);
     left.number = judge(left.sheet, lent.sheet, left.distances, lent.distances, left.answer,
                         lent.answer, left.result, lent.result);
     for (size_t index = 0; index < 5 && lent.result == TECUHUALMA_RESULT_BYTES; index++)
@@ -100,45 +54,47 @@ static struct left judged(struct lengths lent)
 
 static void give_back(struct left left)
 {
-    free(left.sheet);
-    free(left.distances);
-    free(left.answer);
-    free(left.result);
+    give_back_dirty(left.sheet);
+    give_back_dirty(left.distances);
+    give_back_dirty(left.answer);
+    give_back_dirty(left.result);
 }
 
 /* A refusal leaves zeros, and its number and place where 40 bytes are lent. */
 static void demand_refused(struct lengths lent, uint64_t number, uint64_t place, const char *what)
 {
+    const char *of = lent.example->title;
     struct left left = judged(lent);
-    demand(left.number == number, what);
-    demand(is_zero(left.distances, lent.distances), what);
-    demand(is_zero(left.answer, lent.answer), what);
+    demand(left.number == number, of, what);
+    demand(is_zero(left.distances, lent.distances), of, what);
+    demand(is_zero(left.answer, lent.answer), of, what);
     if (lent.result == TECUHUALMA_RESULT_BYTES) {
-        demand(left.numbers[0] == number && left.numbers[1] == place, what);
-        demand(is_zero(left.result + 16, 24), what);
+        demand(left.numbers[0] == number && left.numbers[1] == place, of, what);
+        demand(is_zero(left.result + 16, 24), of, what);
     } else {
-        demand(is_zero(left.result, lent.result), what);
+        demand(is_zero(left.result, lent.result), of, what);
     }
     give_back(left);
 }
 
 static void demand_accepted(struct lengths lent, const char *what)
 {
+    const char *of = lent.example->title;
     const uint64_t expected[5] = {0, 0, lent.example->answer_words, 1, 11};
     const size_t used = 2 * 2 * TECUHUALMA_DISTANCE_BYTES;
     const size_t whole = 4 * lent.example->answer_words;
     struct left left = judged(lent);
-    demand(left.number == 0, what);
-    demand(memcmp(left.numbers, expected, sizeof expected) == 0, what);
-    demand(number_at(left.distances + 8, 8) == 3, what);
-    demand(is_zero(left.distances + used, lent.distances - used), what);
-    demand(number_at(left.answer, 4) == lent.example->answer_begins, what);
-    demand(is_zero(left.answer + whole, lent.answer - whole), what);
-    demand(lookup(left.answer, lent.answer, 0, 0, 0) == TECUHUALMA_VERDICT_YES, what);
-    demand(lookup(left.answer, lent.answer, 0, 0, 1) == TECUHUALMA_VERDICT_NO, what);
-    demand(lookup(left.answer, lent.answer, 1, 1, 0) == TECUHUALMA_NO_VERDICT, what);
-    demand(lookup(left.answer, lent.answer, UINT64_MAX, 0, 0) == TECUHUALMA_NO_VERDICT, what);
-    demand(lookup(left.answer, lent.answer - 1, 0, 0, 0) == TECUHUALMA_NO_VERDICT, what);
+    demand(left.number == 0, of, what);
+    demand(memcmp(left.numbers, expected, sizeof expected) == 0, of, what);
+    demand(number_at(left.distances + 8, 8) == 3, of, what);
+    demand(is_zero(left.distances + used, lent.distances - used), of, what);
+    demand(number_at(left.answer, 4) == lent.example->answer_begins, of, what);
+    demand(is_zero(left.answer + whole, lent.answer - whole), of, what);
+    demand(lookup(left.answer, lent.answer, 0, 0, 0) == TECUHUALMA_VERDICT_YES, of, what);
+    demand(lookup(left.answer, lent.answer, 0, 0, 1) == TECUHUALMA_VERDICT_NO, of, what);
+    demand(lookup(left.answer, lent.answer, 1, 1, 0) == TECUHUALMA_NO_VERDICT, of, what);
+    demand(lookup(left.answer, lent.answer, UINT64_MAX, 0, 0) == TECUHUALMA_NO_VERDICT, of, what);
+    demand(lookup(left.answer, lent.answer - 1, 0, 0, 0) == TECUHUALMA_NO_VERDICT, of, what);
     give_back(left);
 }
 
@@ -152,7 +108,7 @@ static struct lengths with(const struct example *example, size_t sheet, size_t d
 /* The right lengths, and those with one of them changed. */
 static void try_lengths(const struct example *a)
 {
-    const size_t words = a->sheet_words, sheet = 4 * words, answer = 4 * a->answer_words;
+    const size_t words = a->sheet->count, sheet = 4 * words, answer = 4 * a->answer_words;
     const size_t table = a->distances * TECUHUALMA_DISTANCE_BYTES;
     const size_t result = TECUHUALMA_RESULT_BYTES;
     demand_accepted(with(a, sheet, table, answer, result), "exact lengths");
@@ -188,7 +144,6 @@ int main(void)
     try_lengths(&NARROW);
     try_lengths(&WIDE);
     try_cut_sheets();
-    demand(lookup(NULL, 0, 0, 0, 0) == TECUHUALMA_NO_VERDICT, "lookup in nothing");
-    puts(failures == 0 ? "lent_buffers: all as the header says" : "lent_buffers: failed");
-    return failures != 0;
+    demand(lookup(NULL, 0, 0, 0, 0) == TECUHUALMA_NO_VERDICT, "no bytes", "lookup");
+    return all_demanded("lent_buffers");
 }
