@@ -1,9 +1,9 @@
 /*
- * What the header says of the stack, tried: judge() and lookup() run in threads
- * whose whole stack is no larger than what a call may take, on sheets with a line
- * of every code. What lies below a stack cannot be touched, so that a call that
- * takes more ends the program. How much was taken is told: the stack is painted
- * before, and has lost its colour where it was used.
+ * What the header says of the stack, tried: judge() and lookup(), and then the tools,
+ * run in threads whose whole stack is no larger than what a call may take, on sheets
+ * with a line of every code. What lies below a stack cannot be touched, so that a
+ * call that takes more ends the program. How much was taken is told: the stack is
+ * painted before, and has lost its colour where it was used.
  */
 #define _DEFAULT_SOURCE /* for MAP_ANONYMOUS */
 
@@ -38,14 +38,24 @@ struct words {
     size_t count;
 };
 
-/* What is lent, what came of it, and where the stack stood before. */
+/* What is lent, what came of it, and where the stack stood before. Tools write where
+ * an answer would stand, which is longer than a sheet. */
 struct call {
+    const struct trial *trial;
     struct words sheet, answer;
     uint8_t *distances;
     size_t distances_bytes;
     uint8_t result[TECUHUALMA_RESULT_BYTES];
-    uint64_t number, verdict;
+    uint64_t given[2]; /* back, by the two calls of a work */
     uintptr_t stood;
+};
+
+/* The calls that a thread makes, and whether they did what they are to do. */
+struct work {
+    const char *title;
+    int of_tools;
+    void *(*run)(void *call);
+    int (*was_done)(const struct call *call);
 };
 
 struct stack {
@@ -140,11 +150,11 @@ static struct words sheet_of(const struct trial *trial)
     return sheet;
 }
 
-/* ---- The call ---- */
+/* ---- What is lent ---- */
 
 static struct call call_of(const struct trial *trial)
 {
-    struct call call = {.sheet = sheet_of(trial)};
+    struct call call = {.trial = trial, .sheet = sheet_of(trial)};
     call.answer.count =
         TECUHUALMA_WIDE_ANSWER_WORDS(trial->places, TECUHUALMA_MOST_SAMPLES, CODES);
     call.answer.at = take(call.answer.count * TECUHUALMA_WORD_BYTES);
@@ -154,32 +164,6 @@ static struct call call_of(const struct trial *trial)
     return call;
 }
 
-static void *judge_and_look_up(void *argument)
-{
-    struct call *call = argument;
-    size_t sheet_bytes = call->sheet.count * TECUHUALMA_WORD_BYTES;
-    size_t answer_bytes = call->answer.count * TECUHUALMA_WORD_BYTES;
-    call->stood = (uintptr_t)&call;
-    call->number = judge(call->sheet.at, sheet_bytes, call->distances, call->distances_bytes,
-                         call->answer.at, answer_bytes, call->result, sizeof call->result);
-    call->verdict = lookup(call->answer.at, answer_bytes, SURROUNDED, 0, 0);
-    return NULL;
-}
-
-static void run_on(struct stack stack, struct call *call)
-{
-    pthread_attr_t attributes;
-    pthread_t thread;
-    if (pthread_attr_init(&attributes) != 0 ||
-        pthread_attr_setstack(&attributes, stack.at, stack.bytes) != 0 ||
-        pthread_create(&thread, &attributes, judge_and_look_up, call) != 0 ||
-        pthread_join(thread, NULL) != 0) {
-        fputs("stack_taken: no thread with such a stack\n", stderr);
-        exit(2);
-    }
-    pthread_attr_destroy(&attributes);
-}
-
 static void give_back(struct call *call)
 {
     free(call->sheet.at);
@@ -187,7 +171,66 @@ static void give_back(struct call *call)
     free(call->distances);
 }
 
+/* ---- Judging ---- */
+
+static void *judge_and_look_up(void *argument)
+{
+    struct call *call = argument;
+    size_t sheet_bytes = call->sheet.count * TECUHUALMA_WORD_BYTES;
+    size_t answer_bytes = call->answer.count * TECUHUALMA_WORD_BYTES;
+    call->stood = (uintptr_t)&call;
+    call->given[0] = judge(call->sheet.at, sheet_bytes, call->distances, call->distances_bytes,
+                           call->answer.at, answer_bytes, call->result, sizeof call->result);
+    call->given[1] = lookup(call->answer.at, answer_bytes, SURROUNDED, 0, 0);
+    return NULL;
+}
+
+/* Whether all lines were evaluated, the surrounds too: else little says nothing. */
+static int was_judged(const struct call *call)
+{
+    uint64_t rounds = number_at(call->result + 8 * TECUHUALMA_ROUNDS, 8);
+    return call->given[0] == TECUHUALMA_ACCEPTED && rounds > 0 &&
+           call->given[1] != TECUHUALMA_NO_VERDICT;
+}
+
+/* ---- Converting ---- */
+
+static void *convert(void *argument)
+{
+    struct call *call = argument;
+    size_t sheet_bytes = call->sheet.count * TECUHUALMA_WORD_BYTES;
+    size_t output_bytes = call->answer.count * TECUHUALMA_WORD_BYTES;
+    call->stood = (uintptr_t)&call;
+    call->given[0] = sheet_to_wide(call->sheet.at, sheet_bytes, call->answer.at, output_bytes,
+                                   call->result, TECUHUALMA_TOOL_RESULT_BYTES);
+    call->given[1] = sheet_to_narrow(call->sheet.at, sheet_bytes, call->answer.at, output_bytes,
+                                     call->result, TECUHUALMA_TOOL_RESULT_BYTES);
+    return NULL;
+}
+
+/* One of the two converts, unless there are more places than a narrow sheet has. */
+static int was_converted(const struct call *call)
+{
+    int fits = call->trial->places <= TECUHUALMA_MOST_PLACES;
+    uint64_t to_narrow = fits ? TECUHUALMA_ACCEPTED : TECUHUALMA_MANY_PLACES;
+    return call->given[0] == TECUHUALMA_ACCEPTED && call->given[1] == to_narrow;
+}
+
 /* ---- What was taken ---- */
+
+static void run_on(struct stack stack, const struct work *work, struct call *call)
+{
+    pthread_attr_t attributes;
+    pthread_t thread;
+    if (pthread_attr_init(&attributes) != 0 ||
+        pthread_attr_setstack(&attributes, stack.at, stack.bytes) != 0 ||
+        pthread_create(&thread, &attributes, work->run, call) != 0 ||
+        pthread_join(thread, NULL) != 0) {
+        fputs("stack_taken: no thread with such a stack\n", stderr);
+        exit(2);
+    }
+    pthread_attr_destroy(&attributes);
+}
 
 /* Above `stood` is what the thread itself takes, below it what the calls do. */
 static void tell(struct stack stack, uintptr_t stood)
@@ -201,31 +244,22 @@ static void tell(struct stack stack, uintptr_t stood)
            of_thread, stack.bytes);
 }
 
-/* Whether all lines were evaluated, the surrounds too: else little says nothing. */
-static int was_judged(const struct call *call)
-{
-    uint64_t rounds = number_at(call->result + 8 * TECUHUALMA_ROUNDS, 8);
-    return call->number == TECUHUALMA_ACCEPTED && rounds > 0 &&
-           call->verdict != TECUHUALMA_NO_VERDICT;
-}
-
-/* Gives 1 if the sheet was judged; that enough was left of the stack shows by this
+/* Gives 1 if the work was done; that enough was left of the stack shows by this
  * program's going on. */
-static int try(const struct trial *trial)
+static int try(const struct work *work, struct call *call)
 {
-    struct call call = call_of(trial);
-    struct stack stack = take_stack((size_t)TECUHUALMA_STACK_BYTES(trial->places));
-    printf("%s:", trial->title);
+    uint32_t places = work->of_tools ? 1 : call->trial->places;
+    struct stack stack = take_stack((size_t)TECUHUALMA_STACK_BYTES(places));
+    printf("%s, %s:", call->trial->title, work->title);
     fflush(stdout);
-    run_on(stack, &call);
-    int judged = was_judged(&call);
-    if (judged)
-        tell(stack, call.stood);
+    run_on(stack, work, call);
+    int done = work->was_done(call);
+    if (done)
+        tell(stack, call->stood);
     else
-        printf(" not judged, number %d\n", (int)call.number);
+        printf(" not done, but %d and %d\n", (int)call->given[0], (int)call->given[1]);
     give_back_stack(stack);
-    give_back(&call);
-    return judged;
+    return done;
 }
 
 int main(void)
@@ -235,8 +269,13 @@ int main(void)
         {"a wide sheet of 64 places", 1, TECUHUALMA_MOST_PLACES},
         {"a wide sheet of 1,024 places", 1, TECUHUALMA_MOST_WIDE_PLACES},
     };
+    static const struct work JUDGING = {"judged", 0, judge_and_look_up, was_judged};
+    static const struct work CONVERTING = {"converted", 1, convert, was_converted};
     int failures = 0;
-    for (size_t index = 0; index < sizeof TRIALS / sizeof TRIALS[0]; index++)
-        failures += !try(&TRIALS[index]);
+    for (size_t index = 0; index < sizeof TRIALS / sizeof TRIALS[0]; index++) {
+        struct call call = call_of(&TRIALS[index]);
+        failures += !try(&JUDGING, &call) + !try(&CONVERTING, &call);
+        give_back(&call);
+    }
     return failures != 0;
 }
