@@ -54,6 +54,24 @@ fn a_road_of_a_city() {
     assert_eq!(Layout::Wide.pair_word(300, 1000), 0x2012C3E8);
 }
 
+/// The words that the page's table of converting shows are those of the blocks, and no
+/// others change.
+#[test]
+fn from_narrow_to_wide() {
+    let (narrow, wide) = (page::words("words a-sheet"), page::words("words wide-sheet"));
+    assert_eq!(narrow[1..18], wide[2..19]);
+    let road = page::words("words network-sheet")[7];
+    assert_eq!(road, Layout::Narrow.pair_word(3, 4));
+    let row = |label: &str, narrow: u32, wide: &[u32]| {
+        let wide: Vec<String> = wide.iter().map(|word| format!("`{word:08X}`")).collect();
+        let row = format!("| {label} | `{narrow:08X}` | {} |", wide.join(" "));
+        assert!(page::rows().any(|shown| shown == row), "{row}");
+    };
+    row("first words", narrow[0], &wide[..2]);
+    row("end", narrow[18], &wide[19..]);
+    row("a road's first word", road, &[Layout::Wide.pair_word(3, 4)]);
+}
+
 #[test]
 fn the_worked_network() {
     let sheet = page::words("words network-sheet");
@@ -132,5 +150,5 @@ fn all_sheets_are_listed() {
 fn every_refusal_has_its_row() {
     let rows = page::rows().skip_while(|row| !row.starts_with("| No. |")).skip(2);
     let numbers = rows.map_while(|row| row.split('|').nth(1)?.trim().parse::<u64>().ok());
-    assert_eq!(numbers.collect::<Vec<_>>(), (1..=17).collect::<Vec<_>>());
+    assert_eq!(numbers.collect::<Vec<_>>(), (1..=18).collect::<Vec<_>>());
 }
