@@ -20,9 +20,9 @@ and-back : converted false sheetWide ≡ accepted sheetA
 unfolding answerOf validated roadRelaid relaid converted
 and-back = refl
 
-as-it-is : (converted false sheetA ≡ accepted sheetA) × (converted true sheetWide ≡ accepted sheetWide)
+unaltered : (converted false sheetA ≡ accepted sheetA) × (converted true sheetWide ≡ accepted sheetWide)
 unfolding answerOf validated roadRelaid relaid converted
-as-it-is = (refl, refl)
+unaltered = (refl, refl)
 
 -- room for one word too few, and the fault of the sheet itself before it
 short-output : (left (converted true sheetA) 19 19 ≡ refusal 19 15 19) × (left (converted true (take 18 sheetA)) 18 0 ≡ refusal 0 14 18)
