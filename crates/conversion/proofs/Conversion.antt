@@ -29,17 +29,17 @@ use Rattle.conversion.proofs.Accepted.{layout-made, accepted-made}
 use Rattle.conversion.proofs.Back.{stays, back}
 use Rattle.conversion.proofs.Contents.{network-relaid, recording-relaid}
 
-abbrev most : ℕ
+abbrev pub most : ℕ
 most = mostPlaces * mostPlaces
 
 -- what the check of a valid sheet found, and what was made of it
-record Made (to : Bool) (s made : List ℕ) : Type 0 where
-  layout : Layout
-  found : checked s most ≡ accepted layout
-  few : layout .sizes .places ≤ mostOf to
-  made-of : made ≡ relaid to s layout
+pub record Made (to : Bool) (s made : List ℕ) : Type 0 where
+  pub layout : Layout
+  pub found : checked s most ≡ accepted layout
+  pub few : layout .sizes .places ≤ mostOf to
+  pub made-of : made ≡ relaid to s layout
 
-made-told : (to : Bool) (s made : List ℕ) → converted to s ≡ accepted made → Made to s made
+pub made-told : (to : Bool) (s made : List ℕ) → converted to s ≡ accepted made → Made to s made
 unfolding converted validated
 made-told to s made e =
     let (L, found, rest) = bind-accepted (checked s most) _ e in

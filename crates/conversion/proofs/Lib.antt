@@ -6,4 +6,5 @@ pub mod Accepted
 pub mod Back
 pub mod Contents
 pub mod Conversion
+pub mod Fitting
 pub mod Converting

@@ -160,7 +160,7 @@ call-lookup c z κ asked r left learnt same =
 
 -- ---- two calls
 -- what is shown of what is to be left holds of what they left
-both-left : (x y : Call) → x .result ≡ 0 → y .result ≡ 0 → (P : Judged → Judged → Type 0) → P (judgedOf x) (judgedOf y) → P (leftBy x) (leftBy y)
+pub both-left : (x y : Call) → x .result ≡ 0 → y .result ≡ 0 → (P : Judged → Judged → Type 0) → P (judgedOf x) (judgedOf y) → P (leftBy x) (leftBy y)
 both-left x y zx zy P = subst₂ P (sym (left-says x zx)) (sym (left-says y zy))
 
 -- Demand 3: sheets alike in every word but their samples, these at most d apart. At every line, sample and place the margins are at most d apart or the

@@ -10,7 +10,7 @@ use Rattle.answers.specs.Judged.{Result, resultNumbers, Judged, refusal, judged
 use Rattle.lookup.specs.Lookup.{lookedUp}
 use Rattle.engine.specs.Lent.{judgedIn}
 
-abbrev multiple : ℕ → ℕ → Bool
+abbrev pub multiple : ℕ → ℕ → Bool
 multiple size bytes = eqb (bytes % size) 0
 
 -- the refusal of bytes: of lengths that are not whole words, whole distances or a result, and of an input of the program above 32,768 bytes
@@ -37,7 +37,7 @@ pub record HostJudged : Type 0 where
   pub distances : List ℕ
   pub result : List ℕ
 
-abbrev zeros : List ℕ → List ℕ
+abbrev pub zeros : List ℕ → List ℕ
 zeros lent = replicate (length lent) 0
 
 -- lengths that are not whole leave zeros, but for the number in a result of the right size

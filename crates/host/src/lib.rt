@@ -1,9 +1,13 @@
-// The engine and the lookup over bytes and numbers, for a host written in C: each slice is a pointer and a length there. Nothing is asked of
+// The engine, the lookup and the tools over bytes and numbers, for a host written in C: each slice is a pointer and a length there. Nothing is asked of
 // what is lent but that no two parts of it overlap.
 //
 //     uint64_t judge(const uint8_t *sheet, size_t sheet_length, uint8_t *distances, size_t distances_length, uint8_t *answer,
 //         size_t answer_length, uint8_t *result, size_t result_length);
 //     uint64_t lookup(const uint8_t *answer, size_t answer_length, uint64_t line, uint64_t sample, uint64_t place);
+//     uint64_t sheet_to_wide(const uint8_t *sheet, size_t sheet_length, uint8_t *output, size_t output_length, uint8_t *result,
+//         size_t result_length);
+//     uint64_t sheet_to_narrow(const uint8_t *sheet, size_t sheet_length, uint8_t *output, size_t output_length, uint8_t *result,
+//         size_t result_length);
 use engine::Result;
 ghost use mathlib.Core.Path.{_≡_};
 ghost use Prim.Native.Nat.{_*_};
@@ -11,6 +15,8 @@ ghost use lib.ListN.{length};
 ghost use Rattle.words.specs.Bytes.{bytesOf, halvesOf};
 ghost use Rattle.engine.specs.Result.{resultSaid};
 ghost use Rattle.host.specs.Host.{resultSize, resultBytes, lentWhole, notWhole, hostJudged, hostLookedUp};
+
+mod tools;
 
 // Five numbers of eight bytes.
 const RESULT_BYTES: usize = 40;

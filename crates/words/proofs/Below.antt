@@ -1,8 +1,8 @@
--- Lists whose numbers are all below a bound: one number more, lists one after the other, zeros behind, rows.
+-- Lists whose numbers are all below a bound: one number more, lists one after the other, parts, zeros behind, rows.
 use Prim.Native.Nat.{ℕ, zero, suc, _-_, _<_}
 use mathlib.Core.List.{List, [], _∷_, _++_}
 use native.Mathlib.Omega.{arith}
-use lib.ListN.{length, getD, replicate}
+use lib.ListN.{length, getD, take, drop, replicate}
 use Rattle.words.specs.Rows.{row, concat, padded}
 
 -- every element is below a bound; beyond the end an element counts as 0, as a slice tells it
@@ -20,6 +20,16 @@ module _ {bound : ℕ} (some : 0 < bound) where
   pub below-append : (a b : List ℕ) → Below bound a → Below bound b → Below bound (a ++ b)
   below-append [] b h k = k
   below-append (x ∷ a) b h k = below-more x (a ++ b) (h 0) (below-append a b (λ i. h (suc i)) k)
+
+  pub below-take : (n : ℕ) (b : List ℕ) → Below bound b → Below bound (take n b)
+  below-take zero b h = below-none
+  below-take (suc n) [] h = below-none
+  below-take (suc n) (x ∷ b) h = below-more x (take n b) (h 0) (below-take n b (λ i. h (suc i)))
+
+  pub below-drop : (n : ℕ) (b : List ℕ) → Below bound b → Below bound (drop n b)
+  below-drop zero b h = h
+  below-drop (suc n) [] h = below-none
+  below-drop (suc n) (x ∷ b) h = below-drop n b (λ i. h (suc i))
 
   below-zeros : (n : ℕ) → Below bound (replicate n 0)
   below-zeros zero = below-none

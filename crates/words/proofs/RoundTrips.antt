@@ -32,7 +32,7 @@ words-bytes (x ∷ y ∷ z ∷ u ∷ b) (suc k) l h =
     let e3 : w / 2 ^ 24 % 2 ^ 8 ≡ u = rw q3 (omega arith) in
     rw (e0, e1, e2, e3, words-bytes b k (λ i. l (suc (suc (suc (suc i))))) (omega arith))
 
-words-below : (b : List ℕ) → Below (2 ^ 8) b → Below (2 ^ 32) (wordsOf b)
+pub words-below : (b : List ℕ) → Below (2 ^ 8) b → Below (2 ^ 32) (wordsOf b)
 unfolding wordsOf
 words-below [] l i = omega arith
 words-below (x ∷ []) l i = omega arith

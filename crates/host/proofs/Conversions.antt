@@ -1,0 +1,102 @@
+-- Calls of the converters, by their contracts alone (M-105): where a call returned 0, the words that it left are what is made of the sheet in the layout that was
+-- asked for. So a call on these words that asks for the layout of the sheet gives the words of the sheet, and `judge` says the same of both sheets.
+use mathlib.Core.Path.{_≡_, sym, ap, _∙_}
+use mathlib.Core.Bool.{Bool, true, false}
+use mathlib.Core.List.{List}
+use Prim.Native.Nat.{ℕ, _^_}
+use native.Mathlib.Omega.{arith}
+use lib.ListN.{length}
+use contract.Lifetimes
+use borrow.Fn.Kinds.{Dens, endedOf}
+use denote.Triple.Clauses.{AtExit}
+use Rattle.words.specs.Bytes.{wordsOf}
+use Rattle.words.proofs.Below.{Below}
+use Rattle.words.proofs.RoundTrips.{words-below}
+use Rattle.checks.specs.Checked.{accepted}
+use Rattle.checks.specs.Heads.{isWide}
+use Rattle.checks.proofs.Checks.{same-accepted}
+use Rattle.lookup.specs.Lookup.{saidAt}
+use Rattle.conversion.specs.Relaid.{converted}
+use Rattle.conversion.proofs.Conversion.{there-and-back, same-said, same-rounds, same-yes}
+use Rattle.conversion.proofs.Fitting.{made-fits, made-short, never-0}
+use Rattle.host.specs.Host.{multiple}
+use Rattle.host.specs.Tools.{HostTool, hostConverted}
+use Rattle.host.proofs.ToolsMade.{madeBy, tool-made}
+use Rattle.host.proofs.Calls as judge
+use Rattle.host.proofs.tools.sheet_to_wide.Reads as wide
+use Rattle.host.proofs.tools.sheet_to_wide.Kinds as wide-kinds
+use Rattle.host.proofs.tools.sheet_to_narrow.Reads as narrow
+use Rattle.host.proofs.tools.sheet_to_narrow.Kinds as narrow-kinds
+
+-- a call of either: the bytes that it was given, and what it returned and left, so far as its contract tells
+pub record Call (to : Bool) : Type 0 where
+  pub sheet : List ℕ
+  pub output : List ℕ
+  pub result : List ℕ
+  pub left : HostTool
+  pub learnt : left ≡ hostConverted to sheet output result
+  pub bytes : Below (2 ^ 8) sheet
+
+same-parts : {host : HostTool} (number : ℕ) (output result : List ℕ) → number ≡ host .number → output ≡ host .output → result ≡ host .result
+    → record { number = number; output = output; result = result } ≡ host
+same-parts number output result n o r i = record { number = n i; output = o i; result = r i }
+
+pub wide-call : (κ : Lifetimes.Lfts 3) (given : Dens κ wide-kinds.ps) (number : ℕ) (left : AtExit (endedOf 3 wide-kinds.ps wide-kinds.r) κ)
+    → wide.Learnt κ given number left → Below (2 ^ 8) (given .0 .now) → Call true
+wide-call κ given number left learnt bytes = record {
+  sheet = given .0 .now;
+  output = given .1 .0 .now;
+  result = given .1 .1 .0 .now;
+  left = record { number = number; output = left .1 .0 .now; result = left .1 .1 .0 .now };
+  learnt = same-parts _ _ _ (learnt .0) (learnt .1 .0) (learnt .1 .1);
+  bytes = bytes;
+}
+
+pub narrow-call : (κ : Lifetimes.Lfts 3) (given : Dens κ narrow-kinds.ps) (number : ℕ) (left : AtExit (endedOf 3 narrow-kinds.ps narrow-kinds.r) κ)
+    → narrow.Learnt κ given number left → Below (2 ^ 8) (given .0 .now) → Call false
+narrow-call κ given number left learnt bytes = record {
+  sheet = given .0 .now;
+  output = given .1 .0 .now;
+  result = given .1 .1 .0 .now;
+  left = record { number = number; output = left .1 .0 .now; result = left .1 .1 .0 .now };
+  learnt = same-parts _ _ _ (learnt .0) (learnt .1 .0) (learnt .1 .1);
+  bytes = bytes;
+}
+
+module _ {to : Bool} (c : Call to) where
+  abbrev pub sheetOf : List ℕ
+  sheetOf = wordsOf (c .sheet)
+
+  abbrev pub madeOf : List ℕ
+  madeOf = madeBy (c .left)
+
+  pub call-made : c .left .number ≡ 0 → converted to sheetOf ≡ accepted madeOf
+  call-made zero =
+      tool-made (multiple 4 (length (c .sheet))) (converted to sheetOf) (length sheetOf) (c .output) (c .result) (never-0 to sheetOf)
+      (λ made e. (made-fits to sheetOf made e (words-below (c .sheet) (c .bytes)), omega (arith, made-short to sheetOf made e)))
+      (sym (ap (λ (h : HostTool). h .number) (c .learnt)) ∙ zero)
+      ∙ ap (λ (h : HostTool). accepted (madeBy h)) (sym (c .learnt))
+
+-- there and back: the words of the first sheet
+pub calls-back : {to back : Bool} (there : Call to) (again : Call back) → back ≡ isWide (sheetOf there) → sheetOf again ≡ madeOf there
+    → there .left .number ≡ 0 → again .left .number ≡ 0 → madeOf again ≡ sheetOf there
+calls-back {to} there again layout same zero zero-again =
+    same-accepted (sym (call-made again zero-again) ∙ (λ i. converted (layout i) (same i)) ∙ there-and-back to (sheetOf there) (madeOf there) (call-made there zero))
+
+-- calls of judge on a sheet and on what was made of it, whatever was lent to either
+module _ {to : Bool} (c : Call to) (zero : c .left .number ≡ 0) (x y : judge.Call) (given : judge.sheetOf x ≡ sheetOf c) (made : judge.sheetOf y ≡ madeOf c)
+    (zx : x .result ≡ 0) (zy : y .result ≡ 0) where
+  e : converted to (judge.sheetOf x) ≡ accepted (judge.sheetOf y)
+  e = ap (converted to) given ∙ call-made c zero ∙ ap accepted (sym made)
+
+  pub calls-said : (i t l : ℕ) → saidAt (judge.leftBy x .answer) i t l ≡ saidAt (judge.leftBy y .answer) i t l
+  calls-said i t l = judge.both-left x y zx zy (λ j k. saidAt (j .answer) i t l ≡ saidAt (k .answer) i t l)
+      (same-said to (judge.sheetOf x) (judge.sheetOf y) e (judge.distancesLent x) (judge.answerLent x) (judge.distancesLent y) (judge.answerLent y) (judge.accepts x zx) (judge.accepts y zy) i t l)
+
+  pub calls-rounds : judge.leftBy x .result .rounds ≡ judge.leftBy y .result .rounds
+  calls-rounds = judge.both-left x y zx zy (λ j k. j .result .rounds ≡ k .result .rounds)
+      (same-rounds to (judge.sheetOf x) (judge.sheetOf y) e (judge.distancesLent x) (judge.answerLent x) (judge.distancesLent y) (judge.answerLent y) (judge.accepts x zx) (judge.accepts y zy))
+
+  pub calls-yes : judge.leftBy x .result .yes ≡ judge.leftBy y .result .yes
+  calls-yes = judge.both-left x y zx zy (λ j k. j .result .yes ≡ k .result .yes)
+      (same-yes to (judge.sheetOf x) (judge.sheetOf y) e (judge.distancesLent x) (judge.answerLent x) (judge.distancesLent y) (judge.answerLent y) (judge.accepts x zx) (judge.accepts y zy))
