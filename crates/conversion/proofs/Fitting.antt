@@ -10,10 +10,10 @@ use lib.ListN.{length, drop}
 use Rattle.words.specs.Word.{wordOf}
 use Rattle.words.specs.Rows.{concat}
 use Rattle.words.proofs.Below.{Below, below-none, below-more, below-append, below-take, below-drop, below-concat}
-use Rattle.checks.specs.Checked.{Checked, accepted, refused, _>>=_, require}
+use Rattle.checks.specs.Checked.{Checked, accepted, refused, _>>=_, require, wordAt}
 use Rattle.checks.specs.Heads.{mostOf, isWide, headFor}
 use Rattle.checks.proofs.Heads.{few-head-words}
-use Rattle.roads.specs.Roads.{roadAt}
+use Rattle.roads.specs.Roads.{roadAt, weightAt}
 use Rattle.sheet.specs.Layout.{Sizes, Layout, checked, validated}
 use Rattle.sheet.proofs.Accepted.{SizesWithin}
 use Rattle.sheet.proofs.Whole.{AcceptedSheet, accepted-sheet, few-words}
@@ -54,7 +54,10 @@ module _ (to : Bool) (s : List ℕ) (d : ℕ) (L : Layout) (sheet : AcceptedShee
   module _ (below : Below (2 ^ 32) s) where
     road-below : (r : ℕ) → Below (2 ^ 32) (roadRelaid to s r)
     unfolding roadRelaid
-    road-below r = below-more some-words _ _ (laid-below (isWide s) to _ (below _)) (below-more some-words _ [] (below _) (below-none some-words))
+    road-below r =
+        let at : ℕ = roadAt (isWide s) r in
+        let weight : ℕ = weightAt (isWide s) r in
+        below-more some-words _ (wordAt s weight ∷ []) (laid-below (isWide s) to (wordAt s at) (below at)) (below-more some-words (wordAt s weight) [] (below weight) (below-none some-words))
 
     unmoved-below : Below (2 ^ 32) (unmoved to s L)
     unmoved-below =
@@ -85,7 +88,7 @@ module _ (to : Bool) (s made : List ℕ) (e : converted to s ≡ accepted made) 
   made-fits below = subst (Below (2 ^ 32)) (sym (of .made-of)) (relaid-below to s most (of .layout) valid (of .few) below)
 
 -- ---- the refusals
-number : {A : Type 0} → Checked A → ℕ
+abbrev number : {A : Type 0} → Checked A → ℕ
 number (accepted a) = 1
 number (refused k place) = k
 
@@ -97,8 +100,8 @@ unfolding converted validated
 never-0 to s place e = go (checked s most) (check-numbered s most) (ap number e)
   where
     by-places : (L : Layout) (t : Bool) → number (require t 18 0 (accepted (relaid to s L))) ≡ 0 → ⊥
-    by-places L true ()
-    by-places L false ()
+    by-places L true z = let one : _≡_ {A = ℕ} 1 0 = z in omega arith
+    by-places L false z = let eighteen : _≡_ {A = ℕ} 18 0 = z in omega arith
 
     go : (c : Checked Layout) → Numbered anyNumber c → number (c >>= λ L. require (leb (L.sizes.places) (mostOf to)) 18 0 (accepted (relaid to s L))) ≡ 0 → ⊥
     go (accepted L) n z = by-places L (leb (L.sizes.places) (mostOf to)) z

@@ -7,7 +7,7 @@ use Rattle.sheet.specs.declared.check.Layout as Code
 use Rattle.checks.specs.Heads.{isWide}
 use Rattle.sheet.specs.Layout.{Layout}
 use Rattle.samples.specs.declared.tally.Tally.{Tally}
-use Rattle.answers.specs.Answer.{wordsNeeded}
+use Rattle.answers.specs.Answer.{lineIndex, wordsNeeded}
 use Rattle.evaluation.specs.Lines.{found, Accepting, LinesWritten}
 
 module _ (sheet distances : List ℕ) where
@@ -20,6 +20,10 @@ module _ (sheet distances : List ℕ) where
   -- how many words the answer needs
   abbrev pub neededIn : ℕ
   neededIn = wordsNeeded (isWide (wordsOf sheet)) (foundIn .sizes .places) (foundIn .lines)
+
+  -- where the lines of the answer end
+  abbrev pub linesEndIn : Code.Layout → ℕ
+  linesEndIn layout = lineIndex (isWide (wordsOf sheet)) (layout .places) (foundIn .lines) (layout .lines)
 
   -- the lines in the bytes of the answer as they are left
   abbrev pub LinesWrittenIn : List ℕ → List ℕ → ℕ → Tally → Type 0

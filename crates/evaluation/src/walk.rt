@@ -11,9 +11,7 @@ ghost use mathlib.Core.Path.{_≡_};
 ghost use Prim.Native.Nat.{_≤_};
 ghost use lib.ListN.{length};
 ghost use Rattle.words.specs.Bytes.{wordsOf, afterWords};
-ghost use Rattle.checks.specs.Heads.{isWide};
-ghost use Rattle.answers.specs.Answer.{lineIndex};
-ghost use Rattle.evaluation.specs.Lent.{AcceptingIn, foundIn, neededIn, LinesWrittenIn};
+ghost use Rattle.evaluation.specs.Lent.{AcceptingIn, neededIn, linesEndIn, LinesWrittenIn};
 
 // The index after the last line, and what the lines add to the result.
 pub struct Written {
@@ -56,7 +54,7 @@ pub fn words_needed(sheet: &[u8], layout: Layout, distances: &[u8]) -> usize
 
 // Writes every line, behind the head.
 pub fn write_lines(sheet: &[u8], layout: Layout, distances: &[u8], answer: &mut [u8]) -> Written
-    requires { ⌜ AcceptingIn (now sheet) (now distances) layout × (lineIndex (isWide (wordsOf (now sheet))) (layout .places) (foundIn (now sheet) (now distances) .lines) (layout .lines) ≤ length (wordsOf (now answer))) ⌝ }
+    requires { ⌜ AcceptingIn (now sheet) (now distances) layout × (linesEndIn (now sheet) (now distances) layout ≤ length (wordsOf (now answer))) ⌝ }
     ensures written { λ r. ⌜ LinesWrittenIn (now (sheet .entry)) (now (distances .entry)) (now (answer .entry)) (now (answer .exit)) (r .end) (r .tally) ⌝ }
     ensures tail { λ _. ⌜ afterWords (now (answer .exit)) ≡ afterWords (now (answer .entry)) ⌝ }
 {
