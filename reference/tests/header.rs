@@ -8,6 +8,7 @@ use reference::layout::{
 };
 use reference::sheet::check;
 use reference::sheet::{MOST_LINES, MOST_SAMPLES, MOST_SIGNALS};
+use reference::tool;
 use reference::words::BYTES_PER_WORD;
 
 const HEADER: &str = include_str!("../../include/tecuhualma.h");
@@ -36,6 +37,7 @@ fn limits_and_lengths() {
     assert_eq!(number("DISTANCE_BYTES"), BYTES_PER_DISTANCE);
     assert_eq!(number("DISTANCES"), DISTANCE_ENTRIES);
     assert_eq!(number("RESULT_BYTES"), RESULT_BYTES);
+    assert_eq!(number("TOOL_RESULT_BYTES"), tool::RESULT_BYTES);
 }
 
 #[test]
