@@ -35,7 +35,7 @@ toolNotWhole output result = record {
   result = cond (eqb (length result) toolResultSize) (toldBytes (record { number = bytesRefused; place = 0; words = 0 })) (zeros result);
 }
 
--- what it leaves in words
+-- elsewhere the bytes of what it leaves in words
 abbrev pub leftInBytes : Left → HostTool
 leftInBytes left = record {
   number = left .told .number;

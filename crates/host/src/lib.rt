@@ -1,5 +1,5 @@
-// The engine, the lookup and the tools over bytes and numbers, for a host written in C: each slice is a pointer and a length there. Nothing is asked of
-// what is lent but that no two parts of it overlap.
+// The engine, the lookup and the tools over bytes and numbers, for a host written in C: each slice is a pointer and a length there. Nothing is
+// asked of what is lent but that no two parts of it overlap.
 //
 //     uint64_t judge(const uint8_t *sheet, size_t sheet_length, uint8_t *distances, size_t distances_length, uint8_t *answer,
 //         size_t answer_length, uint8_t *result, size_t result_length);

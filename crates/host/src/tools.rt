@@ -1,4 +1,4 @@
-// What the tools for a host written in C have in common: the test of the lengths, the refusal of bytes, and the numbers that are told.
+// The tools for a host written in C, and what they have in common: the test of the lengths, the refusal of bytes, and the numbers that are told.
 use crate::BYTES_REFUSED;
 use crate::put_numbers;
 use tool::Told;
@@ -10,8 +10,8 @@ ghost use Rattle.host.specs.Tools.{toolResultSize, toldBytes, toolWhole,
 // Three numbers of eight bytes.
 const TOLD_BYTES: usize = 24;
 
-// Whether the lengths have whole words and a result; of the inputs that is told.
-pub(crate) fn tool_whole(inputs: bool, output: usize, result: usize) -> bool
+// Whether the lengths have whole words and a result; of the inputs it is told.
+fn tool_whole(inputs: bool, output: usize, result: usize) -> bool
     ensures { λ r. ⌜ r ≡ toolWhole inputs output result ⌝ }
 {
     if !inputs {
@@ -23,7 +23,7 @@ pub(crate) fn tool_whole(inputs: bool, output: usize, result: usize) -> bool
     result == TOLD_BYTES
 }
 
-pub(crate) fn put_told(result: &mut [u8], told: Told)
+fn put_told(result: &mut [u8], told: Told)
     requires { ⌜ length (now result) ≡ toolResultSize ⌝ }
     ensures { λ _. ⌜ now (result .exit) ≡ toldBytes told ⌝ }
 {
@@ -32,7 +32,7 @@ pub(crate) fn put_told(result: &mut [u8], told: Told)
 }
 
 // Refuses lengths that are not whole: zeros in all that is lent, but for the number in a result of the right size.
-pub(crate) fn refuse_tool(output: &mut [u8], result: &mut [u8]) -> u64
+fn refuse_tool(output: &mut [u8], result: &mut [u8]) -> u64
     ensures told { λ r. ⌜ r ≡ toolNotWhole (now (output .entry)) (now (result .entry)) .number ⌝ }
     ensures said { λ _. ⌜ now (output .exit) ≡ toolNotWhole (now (output .entry)) (now (result .entry)) .output ⌝ }
     ensures held { λ _. ⌜ now (result .exit) ≡ toolNotWhole (now (output .entry)) (now (result .entry)) .result ⌝ }
@@ -61,6 +61,7 @@ fn convert_sheet(sheet: &[u8], to: bool, output: &mut [u8], result: &mut [u8]) -
     told.number
 }
 
+// Lays a sheet out wide.
 #[no_mangle]
 pub extern "C" fn sheet_to_wide(sheet: &[u8], output: &mut [u8], result: &mut [u8]) -> u64
     ensures told { λ r. ⌜ r ≡ hostConverted true (now (sheet .entry)) (now (output .entry)) (now (result .entry)) .number ⌝ }
@@ -70,6 +71,7 @@ pub extern "C" fn sheet_to_wide(sheet: &[u8], output: &mut [u8], result: &mut [u
     convert_sheet(sheet, true, output, result)
 }
 
+// Lays a sheet of at most 64 places out narrow.
 #[no_mangle]
 pub extern "C" fn sheet_to_narrow(sheet: &[u8], output: &mut [u8], result: &mut [u8]) -> u64
     ensures told { λ r. ⌜ r ≡ hostConverted false (now (sheet .entry)) (now (output .entry)) (now (result .entry)) .number ⌝ }
