@@ -16,6 +16,15 @@ use Rattle.roads.specs.Roads.{roadAt, weightAt}
 use Rattle.sheet.specs.Layout.{Layout}
 use Rattle.conversion.specs.Relaid.{laidOut, roadRelaid, unmoved, beforeEnd, relaid}
 
+-- two words for each road
+module _ (to : Bool) (s : List ℕ) where
+  two-words : (r : ℕ) → length (roadRelaid to s r) ≡ 2
+  unfolding roadRelaid
+  two-words r = refl
+
+  pub roads-length : (r : ℕ) → length (concat (roadRelaid to s) r) ≡ 2 * r
+  roads-length = concat-length (roadRelaid to s) (λ r. 2 * r) refl (λ r. omega (arith, two-words r))
+
 module _ (to : Bool) (s : List ℕ) (L : Layout) (inside : roadAt (isWide s) (L.roads) < length s) where
   abbrev head : List ℕ
   head = headFor 1 to (L.sizes.places) (L.sizes.signals) (L.sizes.samples)
@@ -27,19 +36,12 @@ module _ (to : Bool) (s : List ℕ) (L : Layout) (inside : roadAt (isWide s) (L.
   abbrev pub many : ℕ
   many = length s - 1 - roadAt (isWide s) (L.roads)
 
-  two-words : (r : ℕ) → length (roadRelaid to s r) ≡ 2
-  unfolding roadRelaid
-  two-words r = refl
-
-  pub roads-length : length roads ≡ 2 * L.roads
-  roads-length = concat-length (roadRelaid to s) (λ r. 2 * r) refl (λ r. omega (arith, two-words r)) (L.roads)
-
   pub unmoved-length : length (unmoved to s L) ≡ many
   unmoved-length = length-take-le many (drop (roadAt (isWide s) (L.roads)) s) (omega (arith, length-drop (roadAt (isWide s) (L.roads)) s))
 
   pub before-length : length (beforeEnd to s L) ≡ roadAt to (L.roads) + many
   before-length =
-      omega (arith, length-append head (roads ++ unmoved to s L), length-append roads (unmoved to s L), head-length 1 to (L.sizes.places) (L.sizes.signals) (L.sizes.samples), roads-length, unmoved-length)
+      omega (arith, length-append head (roads ++ unmoved to s L), length-append roads (unmoved to s L), head-length 1 to (L.sizes.places) (L.sizes.signals) (L.sizes.samples), roads-length to s (L.roads), unmoved-length)
 
   pub relaid-length : length (relaid to s L) ≡ roadAt to (L.roads) + many + 1
   unfolding relaid
@@ -65,8 +67,8 @@ module _ (to : Bool) (s : List ℕ) (L : Layout) (inside : roadAt (isWide s) (L.
   among-roads : (r j : ℕ) → r < L.roads → j < 2 → wordAt (relaid to s L) (headWords to + (2 * r + j)) ≡ getD (roadRelaid to s r) j 0
   among-roads r j h k =
       behind (2 * r + j) (omega arith)
-      ∙ List·getD-append roads (unmoved to s L) 0 (2 * r + j) (omega (arith, roads-length))
-      ∙ concat-at (roadRelaid to s) (λ q. 2 * q) refl (λ q. omega (arith, two-words q)) (L.roads) r j 0 h (omega (arith, two-words r))
+      ∙ List·getD-append roads (unmoved to s L) 0 (2 * r + j) (omega (arith, roads-length to s (L.roads)))
+      ∙ concat-at (roadRelaid to s) (λ q. 2 * q) refl (λ q. omega (arith, two-words to s q)) (L.roads) r j 0 h (omega (arith, two-words to s r))
 
   pub road-word : (r : ℕ) → r < L.roads
       → wordAt (relaid to s L) (roadAt to r) ≡ laidOut (isWide s) to (wordAt s (roadAt (isWide s) r))
@@ -85,7 +87,7 @@ module _ (to : Bool) (s : List ℕ) (L : Layout) (inside : roadAt (isWide s) (L.
   unmoved-word i h =
       let index : roadAt to (L.roads) + i ≡ headWords to + (2 * L.roads + i) = omega arith in
       ap (wordAt (relaid to s L)) index ∙ behind (2 * L.roads + i) (omega arith)
-      ∙ ap (λ k. getD (roads ++ unmoved to s L) (k + i) 0) (sym roads-length)
+      ∙ ap (λ k. getD (roads ++ unmoved to s L) (k + i) 0) (sym (roads-length to s (L.roads)))
       ∙ getD-append-add roads (unmoved to s L) i 0
       ∙ getD-take many (drop (roadAt (isWide s) (L.roads)) s) i 0 h
       ∙ getD-drop (roadAt (isWide s) (L.roads)) s i 0

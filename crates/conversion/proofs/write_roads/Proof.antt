@@ -11,12 +11,12 @@ use Rattle.words.specs.Bytes.{wordsOf}
 use Rattle.words.specs.Rows.{concat, put}
 use Rattle.words.proofs.Words.{words-count}
 use Rattle.words.proofs.Puts.{put-nil, put-snoc, length-put}
-use Rattle.words.proofs.Concat.{concat-length}
 use Rattle.checks.specs.Checked.{wordAt}
 use Rattle.checks.proofs.Heads.{few-head-words}
 use Rattle.checks.specs.Heads.{headWords, isWide}
 use Rattle.roads.specs.Roads.{roadAt, weightAt}
 use Rattle.conversion.specs.Relaid.{laidOut, roadRelaid}
+use Rattle.conversion.proofs.Words.{roads-length}
 use Rattle.conversion.proofs.write_roads.Statement.{statement}
 use Rattle.conversion.proofs.write_roads.Tie as tie
 
@@ -24,13 +24,6 @@ use Rattle.conversion.proofs.write_roads.Tie as tie
 module _ (w s : List ℕ) (to : Bool) where
   abbrev written : ℕ → List ℕ
   written r = concat (roadRelaid to s) r
-
-  two-words : (r : ℕ) → length (roadRelaid to s r) ≡ 2
-  unfolding roadRelaid
-  two-words r = refl
-
-  written-length : (r : ℕ) → length (written r) ≡ 2 * r
-  written-length r = concat-length (roadRelaid to s) (λ q. 2 * q) refl (λ q. omega (arith, two-words q)) r
 
   written-more : (r : ℕ) → written r ++ roadRelaid to s r ≡ written (r + 1)
   unfolding concat
@@ -41,11 +34,11 @@ module _ (w s : List ℕ) (to : Bool) where
   unfolding roadRelaid
   road-put r a b room first second =
       let v : List ℕ = written r in
-      let here : roadAt to r ≡ headWords to + length v = omega (arith, written-length r) in
-      let next : roadAt to r + 1 ≡ headWords to + length (v ++ (a ∷ [])) = omega (arith, written-length r, length-append v (a ∷ [])) in
+      let here : roadAt to r ≡ headWords to + length v = omega (arith, roads-length to s r) in
+      let next : roadAt to r + 1 ≡ headWords to + length (v ++ (a ∷ [])) = omega (arith, roads-length to s r, length-append v (a ∷ [])) in
       ap₂ (λ i j. set (set (put w (headWords to) v) i a) j b) here next
-      ∙ ap (λ x. set x (headWords to + length (v ++ (a ∷ []))) b) (put-snoc w (headWords to) v a (omega (arith, written-length r)))
-      ∙ put-snoc w (headWords to) (v ++ (a ∷ [])) b (omega (arith, written-length r, length-append v (a ∷ [])))
+      ∙ ap (λ x. set x (headWords to + length (v ++ (a ∷ []))) b) (put-snoc w (headWords to) v a (omega (arith, roads-length to s r)))
+      ∙ put-snoc w (headWords to) (v ++ (a ∷ [])) b (omega (arith, roads-length to s r, length-append v (a ∷ [])))
       ∙ ap (put w (headWords to)) (append-assoc v (a ∷ []) (b ∷ []) ∙ ap₂ (λ x y. v ++ (x ∷ y ∷ [])) first second ∙ written-more r)
 
 abbrev Inv-loop : tie.InvT-loop

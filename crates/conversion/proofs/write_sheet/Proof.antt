@@ -142,8 +142,8 @@ returns c =
     ∙ ap (λ v. set v (behind + (last - n)) (15 * 2 ^ 28 + (behind + (last - n)))) (copied ∙ ap₂ (λ v x. put v behind x) before words)
     ∙ four-parts w head roads (unmoved to s L) (15 * 2 ^ 28 + (behind + (last - n))) (headWords to) behind (behind + (last - n))
     (sym (head-length 1 to (layout .places) (layout .signals) (layout .samples)))
-    (omega (arith, at, head-length 1 to (layout .places) (layout .signals) (layout .samples), roads-length to s L inside))
-    (omega (arith, at, count, start .pre .begins, head-length 1 to (layout .places) (layout .signals) (layout .samples), roads-length to s L inside, unmoved-length to s L inside))
+    (omega (arith, at, head-length 1 to (layout .places) (layout .signals) (layout .samples), roads-length to s (layout .roads)))
+    (omega (arith, at, count, start .pre .begins, head-length 1 to (layout .places) (layout .signals) (layout .samples), roads-length to s (layout .roads), unmoved-length to s L inside))
     fits
     ∙ ap (λ k. put w 0 (beforeEnd to s L ++ ((15 * 2 ^ 28 + k) ∷ []))) end
 
