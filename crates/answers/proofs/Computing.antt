@@ -19,7 +19,7 @@ use Rattle.roads.specs.Roads.{roadChecked, roadsFrom}
 use Rattle.roads.specs.Roads.{joins, weightAmong, distanceTable}
 use Rattle.sheet.specs.Recording.{network, recording}
 use Rattle.values.specs.Said.{said}
-use Rattle.answers.specs.Answer.{lineIndex, wordsNeeded, wordFor, lineWords, answerHead, answerWords}
+use Rattle.answers.specs.Answer.{lineIndex, wordsNeeded, wordFor, lineWords, answerWords}
 use Rattle.answers.specs.Judged.{Judged, answered, judged}
 use Rattle.lookup.specs.Lookup.{lineStart, saidAt}
 

@@ -3,7 +3,6 @@
 use mathlib.Core.Path.{_≡_, refl}
 use mathlib.Core.List.{List, [], _∷_, _++_}
 use Prim.Native.Nat.{ℕ}
-use lib.ListN.{replicate}
 use Rattle.lookup.specs.Lookup.{wholePlaces, wholeHead, wholeLineAt, wholeEnd, wholeAnswer, lookedUp}
 use Rattle.answers.specs.Judged.{refusal, judged}
 use Rattle.answers.proofs.Computing.{answerOf}

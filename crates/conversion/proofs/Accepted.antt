@@ -1,5 +1,5 @@
 -- A valid sheet laid out anew is valid, has the layout that was asked for, and the check finds in it what it found before: the same sizes, roads and lines.
-use mathlib.Core.Path.{_≡_, refl, sym, ap, subst, _∙_}
+use mathlib.Core.Path.{_≡_, sym, ap, _∙_}
 use mathlib.Core.Bool.{Bool, true, false, _&&_}
 use mathlib.Core.List.{List, []}
 use Prim.Native.Nat.{ℕ, _+_, _-_, _*_, _<_, _≤_}
@@ -10,16 +10,15 @@ use lib.ListN.{length}
 use borrow.Author.Tests.{eq-eqb}
 use Rattle.words.specs.Word.{kindOf, payloadOf, wordOf}
 use Rattle.counting.proofs.Tests.{holds, and-i}
-use Rattle.checks.specs.Limits.{mostPlaces, mostLines, leastDistances}
+use Rattle.checks.specs.Limits.{mostLines, leastDistances}
 use Rattle.checks.specs.Checked.{accepted, wordAt, isKind}
-use Rattle.checks.specs.Heads.{headWords, mostOf, isWide}
+use Rattle.checks.specs.Heads.{mostOf, isWide}
 use Rattle.checks.proofs.Checks.{require-accepted}
 use Rattle.checks.proofs.Tests.{kind-told, kind-there, kind-other, equal}
 use Rattle.checks.proofs.Heads.{few-head-words}
 use Rattle.roads.specs.Roads.{roadAt, roadsFrom}
 use Rattle.lines.specs.Lines.{linesFrom}
 use Rattle.sheet.specs.Layout.{Layout, sampleCount, headChecked, samplesFrom, endChecked, checked}
-use Rattle.sheet.specs.Checking.{layoutOf}
 use Rattle.sheet.proofs.Whole.{AcceptedSheet, few-words}
 use Rattle.sheet.proofs.Samples.{sample-more}
 use Rattle.sheet.proofs.HeadWords.{head-layout, head-passes}

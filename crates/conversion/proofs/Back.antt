@@ -2,7 +2,7 @@
 use mathlib.Core.Path.{_≡_, refl, sym, ap, _∙_}
 use mathlib.Core.Bool.{Bool}
 use mathlib.Core.List.{List}
-use Prim.Native.Nat.{ℕ, _+_, _-_, _*_, _/_, _%_, _<_, _≤_, _^_, zero-le}
+use Prim.Native.Nat.{ℕ, _+_, _-_, _/_, _%_, _<_, _≤_, zero-le}
 use native.Mathlib.Omega.{arith}
 use native.Mathlib.Decide.{decLt}
 use lib.ListN.{length, List·getD-append}
@@ -11,8 +11,8 @@ use Rattle.words.specs.Word.{wordOf}
 use Rattle.checks.specs.Checked.{wordAt}
 use Rattle.checks.specs.Heads.{headWords, mostOf, isWide, headFor}
 use Rattle.checks.proofs.ReadBack.{head-length}
-use Rattle.roads.specs.Roads.{roadAt, weightAt, placeBits, firstPlace, secondPlace, spareBits}
-use Rattle.roads.proofs.AcceptedRoads.{Passed, each-road}
+use Rattle.roads.specs.Roads.{roadAt, weightAt, spareBits}
+use Rattle.roads.proofs.AcceptedRoads.{each-road}
 use Rattle.sheet.specs.Layout.{Layout}
 use Rattle.sheet.proofs.Whole.{AcceptedSheet}
 use Rattle.sheet.proofs.HeadWords.{head-words}

@@ -1,16 +1,14 @@
 -- A sheet laid out anew has the same network and the same recording.
-use mathlib.Core.Path.{_≡_, sym, ap, _∙_}
+use mathlib.Core.Path.{_≡_, sym, ap}
 use mathlib.Core.Bool.{Bool}
 use mathlib.Core.List.{List}
 use Prim.Native.Nat.{ℕ, _+_, _*_, _<_, _≤_}
 use native.Mathlib.Omega.{arith}
 use Rattle.words.specs.Word.{payloadOf, sampleOf}
 use Rattle.words.proofs.Rows.{in-table}
-use Rattle.checks.specs.Checked.{wordAt}
 use Rattle.checks.specs.Heads.{mostOf, isWide}
-use Rattle.roads.specs.Roads.{roadAt}
 use Rattle.roads.proofs.SameRoads.{SameRoad, networks-same}
-use Rattle.sheet.specs.Layout.{Layout, sampleCount}
+use Rattle.sheet.specs.Layout.{Layout}
 use Rattle.sheet.specs.Recording.{network, recording}
 use Rattle.sheet.proofs.Whole.{AcceptedSheet}
 use Rattle.answers.proofs.LineValues.{SamplesAgree}

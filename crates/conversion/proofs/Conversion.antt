@@ -12,7 +12,7 @@ use lib.Dec.{leb, le→leb}
 use borrow.Author.Tests.{leb-true}
 use Rattle.counting.proofs.Tests.{holds}
 use Rattle.checks.specs.Limits.{mostPlaces, mostNarrow, leastDistances}
-use Rattle.checks.specs.Checked.{accepted, require}
+use Rattle.checks.specs.Checked.{accepted}
 use Rattle.checks.specs.Heads.{mostOf, isWide}
 use Rattle.checks.proofs.Checks.{bind-accepted, require-accepted, same-accepted}
 use Rattle.sheet.specs.Layout.{Layout, checked, validated}

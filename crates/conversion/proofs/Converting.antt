@@ -1,15 +1,15 @@
 -- What the converter's code decides, step by step: what is known of a valid sheet, and what is left in each case.
-use mathlib.Core.Path.{_≡_, refl, sym, ap, subst, _∙_}
+use mathlib.Core.Path.{_≡_, refl, ap, subst, _∙_}
 use mathlib.Core.Bool.{Bool}
 use mathlib.Core.List.{List}
-use Prim.Native.Nat.{ℕ, _+_, _-_, _*_, _<_, _≤_, _^_}
+use Prim.Native.Nat.{ℕ, _-_, _*_, _<_, _≤_, _^_}
 use native.Mathlib.Omega.{arith}
 use lib.ListN.{length}
 use lib.Dec.{leb}
 use borrow.Author.Tests.{le-leb, lt-leb}
 use Rattle.words.specs.Bytes.{wordsOf}
 use Rattle.checks.specs.Limits.{mostPlaces}
-use Rattle.checks.specs.Checked.{Checked, accepted, refused, require, mapped}
+use Rattle.checks.specs.Checked.{accepted, refused, require, mapped}
 use Rattle.checks.specs.Heads.{mostOf, isWide, HeadFits}
 use Rattle.checks.proofs.Checks.{mapped-accepted, mapped-refused}
 use Rattle.roads.specs.Roads.{roadAt}
@@ -18,7 +18,7 @@ use Rattle.sheet.specs.Layout.{Layout, validated}
 use Rattle.sheet.specs.Checking.{layoutOf}
 use Rattle.sheet.proofs.Whole.{AcceptedSheet, accepted-sheet, few-words}
 use Rattle.sheet.proofs.HeadWords.{sizes-fit}
-use Rattle.tool.specs.Tool.{Left, refusal, whole, left}
+use Rattle.tool.specs.Tool.{refusal, whole, left}
 use Rattle.conversion.specs.Relaid.{relaid, converted}
 use Rattle.conversion.specs.Lent.{convertedIn, spelled, relaidIn, wordsIn, Ready}
 use Rattle.conversion.proofs.Words.{relaid-length}

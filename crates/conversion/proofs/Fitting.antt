@@ -19,7 +19,7 @@ use Rattle.sheet.proofs.Accepted.{SizesWithin}
 use Rattle.sheet.proofs.Whole.{AcceptedSheet, accepted-sheet, few-words}
 use Rattle.sheet.proofs.RefusalNumbers.{anyNumber, Numbered, refuses, check-numbered}
 use Rattle.conversion.specs.Relaid.{laidOut, roadRelaid, unmoved, beforeEnd, relaid, converted}
-use Rattle.conversion.proofs.Words.{many, before-length, relaid-length}
+use Rattle.conversion.proofs.Words.{before-length, relaid-length}
 use Rattle.conversion.proofs.Accepted.{inside}
 use Rattle.conversion.proofs.Conversion.{most, Made, made-told}
 

@@ -1,18 +1,17 @@
 -- Roads laid out anew pass the check as those that they were made of did, and as many.
-use mathlib.Core.Path.{_≡_, refl, sym, ap, ap₂, subst, _∙_}
-use mathlib.Core.Bool.{Bool, true, false, _&&_}
+use mathlib.Core.Path.{_≡_, refl, sym, ap, subst, _∙_}
+use mathlib.Core.Bool.{Bool, true, false}
 use mathlib.Core.List.{List}
 use Prim.Native.Nat.{ℕ, zero, suc, _+_, _<_, _≤_}
 use native.Mathlib.Omega.{arith}
-use lib.Dec.{T, eqb, ltb, ltb→lt, lt→ltb, eqb-refl}
+use lib.Dec.{T, eqb, ltb, ltb→lt, lt→ltb}
 use lib.ListN.{length}
 use Rattle.words.specs.Word.{kindOf, payloadOf}
 use Rattle.counting.proofs.Tests.{holds, and-i, and-l, and-r}
-use Rattle.checks.specs.Checked.{Checked, accepted, _>>=_, require, wordAt, isKind}
+use Rattle.checks.specs.Checked.{Checked, accepted, _>>=_, wordAt, isKind}
 use Rattle.checks.specs.Heads.{mostOf, isWide}
 use Rattle.checks.proofs.Checks.{same-accepted, bind-accepted}
-use Rattle.checks.proofs.Tests.{kind-told}
-use Rattle.roads.specs.Roads.{roadAt, weightAt, firstPlace, secondPlace, spareBits, placePair, roadChecked, roadsFrom}
+use Rattle.roads.specs.Roads.{roadAt, weightAt, placePair, roadChecked, roadsFrom}
 use Rattle.roads.proofs.AcceptedRoads.{Passed, road-passed, road-passes, roads-least}
 use Rattle.roads.proofs.Passing.{roads-end, road-more}
 use Rattle.conversion.specs.Relaid.{laidOut}

@@ -23,7 +23,7 @@ ghost use Rattle.words.specs.Rows.{concat, put};
 ghost use Rattle.checks.specs.Heads.{headWords, mostOf, isWide};
 ghost use Rattle.roads.specs.Roads.{roadAt};
 ghost use Rattle.conversion.specs.Relaid.{laidOut, roadRelaid};
-ghost use Rattle.conversion.specs.Lent.{convertedIn, relaidIn, wordsIn, Ready};
+ghost use Rattle.conversion.specs.Lent.{convertedIn, relaidIn, Ready};
 
 // More places than a narrow sheet can have.
 const TOO_MANY_PLACES: u64 = 18;

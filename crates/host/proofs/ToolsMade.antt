@@ -11,7 +11,7 @@ use Rattle.words.proofs.Below.{Below, below-padded}
 use Rattle.words.proofs.RoundTrips.{bytes-words, bytes-numbers}
 use Rattle.checks.specs.Checked.{Checked, accepted, refused}
 use Rattle.tool.specs.declared.Told.{Told}
-use Rattle.tool.specs.Tool.{toldNumbers, Left, whole, left}
+use Rattle.tool.specs.Tool.{toldNumbers, whole, left}
 use Rattle.tool.proofs.Whole.{Whole, whole-told}
 use Rattle.host.specs.Tools.{toolWhole, HostTool, leftInBytes, hostTool}
 use Rattle.host.proofs.LentTools.{tool-whole, tool-refused}

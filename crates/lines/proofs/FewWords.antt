@@ -1,12 +1,12 @@
 -- A line has at most three words, so a table has at most three for each line.
 use Prim.Native.Nat.{ℕ, zero, suc, _+_, _*_, _≤_}
 use mathlib.Core.Bool.{Bool, true, false, not}
-use mathlib.Core.List.{List, [], _∷_, _++_}
+use mathlib.Core.List.{List}
 use mathlib.Core.Path.{_≡_, refl, sym, ap, _∙_}
 use native.Mathlib.Omega.{arith}
 use lib.Dec.{ltb}
 use lib.ListN.{length}
-use Rattle.formulas.specs.Formulas.{Operator, Extent, Line}
+use Rattle.formulas.specs.Formulas.{Extent, Line}
 use Rattle.checks.specs.Checked.{Checked, accepted, refused, _>>=_, require, wordAt, isKind}
 use Rattle.checks.proofs.Checks.{never, same-accepted, require-accepted, bind-accepted}
 use Rattle.lines.specs.Codes.{Code, constant, atom, unary, binary, unaryBounded, binaryBounded, unknown, codeOf}

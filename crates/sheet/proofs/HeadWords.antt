@@ -1,15 +1,15 @@
 -- The words with which an accepted sheet begins are those that its sizes say, and with such words the head passes.
 use mathlib.Core.Path.{_≡_, refl, ap, _∙_}
 use mathlib.Core.Bool.{Bool, true, false, cond, _&&_}
-use mathlib.Core.List.{List, [], _∷_, _++_}
+use mathlib.Core.List.{List, _++_}
 use Prim.Native.Nat.{ℕ, zero, suc, _+_, _*_, _<_, _≤_, _^_}
 use native.Mathlib.Omega.{arith}
 use lib.Dec.{T, leb, le→leb, eqb}
 use borrow.Author.Tests.{eqb-true}
-use Rattle.words.specs.Word.{bits, kindOf, wordOf}
+use Rattle.words.specs.Word.{bits, kindOf}
 use Rattle.counting.proofs.Tests.{holds, and-i}
 use Rattle.checks.specs.Limits.{mostPlaces, mostNarrow, mostSignals, mostSamples, leastDistances}
-use Rattle.checks.specs.Checked.{accepted, require, between, wordAt, isKind}
+use Rattle.checks.specs.Checked.{accepted, between, wordAt, isKind}
 use Rattle.checks.specs.Heads.{headWords, mostOf, isWide, headOf, placesOf, wideCounted, wideFollowed, headFor, HeadFits}
 use Rattle.checks.proofs.Checks.{require-accepted}
 use Rattle.checks.proofs.Tests.{and-true, kind-told, in-limits}

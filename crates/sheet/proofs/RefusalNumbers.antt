@@ -17,7 +17,7 @@ use Rattle.checks.specs.Checked.{Checked, accepted, refused, _>>=_, require, be
 use Rattle.checks.proofs.Tests.{in-limits}
 use Rattle.lines.specs.Codes.{Code, constant, atom, unary, binary, unaryBounded, binaryBounded, unknown}
 use Rattle.lines.specs.Lines.{constantAt, boundsAt, operatorBy, operatorAt, lineAt, linesFrom}
-use Rattle.checks.specs.Heads.{isWide, placesOf, wideCounted, wideFollowed}
+use Rattle.checks.specs.Heads.{isWide, placesOf, wideCounted}
 use Rattle.sheet.specs.Layout.{Sizes, Layout, sampleCount, sizesOf, narrowChecked, wideChecked, headChecked, samplesFrom, endChecked, checked, validated}
 use Rattle.roads.specs.Roads.{roadAt, roadChecked, roadsFrom}
 

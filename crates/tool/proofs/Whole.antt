@@ -8,7 +8,7 @@ use lib.Dec.{leb}
 use lib.ListN.{length}
 use borrow.Author.Tests.{leb-true}
 use Rattle.checks.specs.Checked.{Checked, accepted, refused}
-use Rattle.tool.specs.Tool.{Left, refusal, whole, left}
+use Rattle.tool.specs.Tool.{refusal, whole, left}
 
 module _ (made : Checked (List ℕ)) (first room : ℕ) where
   pub record Whole : Type 0 where

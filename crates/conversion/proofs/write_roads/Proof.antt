@@ -2,7 +2,7 @@
 use mathlib.Core.Path.{_≡_, refl, sym, ap, ap₂, _∙_}
 use mathlib.Core.Bool.{Bool}
 use mathlib.Core.List.{List, [], _∷_, _++_, append-assoc}
-use Prim.Native.Nat.{ℕ, suc, _+_, _-_, _*_, _<_, _≤_, zero-le}
+use Prim.Native.Nat.{ℕ, _+_, _-_, _<_, _≤_, zero-le}
 use native.Mathlib.Numerals.{add-one}
 use native.Mathlib.Omega.{arith}
 use lib.ListN.{length, set, length-append}
@@ -10,7 +10,7 @@ use borrow.Author.Needs.{needs}
 use Rattle.words.specs.Bytes.{wordsOf}
 use Rattle.words.specs.Rows.{concat, put}
 use Rattle.words.proofs.Words.{words-count}
-use Rattle.words.proofs.Puts.{put-nil, put-snoc, length-put}
+use Rattle.words.proofs.Puts.{put-nil, put-snoc}
 use Rattle.checks.specs.Checked.{wordAt}
 use Rattle.checks.proofs.Heads.{few-head-words}
 use Rattle.checks.specs.Heads.{headWords, isWide}
