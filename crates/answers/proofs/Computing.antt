@@ -16,7 +16,7 @@ use Rattle.lines.specs.Lines.{constantAt, boundsAt, operatorAt, lineAt, linesFr
 use Rattle.checks.specs.Heads.{isWide, headOf, placesOf, wideCounted, wideFollowed, headFor}
 use Rattle.sheet.specs.Layout.{sizesOf, narrowChecked, wideChecked, headChecked, samplesFrom, endChecked, checked}
 use Rattle.roads.specs.Roads.{roadChecked, roadsFrom}
-use Rattle.roads.specs.Roads.{joins, weightAmong, distanceTable}
+use Rattle.roads.specs.Roads.{leads, weightAmong, distanceTable}
 use Rattle.sheet.specs.Recording.{network, recording}
 use Rattle.values.specs.Said.{said}
 use Rattle.answers.specs.Answer.{lineIndex, wordsNeeded, wordFor, lineWords, answerWords}
@@ -28,6 +28,6 @@ unfoldable pub answerOf : List ℕ → Judged
 unfolding leastOver greatestOver direct distance joined distanceIn within reached other greatestRegion boundary bounded allowed regionValue
     surround iterate masked except first atRest rounds leastSoFar untilSoFar untilAt somewhereAt surroundAt value valuesAfter valueAt mostBelow sumBelow
     runRounds surroundRounds roundsAt greatestRounds yesCount isKind codes constantAt boundsAt operatorAt lineAt linesFrom isWide headOf placesOf wideCounted wideFollowed sizesOf narrowChecked wideChecked headChecked roadChecked
-    roadsFrom samplesFrom endChecked checked joins weightAmong network recording distanceTable row concat lineIndex wordsNeeded wordFor
+    roadsFrom samplesFrom endChecked checked leads weightAmong network recording distanceTable row concat lineIndex wordsNeeded wordFor
     lineWords headFor answerWords answered judged said lineStart saidAt
 answerOf s = judged s 4096 64

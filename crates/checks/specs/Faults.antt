@@ -1,13 +1,13 @@
 -- The numbers of the refusals 1 to 14 ("Where a sheet is turned back") and 17 (M-104).
 use Prim.Native.Nat.{ℕ}
 use Rattle.checks.specs.declared.fault.Fault.{Fault}
-use Rattle.checks.specs.declared.fault.Fault.the-variants.{DistancesShort, NotHead, SizeOutOfLimits, RoadSpareBits, RoadPlaces, RoadOrder, RoadWeight, NotSample, SampleSpareBit, LineCount, LineFields, LineParameter, LineTooShort, NotEnd, WideHead}
+use Rattle.checks.specs.declared.fault.Fault.the-variants.{DistancesShort, NotHead, SizeOutOfLimits, RoadBits, RoadPlaces, RoadOrder, RoadWeight, NotSample, SampleSpareBit, LineCount, LineFields, LineParameter, LineTooShort, NotEnd, WideHead}
 
 abbrev pub faultNumber : Fault → ℕ
 faultNumber DistancesShort = 1
 faultNumber NotHead = 2
 faultNumber SizeOutOfLimits = 3
-faultNumber RoadSpareBits = 4
+faultNumber RoadBits = 4
 faultNumber RoadPlaces = 5
 faultNumber RoadOrder = 6
 faultNumber RoadWeight = 7

@@ -25,8 +25,8 @@ module _ (to : Bool) (s : List ℕ) (d : ℕ) (L : Layout) (sheet : AcceptedShee
   road-same r h =
       let says = road-says s d L sheet to few r h in
       record {
-        first = rw wide (sym (says .first));
-        second = rw wide (sym (says .second));
+        forth = rw wide (λ i. record { from = sym (says .first) i; to = sym (says .second) i; runs = sym (says .forth) i });
+        back = rw wide (λ i. record { from = sym (says .second) i; to = sym (says .first) i; runs = sym (says .back) i });
         weight = rw wide (ap payloadOf (sym (weight-word to s L (inside to s d L sheet few) r h)));
       }
 

@@ -1,11 +1,12 @@
--- The first word of a road laid out anew: it keeps its kind and its places, its spare bits are zero, and the order of two roads stays.
-use mathlib.Core.Path.{_≡_}
+-- The first word of a road laid out anew: it keeps its kind, which ways it runs and its places, its spare bits are zero, and the order of two roads stays.
+use mathlib.Core.Path.{_≡_, ap}
 use mathlib.Core.Bool.{Bool, true, false}
-use Prim.Native.Nat.{ℕ, _+_, _*_, _/_, _%_, _<_, _≤_, _^_}
+use Prim.Native.Nat.{ℕ, _+_, _*_, _/_, _<_, _≤_, _^_}
 use native.Mathlib.Omega.{arith}
-use Rattle.words.specs.Word.{kindOf}
+use lib.Dec.{eqb}
+use Rattle.words.specs.Word.{bits, kindOf}
 use Rattle.checks.specs.Heads.{mostOf}
-use Rattle.roads.specs.Roads.{placeBits, firstPlace, secondPlace, spareBits, placePair}
+use Rattle.roads.specs.Roads.{placeBits, firstPlace, secondPlace, spareBits, runsForth, runsBack, placePair}
 use Rattle.conversion.specs.Relaid.{laidOut}
 
 -- what the two say alike
@@ -15,27 +16,34 @@ pub record SaysSame (from to : Bool) (w v : ℕ) : Type 0 where
   pub spare : spareBits to v ≡ 0
   pub first : firstPlace to v ≡ firstPlace from w
   pub second : secondPlace to v ≡ secondPlace from w
+  pub forth : runsForth v ≡ runsForth w
+  pub back : runsBack v ≡ runsBack w
 
 -- of a word by its parts: what stands above the places, and these
-by-parts : (to : Bool) (k a b : ℕ) → a < b → b < mostOf to → k % 4 ≡ 0 →
+by-parts : (to : Bool) (k a b : ℕ) → a < b → b < mostOf to →
     let v : ℕ = k * 2 ^ 26 + a * 2 ^ placeBits to + b in
     (v / 2 ^ 26 ≡ k) × (spareBits to v ≡ 0) × (firstPlace to v ≡ a) × (secondPlace to v ≡ b)
-by-parts true k a b order inside no-more = (omega arith, omega arith, omega arith, omega arith)
-by-parts false k a b order inside no-more = (omega arith, omega arith, omega arith, omega arith)
+by-parts true k a b order inside = (omega arith, omega arith, omega arith, omega arith)
+by-parts false k a b order inside = (omega arith, omega arith, omega arith, omega arith)
 
-spare-above : (from : Bool) (w : ℕ) → spareBits from w ≡ 0 → w / 2 ^ 26 % 4 ≡ 0
-spare-above true w spare = omega arith
-spare-above false w spare = omega arith
+-- of a road that passed; which ways it runs is told above the places
+pub says-same : (from to : Bool) (w : ℕ) → firstPlace from w < secondPlace from w → secondPlace from w < mostOf to → SaysSame from to w (laidOut from to w)
+says-same from to w order inside =
+    let parts = by-parts to (w / 2 ^ 26) (firstPlace from w) (secondPlace from w) order inside in
+    let above : laidOut from to w / 2 ^ 26 ≡ w / 2 ^ 26 = parts .0 in
+    let only-back : bits 26 1 (laidOut from to w) ≡ bits 26 1 w = omega (arith, above) in
+    let only-forth : bits 27 1 (laidOut from to w) ≡ bits 27 1 w = omega (arith, above) in
+    record {
+      above = above;
+      kind = omega (arith, above);
+      spare = parts .1;
+      first = parts .2;
+      second = parts .3;
+      forth = ap (λ b. eqb b 0) only-back;
+      back = ap (λ b. eqb b 0) only-forth;
+    }
 
--- of a road that passed
-module _ (from to : Bool) (w : ℕ) (spare : spareBits from w ≡ 0) where
-  pub says-same : firstPlace from w < secondPlace from w → secondPlace from w < mostOf to → SaysSame from to w (laidOut from to w)
-  says-same order inside =
-      let parts = by-parts to (w / 2 ^ 26) (firstPlace from w) (secondPlace from w) order inside (spare-above from w spare) in
-      let above : laidOut from to w / 2 ^ 26 ≡ w / 2 ^ 26 = parts .0 in
-      record { above = above; kind = omega (arith, above); spare = parts .1; first = parts .2; second = parts .3 }
-
--- where nothing but its kind stands above its places it is the word itself
+-- without spare bits it is the word itself in its own layout
 pub laid-out-back : (wide : Bool) (w : ℕ) → spareBits wide w ≡ 0 → laidOut wide wide w ≡ w
 laid-out-back true w spare = omega arith
 laid-out-back false w spare = omega arith

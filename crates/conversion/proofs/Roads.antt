@@ -11,7 +11,7 @@ use Rattle.counting.proofs.Tests.{holds, and-i, and-l, and-r}
 use Rattle.checks.specs.Checked.{Checked, accepted, _>>=_, wordAt, isKind}
 use Rattle.checks.specs.Heads.{mostOf, isWide}
 use Rattle.checks.proofs.Checks.{same-accepted, bind-accepted}
-use Rattle.roads.specs.Roads.{roadAt, weightAt, placePair, roadChecked, roadsFrom}
+use Rattle.roads.specs.Roads.{roadAt, weightAt, spareBits, bitsFit, placePair, roadChecked, roadsFrom}
 use Rattle.roads.proofs.AcceptedRoads.{Passed, road-passed, road-passes, roads-least}
 use Rattle.roads.proofs.Passing.{roads-end, road-more}
 use Rattle.conversion.specs.Relaid.{laidOut}
@@ -21,6 +21,10 @@ use Rattle.conversion.proofs.Road.{SaysSame, says-same, SamePair, pair-
 kind-kept : (X Y : List ℕ) (k i j : ℕ) → kindOf (wordAt Y j) ≡ kindOf (wordAt X i) → j < length Y → T (isKind k X i) → T (isKind k Y j)
 unfolding isKind
 kind-kept X Y k i j e h t = and-i (ltb j (length Y)) (eqb (kindOf (wordAt Y j)) k) (lt→ltb j (length Y) h) (rw e (and-r (ltb i (length X)) _ t))
+
+-- the bits fit as well where they fitted
+fit-laid : (from to : Bool) (w v : ℕ) → SaysSame from to w v → T (bitsFit from w) → T (bitsFit to v)
+fit-laid from to w v same fit = and-i (eqb (spareBits to v) 0) _ (rw (same .spare) tt) (rw (same .forth, same .back) (and-r (eqb (spareBits from w) 0) _ fit))
 
 module _ (X Y : List ℕ) (n roads : ℕ) where
   abbrev from : Bool
@@ -46,14 +50,14 @@ module _ (X Y : List ℕ) (n roads : ℕ) where
     road-laid r last last′ pair h before passed =
         let w : ℕ = wordAt X (roadAt from r) in
         let v : ℕ = wordAt Y (roadAt to r) in
-        let same : SaysSame from to w v = subst (SaysSame from to w) (sym (laid .road r h)) (says-same from to w (passed .spare) (passed .order) (omega (arith, passed .inside, laid .few-laid))) in
+        let same : SaysSame from to w v = subst (SaysSame from to w) (sym (laid .road r h)) (says-same from to w (passed .order) (omega (arith, passed .inside, laid .few-laid))) in
         let pairs : SamePair n from to (placePair from w) (placePair to v) = pair-of n from to w v (passed .inside) same in
         let weighed : Bool = ltb 0 (payloadOf (wordAt X (weightAt from r))) in
         let later : last′ < placePair to v =
         order-same n from to (laid .few) (laid .few-laid) last (placePair from w) last′ (placePair to v) before pairs (ltb→lt _ _ (passed .later)) in (
           placePair to v,
           road-passes Y n (roadAt to r) last′ (placePair to v) (record {
-            spare = same .spare;
+            fit = fit-laid from to w v same (passed .fit);
             order = rw (same .first, same .second) (passed .order);
             inside = rw (same .second) (passed .inside);
             later = lt→ltb _ _ later;
@@ -69,7 +73,7 @@ module _ (X Y : List ℕ) (n roads : ℕ) where
     kind-laid : (r last pair : ℕ) → r < roads → T (isKind 2 X (roadAt from r)) → Passed X n (roadAt from r) last pair → isKind 2 Y (roadAt to r) ≡ true
     kind-laid r last pair h is passed =
         let w : ℕ = wordAt X (roadAt from r) in
-        let same : SaysSame from to w (laidOut from to w) = says-same from to w (passed .spare) (passed .order) (omega (arith, passed .inside, laid .few-laid)) in
+        let same : SaysSame from to w (laidOut from to w) = says-same from to w (passed .order) (omega (arith, passed .inside, laid .few-laid)) in
         holds (isKind 2 Y (roadAt to r)) (kind-kept X Y 2 (roadAt from r) (roadAt to r) (ap kindOf (laid .road r h) ∙ same .kind) (omega (arith, laid .there)) is)
 
     no-more : (r words′ last′ : ℕ) → r ≡ roads → roadsFrom Y n words′ r last′ ≡ accepted roads

@@ -15,14 +15,15 @@ use Rattle.network.specs.Distance.{Distance, dist}
 use Rattle.network.specs.Network.{isRoad}
 use Rattle.logic.proofs.Keeps.{same-kept, least-kept}
 use Rattle.counting.proofs.Tests.{below, and-i, and-l, and-r, or-l, or-r, or-e}
-use Rattle.roads.specs.Roads.{firstOf, secondOf, weightOf, joins, weightAmong}
+use Rattle.roads.specs.declared.road.Way.{Way}
+use Rattle.roads.specs.Roads.{leadsBy, firstOf, secondOf, forthOf, backOf, weightOf, leads, weightAmong}
 use Rattle.values.specs.Chain.{chainLattice, highest}
 use Rattle.values.proofs.Naturals.{meet-min}
 use Rattle.lanes.specs.Lanes.{lanes, rowCount, Numbers, rowIn}
 use Rattle.lanes.specs.Rows.{KeptBelow}
 use Rattle.lanes.proofs.RowLaws.{kept-below-trans, kept-below-lower}
 use Rattle.iteration.specs.WorkRows.{ringRow, xRow, oldRow, bothRow, Worked, KeptBut}
-use Rattle.iteration.specs.Steps.{joinedBy, RoadsIn, Bounded, Joined, RoadPulled, LeastOf, Stepped, Round}
+use Rattle.iteration.specs.Steps.{joinedBy, RoadsIn, Bounded, Joined, Pulled, LeastOf, Stepped, Round}
 use Rattle.iteration.proofs.Outside.{row-same, but-below, stepped-low}
 
 -- ---- leastOver on chain numbers
@@ -73,96 +74,73 @@ least-more y x b t u f to new from w = rw meet-min (record {
   greatest = λ z a h. let k = w .greatest z a (λ p t. h p (to p t)) in omega (arith, h b new);
 })
 
--- ---- one more road
-module _ (sheet : List ℕ) (r a b : ℕ) where
-  joined-more : joinedBy sheet (suc r) a b ≡ (joins sheet r a b || joinedBy sheet r a b)
+-- ---- one more way, and one more road
+leads-ends : (way : Way) (a b : ℕ) → T (leadsBy way a b) → T (way .runs) × (way .from ≡ a) × (way .to ≡ b)
+leads-ends way a b h =
+    let ends = and-r (way .runs) _ h in
+    (and-l (way .runs) _ h, eqb→eq (way .from) a (and-l (eqb (way .from) a) _ ends), eqb→eq (way .to) b (and-r (eqb (way .from) a) _ ends))
+
+-- what is taken over along a way is the least over the place to which it leads as well
+module _ (way : Way) (joined : ℕ → ℕ → Bool) (both x x′ : Numbers) where
+  abbrev more : ℕ → ℕ → Bool
+  more a b = leadsBy way a b || joined a b
+
+  at-start : T (way .runs) → T (leadsBy way (way .from) (way .to))
+  at-start h = and-i (way .runs) _ h (and-i (eqb (way .from) (way .from)) _ (eqb-refl (way .from)) (eqb-refl (way .to)))
+
+  way-more : (x₀ : Numbers) → Pulled way both x x′ → Stepped joined both x₀ x → Stepped more both x₀ x′
+  way-more x₀ w s = record { least = λ q lane l. at q lane l (ℕ-discrete q (way .from)) }
+    where
+      before : (q p : ℕ) → T (joined q p) → T (more q p)
+      before q p = or-r (leadsBy way q p) (joined q p)
+
+      -- nothing is added where no way leads
+      same : (q lane : ℕ) → lane < lanes → ((p : ℕ) → T (leadsBy way q p) → ⊥) → LeastOf (x lane q) (x₀ lane q) (more q) (both lane)
+      same q lane l none = least-same (x lane q) (x₀ lane q) (joined q) (more q) (both lane) (before q)
+          (λ p h. ⊎-elim (λ k. absurd (none p k)) (λ k. k) (or-e (leadsBy way q p) _ h)) (s .least q lane l)
+
+      from-start : (lane : ℕ) → lane < lanes → (t : Bool) → way .runs ≡ t
+          → LeastOf (cond t (chainLattice .meet (x lane (way .from)) (both lane (way .to))) (x lane (way .from))) (x₀ lane (way .from)) (more (way .from)) (both lane)
+      from-start lane l true e = least-more (x lane (way .from)) (x₀ lane (way .from)) (way .to) (joined (way .from)) (more (way .from)) (both lane)
+          (before (way .from)) (or-l (leadsBy way (way .from) (way .to)) _ (at-start (rw e tt)))
+          (λ p h. ⊎-elim (λ k. inl (sym (leads-ends way (way .from) p k .2))) inr (or-e (leadsBy way (way .from) p) _ h)) (s .least (way .from) lane l)
+      from-start lane l false e = same (way .from) lane l (λ p k. rw e at (leads-ends way (way .from) p k .0))
+
+      at : (q lane : ℕ) → lane < lanes → Dec (q ≡ way .from) → LeastOf (x′ lane q) (x₀ lane q) (more q) (both lane)
+      at q lane l (yes e) = rw (e, w .taken lane l) (from-start lane l (way .runs) refl)
+      at q lane l (no u) = rw (w .other q lane l u) (same q lane l (λ p k. u (sym (leads-ends way q p k .1))))
+
+module _ (sheet : List ℕ) (r : ℕ) where
+  joined-more : (a b : ℕ) → joinedBy sheet (suc r) a b ≡ (leads sheet r a b || joinedBy sheet r a b)
   unfolding joinedBy weightAmong
-  joined-more = go (joins sheet r a b)
+  joined-more a b = go (leads sheet r a b)
     where
       go : (t : Bool) → isRoad (elim t as (λ _. Distance) [ true ↦ dist (weightOf sheet r) | false ↦ weightAmong sheet r a b ]) ≡ (t || isRoad (weightAmong sheet r a b))
       go true = refl
       go false = refl
 
-  joined-now : T (joins sheet r a b) → T (joinedBy sheet (suc r) a b)
-  joined-now h = rw joined-more (or-l (joins sheet r a b) _ h)
+  -- forth first, then back
+  both-ways : (a b : ℕ) → (leadsBy (backOf sheet r) a b || (leadsBy (forthOf sheet r) a b || joinedBy sheet r a b)) ≡ joinedBy sheet (suc r) a b
+  unfolding leads
+  both-ways a b = swapped (leadsBy (forthOf sheet r) a b) (leadsBy (backOf sheet r) a b) (joinedBy sheet r a b) ∙ sym (joined-more a b)
+    where
+      swapped : (t u v : Bool) → (u || (t || v)) ≡ ((t || u) || v)
+      swapped true true v = refl
+      swapped true false v = refl
+      swapped false u v = refl
 
-  joined-before : T (joinedBy sheet r a b) → T (joinedBy sheet (suc r) a b)
-  joined-before h = rw joined-more (or-r (joins sheet r a b) _ h)
-
-  joined-either : T (joinedBy sheet (suc r) a b) → T (joins sheet r a b) ⊎ T (joinedBy sheet r a b)
-  joined-either h = or-e (joins sheet r a b) _ (rw joined-more at h)
-
-  abbrev first : ℕ
-  first = firstOf sheet r
-
-  abbrev second : ℕ
-  second = secondOf sheet r
-
-  joins-e : T (joins sheet r a b) → ((first ≡ a) × (second ≡ b)) ⊎ ((first ≡ b) × (second ≡ a))
-  unfolding joins
-  joins-e h = ⊎-elim
-      (λ k. inl (eqb→eq first a (and-l (eqb first a) _ k), eqb→eq second b (and-r (eqb first a) _ k)))
-      (λ k. inr (eqb→eq first b (and-l (eqb first b) _ k), eqb→eq second a (and-r (eqb first b) _ k)))
-      (or-e (eqb first a && eqb second b) _ h)
-
-module _ (sheet : List ℕ) (r : ℕ) (both x x′ : Numbers) where
-  abbrev a : ℕ
-  a = firstOf sheet r
-
-  abbrev b : ℕ
-  b = secondOf sheet r
-
-  there : T (joins sheet r a b)
-  unfolding joins
-  there = or-l (eqb a a && eqb b b) _ (and-i (eqb a a) _ (eqb-refl a) (eqb-refl b))
-
-  back : T (joins sheet r b a)
-  unfolding joins
-  back = or-r (eqb a b && eqb b a) _ (and-i (eqb a a) _ (eqb-refl a) (eqb-refl b))
-
-  -- what joins the place that pulls was joined before, or is the other end
-  module _ (order : a < b) where
-    from-first : (p : ℕ) → T (joinedBy sheet (suc r) a p) → (p ≡ b) ⊎ T (joinedBy sheet r a p)
-    from-first p h = ⊎-elim
-        (λ k. ⊎-elim (λ e. inl (sym (e .1))) (λ e. absurd (let f = e .1 in omega arith)) (joins-e sheet r a p k))
-        inr
-        (joined-either sheet r a p h)
-
-    from-second : (p : ℕ) → T (joinedBy sheet (suc r) b p) → (p ≡ a) ⊎ T (joinedBy sheet r b p)
-    from-second p h = ⊎-elim
-        (λ k. ⊎-elim (λ e. absurd (let f = e .0 in omega arith)) (λ e. inl (sym (e .0))) (joins-e sheet r b p k))
-        inr
-        (joined-either sheet r b p h)
-
-    from-other : (q p : ℕ) → (q ≡ a → ⊥) → (q ≡ b → ⊥) → T (joinedBy sheet (suc r) q p) → T (joinedBy sheet r q p)
-    from-other q p u v h = ⊎-elim
-        (λ k. ⊎-elim (λ e. absurd (u (sym (e .0)))) (λ e. absurd (v (sym (e .1)))) (joins-e sheet r q p k))
-        (λ k. k)
-        (joined-either sheet r q p h)
-
-    pub road-more : (x₀ : Numbers) → RoadPulled a b both x x′ → Stepped sheet r both x₀ x → Stepped sheet (r + 1) both x₀ x′
-    road-more x₀ w s = rw add-one (record { least = λ q lane l. at q lane l (ℕ-discrete q a) (ℕ-discrete q b) })
-      where
-        at : (q lane : ℕ) → lane < lanes → Dec (q ≡ a) → Dec (q ≡ b) → LeastOf (x′ lane q) (x₀ lane q) (joinedBy sheet (suc r) q) (both lane)
-        at q lane l (yes e) v =
-            rw (e, w .first lane l)
-            (least-more (x lane a) (x₀ lane a) b (joinedBy sheet r a) (joinedBy sheet (suc r) a) (both lane)
-            (joined-before sheet r a) (joined-now sheet r a b there) from-first (s .least a lane l))
-        at q lane l (no u) (yes e) =
-            rw (e, w .second lane l)
-            (least-more (x lane b) (x₀ lane b) a (joinedBy sheet r b) (joinedBy sheet (suc r) b) (both lane)
-            (joined-before sheet r b) (joined-now sheet r b a back) from-second (s .least b lane l))
-        at q lane l (no u) (no v) =
-            rw (w .other q lane l u v)
-            (least-same (x lane q) (x₀ lane q) (joinedBy sheet r q) (joinedBy sheet (suc r) q) (both lane)
-            (joined-before sheet r q) (λ p h. from-other q p u v h) (s .least q lane l))
+  pub road-more : {both x₀ x y z : Numbers} → Pulled (forthOf sheet r) both x y → Pulled (backOf sheet r) both y z
+      → Stepped (joinedBy sheet r) both x₀ x → Stepped (joinedBy sheet (r + 1)) both x₀ z
+  road-more {both} {x₀} {x} {y} {z} forth back s = rw add-one (
+      subst (λ (joined : ℕ → ℕ → Bool). Stepped joined both x₀ z) (λ i a b. both-ways a b i)
+      (way-more (backOf sheet r) _ both y z x₀ back (way-more (forthOf sheet r) (joinedBy sheet r) both x y x₀ forth s)))
 
 -- ---- no road, and all roads
 not-joined : (sheet : List ℕ) (a b : ℕ) → T (joinedBy sheet 0 a b) → ⊥
 unfolding joinedBy weightAmong
 not-joined sheet a b h = h
 
-pub stepped-none : (sheet : List ℕ) (both x : Numbers) → Stepped sheet 0 both x x
+pub stepped-none : (sheet : List ℕ) (both x : Numbers) → Stepped (joinedBy sheet 0) both x x
 stepped-none sheet both x = record {
   least = λ q lane l. record {
     below = omega arith;
@@ -173,15 +151,24 @@ stepped-none sheet both x = record {
 
 joined-inside : (sheet : List ℕ) (roads n : ℕ) → RoadsIn sheet roads n → (r : ℕ) → r ≤ roads → (q p : ℕ) → T (joinedBy sheet r q p) → (q < n) × (p < n)
 joined-inside sheet roads n i zero l q p h = absurd (not-joined sheet q p h)
-joined-inside sheet roads n i (suc r) l q p h = ⊎-elim
-    (λ k. let o = i .order r l in let b = i .inside r l in ⊎-elim (λ e. (omega (arith, e .0), omega (arith, e .1))) (λ e. (omega (arith, e .1), omega (arith, e .0))) (joins-e sheet r q p k))
-    (λ k. joined-inside sheet roads n i r (omega arith) q p k)
-    (joined-either sheet r q p h)
+joined-inside sheet roads n i (suc r) l q p h =
+    ⊎-elim (λ k. ends (backOf sheet r) (second-inside, first-inside) k)
+    (λ k. ⊎-elim (λ k. ends (forthOf sheet r) (first-inside, second-inside) k) (joined-inside sheet roads n i r (omega arith) q p) (or-e (leadsBy (forthOf sheet r) q p) _ k))
+    (or-e (leadsBy (backOf sheet r) q p) _ (rw (← both-ways sheet r q p) at h))
+  where
+    second-inside : secondOf sheet r < n
+    second-inside = i .inside r l
+
+    first-inside : firstOf sheet r < n
+    first-inside = omega (arith, i .order r l, i .inside r l)
+
+    ends : (way : Way) → (way .from < n) × (way .to < n) → T (leadsBy way q p) → (q < n) × (p < n)
+    ends way b k = let e = leads-ends way q p k in (rw (← e .1) (b .0), rw (← e .2) (b .1))
 
 -- ---- a round, in which x is joined and then steps
 module _ {sheet : List ℕ} {roads : ℕ} {inside : List Bool} {before middle after : List ℕ} (i : RoadsIn sheet roads (length inside)) (b : Bounded (rowIn before xRow) (length inside))
     (j : Joined (rowIn before xRow) (rowIn before ringRow) (rowIn middle oldRow) (rowIn middle bothRow) (length inside)) (w : Worked oldRow inside before middle)
-    (s : Stepped sheet roads (rowIn middle bothRow) (rowIn middle xRow) (rowIn after xRow)) (k : KeptBut xRow middle after) where
+    (s : Stepped (joinedBy sheet roads) (rowIn middle bothRow) (rowIn middle xRow) (rowIn after xRow)) (k : KeptBut xRow middle after) where
   from-before : (place lane : ℕ) → lane < lanes → LeastOf (rowIn after xRow lane place) (rowIn before xRow lane place) (joinedBy sheet roads place) (rowIn middle bothRow lane)
   from-before place lane l = subst (λ (v : ℕ). LeastOf (rowIn after xRow lane place) v (joinedBy sheet roads place) (rowIn middle bothRow lane)) (w .kept .kept xRow place lane (omega arith) l) (s .least place lane l)
 

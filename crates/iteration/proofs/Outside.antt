@@ -1,13 +1,14 @@
 -- Places outside a ball: the rows to work in are lowest there and stay so, so that a round, and a comparison of rows, is the same whether or not it touches
 -- them.
 use mathlib.Core.Path.{_≡_, refl, sym, ap, ap₂, _∙_}
-use mathlib.Core.Bool.{Bool, true, false, _||_, false≢true}
+use mathlib.Core.Bool.{Bool, true, false, cond, _&&_, false≢true}
 use mathlib.Core.List.{List}
 use Prim.Native.Nat.{ℕ, _+_, _<_, _≤_}
 use native.Mathlib.Decide.{ℕ-discrete}
 use native.Mathlib.Omega.{arith}
 use borrow.Author.Count.{below-more}
 use lib.ListN.{length}
+use Rattle.roads.specs.declared.road.Way.{Way}
 use Rattle.values.specs.Chain.{chainLattice}
 use Rattle.values.proofs.Naturals.{meet-min}
 use Rattle.lanes.specs.Lanes.{lanes, rowCount, laneOf, stripOf, Numbers, rowIn}
@@ -15,7 +16,7 @@ use Rattle.lanes.specs.Strips.{Written, StripsApart}
 use Rattle.lanes.specs.Rows.{KeptBelow, flagged}
 use Rattle.lanes.proofs.RowLaws.{strip-written, strip-kept, kept-below-refl, kept-below-trans, kept-below-strip, kept-past-refl, kept-past-trans, kept-past-strip}
 use Rattle.iteration.specs.WorkRows.{ringRow, xRow, oldRow, bothRow, LowOutside, Worked, KeptBut}
-use Rattle.iteration.specs.Steps.{Joined, RoadPulled, Stepped, RowsApart}
+use Rattle.iteration.specs.Steps.{Joined, Pulled, Stepped, RowsApart}
 
 -- what is lowest stays lowest: the lesser of it and another number
 pub meet-low : (a b : ℕ) → a ≡ 0 → chainLattice .meet a b ≡ 0
@@ -61,53 +62,55 @@ module _ {inside : List Bool} where
           ap (λ (r : ℕ). rowIn after r lane p) same ∙ omega (arith, fallen p lane l)
       at row p lane d l (no other) low = k .kept row p lane d l other ∙ low
 
-  pub stepped-low : {roads : ℕ} {sheet before after : List ℕ} {both : Numbers} → Stepped sheet roads both (rowIn before xRow) (rowIn after xRow) → KeptBut xRow before after
+  pub stepped-low : {joined : ℕ → ℕ → Bool} {before after : List ℕ} {both : Numbers} → Stepped joined both (rowIn before xRow) (rowIn after xRow) → KeptBut xRow before after
       → LowOutside inside before → LowOutside inside after
   stepped-low s k o = low-fallen k (λ p lane l. s .least p lane l .below) o
 
--- ---- a road
+-- ---- a pull along a way
 
--- two pulls along it
-module _ (a b : ℕ) {x y z : List ℕ} (v : Written (stripOf xRow a) lanes (λ lane. chainLattice .meet (laneOf x lane (stripOf xRow a)) (laneOf x lane (stripOf bothRow b))) x y)
-    (w : Written (stripOf xRow b) lanes (λ lane. chainLattice .meet (laneOf y lane (stripOf xRow b)) (laneOf y lane (stripOf bothRow a))) y z) where
-  pub road-pulled : (a ≡ b → ⊥) → RoadPulled a b (rowIn x bothRow) (rowIn x xRow) (rowIn z xRow)
+-- where the road runs so
+module _ (way : Way) {x y : List ℕ}
+    (w : Written (stripOf xRow (way .from)) lanes (λ lane. chainLattice .meet (laneOf x lane (stripOf xRow (way .from))) (laneOf x lane (stripOf bothRow (way .to)))) x y) where
+  pub taken-over : way .runs ≡ true → Pulled way (rowIn x bothRow) (rowIn x xRow) (rowIn y xRow)
   unfolding rowIn
-  road-pulled ne = record {
-    first = λ lane l. strip-kept xRow b w (omega arith) xRow a lane (omega arith) l (λ _ e. ne e) ∙ strip-written xRow a v lane l;
-    second = λ lane l. strip-written xRow b w lane l ∙ ap₂ (chainLattice .meet)
-        (strip-kept xRow a v (omega arith) xRow b lane (omega arith) l (λ _ e. ne (sym e)))
-        (strip-kept xRow a v (omega arith) bothRow a lane (omega arith) l (λ e _. absurd (omega arith)));
-    other = λ p lane l u t. strip-kept xRow b w (omega arith) xRow p lane (omega arith) l (λ _ e. t e) ∙ strip-kept xRow a v (omega arith) xRow p lane (omega arith) l (λ _ e. u e);
+  taken-over runs = record {
+    taken = λ lane l. rw runs (strip-written xRow (way .from) w lane l);
+    other = λ p lane l u. strip-kept xRow (way .from) w (omega arith) xRow p lane (omega arith) l (λ _ e. u e);
   }
 
-  pub pulled-kept : length y ≡ length x → length z ≡ length y → KeptBut xRow x z
-  pulled-kept long again = record {
-    kept = λ row p lane c l other. strip-kept xRow b w (omega arith) row p lane c l (λ e _. other e) ∙ strip-kept xRow a v (omega arith) row p lane c l (λ e _. other e);
-    long = again ∙ long;
-  }
+  pub pulled-kept : length y ≡ length x → KeptBut xRow x y
+  pulled-kept long = record { kept = λ row p lane c l other. strip-kept xRow (way .from) w (omega arith) row p lane c l (λ e _. other e); long = long }
 
 -- what is handed over has not changed
-pub pulled-as : {a b : ℕ} {before rows : List ℕ} {x y : Numbers} → KeptBut xRow before rows → RoadPulled a b (rowIn rows bothRow) x y → RoadPulled a b (rowIn before bothRow) x y
-pulled-as {a} {b} {x = x} k p = record {
-  first = λ lane l. p .first lane l ∙ ap (chainLattice .meet (x lane a)) (k .kept bothRow b lane (omega arith) l (λ e. absurd (omega arith)));
-  second = λ lane l. p .second lane l ∙ ap (chainLattice .meet (x lane b)) (k .kept bothRow a lane (omega arith) l (λ e. absurd (omega arith)));
+pub pulled-as : {way : Way} {before rows : List ℕ} {x y : Numbers} → KeptBut xRow before rows → Pulled way (rowIn rows bothRow) x y → Pulled way (rowIn before bothRow) x y
+pulled-as {way} {x = x} k p = record {
+  taken = λ lane l. p .taken lane l
+      ∙ ap (λ (v : ℕ). cond (way .runs) (chainLattice .meet (x lane (way .from)) v) (x lane (way .from))) (k .kept bothRow (way .to) lane (omega arith) l (λ e. absurd (omega arith)));
   other = p .other;
 }
 
--- one with both ends outside brings nothing
-pub road-outside : (a b : ℕ) {inside : List Bool} {rows : List ℕ} → LowOutside inside rows → a < length inside → b < length inside → (flagged inside a || flagged inside b) ≡ false
-    → RoadPulled a b (rowIn rows bothRow) (rowIn rows xRow) (rowIn rows xRow)
-road-outside a b {inside} o i j e =
-    let (out, away) = neither (flagged inside a) (flagged inside b) e in
-    record {
-      first = λ lane l. let low = o .low xRow a lane (omega arith) (omega arith) i l out in low ∙ sym (meet-low _ _ low);
-      second = λ lane l. let low = o .low xRow b lane (omega arith) (omega arith) j l away in low ∙ sym (meet-low _ _ low);
-      other = λ _ _ _ _ _. refl;
-    }
+-- numbers only fall by it, so what is lowest outside stays so
+cond-lower : (t : Bool) (a b : ℕ) → cond t (chainLattice .meet a b) a ≤ a
+cond-lower true a b = rw meet-min (omega arith)
+cond-lower false a b = omega arith
+
+pub pulled-low : {inside : List Bool} {way : Way} {both : Numbers} {before after : List ℕ} → Pulled way both (rowIn before xRow) (rowIn after xRow) → KeptBut xRow before after
+    → LowOutside inside before → LowOutside inside after
+pulled-low {way = way} {both} {before} {after} p k = low-fallen k (λ q lane l. fallen q lane l (ℕ-discrete q (way .from)))
   where
-    neither : (t u : Bool) → (t || u) ≡ false → (t ≡ false) × (u ≡ false)
-    neither true u h = absurd (false≢true (sym h))
-    neither false u h = (refl, h)
+    fallen : (q lane : ℕ) → lane < lanes → Dec (q ≡ way .from) → rowIn after xRow lane q ≤ rowIn before xRow lane q
+    fallen q lane l (yes e) = rw (e, p .taken lane l) (cond-lower (way .runs) (rowIn before xRow lane (way .from)) (both lane (way .to)))
+    fallen q lane l (no u) = omega (arith, p .other q lane l u)
+
+-- where it does not, or the place lies outside, nothing is taken over
+pub not-pulled : (way : Way) {inside : List Bool} {rows : List ℕ} → LowOutside inside rows → way .from < length inside → (way .runs && flagged inside (way .from)) ≡ false
+    → Pulled way (rowIn rows bothRow) (rowIn rows xRow) (rowIn rows xRow)
+not-pulled way {inside} {rows} o i e = record { taken = λ lane l. go lane l (way .runs) e; other = λ _ _ _ _. refl }
+  where
+    go : (lane : ℕ) → lane < lanes → (t : Bool) → (t && flagged inside (way .from)) ≡ false
+        → rowIn rows xRow lane (way .from) ≡ cond t (chainLattice .meet (rowIn rows xRow lane (way .from)) (rowIn rows bothRow lane (way .to))) (rowIn rows xRow lane (way .from))
+    go lane l true out = let low = o .low xRow (way .from) lane (omega arith) (omega arith) i l out in low ∙ sym (meet-low _ _ low)
+    go lane l false out = refl
 
 -- ---- comparing, strip after strip
 module _ (h : ℕ → ℕ) (a b : Numbers) where

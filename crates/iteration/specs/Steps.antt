@@ -1,7 +1,7 @@
 -- What a round does to numbers by lane and place: `both` holds what each place hands to its neighbours, and a pull takes it over where it is less. These are
 -- for contracts inside the engine: no promise to a host speaks of them.
 use mathlib.Core.Path.{_≡_}
-use mathlib.Core.Bool.{Bool, true, false}
+use mathlib.Core.Bool.{Bool, true, false, cond}
 use mathlib.Core.List.{List}
 use Prim.Native.Nat.{ℕ, suc, _<_, _≤_}
 use lib.Dec.{T}
@@ -12,6 +12,7 @@ use Rattle.logic.specs.Iteration.{iterate, rounds}
 use Rattle.counting.specs.Totals.{mostBelow}
 use Rattle.checks.specs.Limits.{mostPlaces}
 use Rattle.checks.specs.Heads.{isWide}
+use Rattle.roads.specs.declared.road.Way.{Way}
 use Rattle.roads.specs.Roads.{roadAt, firstOf, secondOf, weightAmong}
 use Rattle.values.specs.Chain.{chainLattice, chainMargin, highest, Valid}
 use Rattle.lanes.specs.Lanes.{lanes, Numbers, rowIn}
@@ -48,11 +49,11 @@ pub record Joined (x right old both : Numbers) (n : ℕ) : Type 0 where
   pub former : (place lane : ℕ) → place < n → lane < lanes → old lane place ≡ x lane place
   pub handed : (place lane : ℕ) → place < n → lane < lanes → both lane place ≡ chainLattice .join (x lane place) (right lane place)
 
--- each of two places takes over from the other
-pub record RoadPulled (a b : ℕ) (both before after : Numbers) : Type 0 where
-  pub first : (lane : ℕ) → lane < lanes → after lane a ≡ chainLattice .meet (before lane a) (both lane b)
-  pub second : (lane : ℕ) → lane < lanes → after lane b ≡ chainLattice .meet (before lane b) (both lane a)
-  pub other : (place lane : ℕ) → lane < lanes → (place ≡ a → ⊥) → (place ≡ b → ⊥) → after lane place ≡ before lane place
+-- the place from which a way leads has taken over from the one to which it leads, if the road runs so
+pub record Pulled (way : Way) (both before after : Numbers) : Type 0 where
+  pub taken : (lane : ℕ) → lane < lanes → after lane (way .from)
+      ≡ cond (way .runs) (chainLattice .meet (before lane (way .from)) (both lane (way .to))) (before lane (way .from))
+  pub other : (place lane : ℕ) → lane < lanes → (place ≡ way .from → ⊥) → after lane place ≡ before lane place
 
 -- y is the least of x and of f where the test passes
 pub record LeastOf (y x : ℕ) (test : ℕ → Bool) (f : ℕ → ℕ) : Type 0 where
@@ -60,9 +61,9 @@ pub record LeastOf (y x : ℕ) (test : ℕ → Bool) (f : ℕ → ℕ) : Type 0 
   pub under : (p : ℕ) → T (test p) → y ≤ f p
   pub greatest : (z : ℕ) → z ≤ x → ((p : ℕ) → T (test p) → z ≤ f p) → z ≤ y
 
--- each place has taken over along the first roads
-pub record Stepped (sheet : List ℕ) (roads : ℕ) (both before after : Numbers) : Type 0 where
-  pub least : (place lane : ℕ) → lane < lanes → LeastOf (after lane place) (before lane place) (joinedBy sheet roads place) (both lane)
+-- each place has taken over from those that it is joined to
+pub record Stepped (joined : ℕ → ℕ → Bool) (both before after : Numbers) : Type 0 where
+  pub least : (place lane : ℕ) → lane < lanes → LeastOf (after lane place) (before lane place) (joined place) (both lane)
 
 -- one step of Definition 4.4 in every lane
 pub record Round (sheet : List ℕ) (roads n : ℕ) (right before after : Numbers) : Type 0 where

@@ -4,7 +4,7 @@ ghost use lib.ListN.{length};
 ghost use Rattle.words.specs.Bytes.{wordsOf};
 ghost use Rattle.lanes.specs.Lanes.{rowIn};
 ghost use Rattle.iteration.specs.WorkRows.{xRow, oldRow, bothRow, LowOutside, Worked, KeptBut};
-ghost use Rattle.iteration.specs.Steps.{RoadsIn, Bounded, Start, RoadPulled, Stepped, RowsApart};
+ghost use Rattle.iteration.specs.Steps.{joinedBy, RoadsIn, Bounded, Start, Pulled, Stepped, RowsApart};
 ghost use Rattle.iteration.specs.Lent.{JoinedIn, RoundIn, SettledIn};
 use checks::head::is_wide;
 use lanes::ROWS;
@@ -12,9 +12,10 @@ use lanes::strips::combine_strips;
 use lanes::strips::copy_strip;
 use lanes::strips::strip_changed;
 use roads::road::Network;
-use roads::road::first_place;
+use roads::road::Way;
 use roads::road::road_at;
-use roads::road::second_place;
+use roads::road::way_back;
+use roads::road::way_forth;
 
 // So many chain numbers share a margin: one says no, one says yes.
 const MARGIN: u32 = 2;
@@ -43,23 +44,22 @@ fn join(rows: &mut [u32], inside: &[bool])
     }
 }
 
-// A road brings to each of its two ends what the other hands over. Two ends outside the ball have the lowest number already.
-fn pull_road(rows: &mut [u32], inside: &[bool], first: usize, second: usize)
-    requires { ⌜ (first < second) × (second < length (now inside)) × LowOutside (now inside) (now rows) ⌝ }
-    ensures pulled { λ _. ⌜ RoadPulled first second (rowIn (now (rows .entry)) bothRow) (rowIn (now (rows .entry)) xRow) (rowIn (now (rows .exit)) xRow) ⌝ }
+// A place takes over what the place hands to it to which a way leads. One outside the ball has the lowest number already.
+fn pull(rows: &mut [u32], inside: &[bool], way: Way)
+    requires { ⌜ (way .from < length (now inside)) × (way .to < length (now inside)) × LowOutside (now inside) (now rows) ⌝ }
+    ensures pulled { λ _. ⌜ Pulled way (rowIn (now (rows .entry)) bothRow) (rowIn (now (rows .entry)) xRow) (rowIn (now (rows .exit)) xRow) ⌝ }
     ensures kept { λ _. ⌜ KeptBut xRow (now (rows .entry)) (now (rows .exit)) ⌝ }
 {
-    if inside[first] | inside[second] {
-        let a = first * ROWS;
-        let b = second * ROWS;
-        combine_strips(rows, a + X, b + BOTH, a + X, true);
-        combine_strips(rows, b + X, a + BOTH, b + X, true);
+    let place = way.from;
+    if way.runs & inside[place] {
+        let x = place * ROWS + X;
+        combine_strips(rows, x, way.to * ROWS + BOTH, x, true);
     }
 }
 
 fn step(rows: &mut [u32], inside: &[bool], sheet: &[u8], network: Network)
     requires { ⌜ RoadsIn (wordsOf (now sheet)) (network .roads) (length (now inside)) × LowOutside (now inside) (now rows) ⌝ }
-    ensures stepped { λ _. ⌜ Stepped (wordsOf (now (sheet .entry))) (network .roads) (rowIn (now (rows .entry)) bothRow) (rowIn (now (rows .entry)) xRow) (rowIn (now (rows .exit)) xRow) ⌝ }
+    ensures stepped { λ _. ⌜ Stepped (joinedBy (wordsOf (now (sheet .entry))) (network .roads)) (rowIn (now (rows .entry)) bothRow) (rowIn (now (rows .entry)) xRow) (rowIn (now (rows .exit)) xRow) ⌝ }
     ensures kept { λ _. ⌜ KeptBut xRow (now (rows .entry)) (now (rows .exit)) ⌝ }
 {
     let wide = is_wide(sheet);
@@ -67,12 +67,8 @@ fn step(rows: &mut [u32], inside: &[bool], sheet: &[u8], network: Network)
     for r in 0..network.roads {
         let road = words::word_at(sheet, at);
         at += 2;
-        pull_road(
-            rows,
-            inside,
-            first_place(road, wide),
-            second_place(road, wide),
-        );
+        pull(rows, inside, way_forth(road, wide));
+        pull(rows, inside, way_back(road, wide));
     }
 }
 

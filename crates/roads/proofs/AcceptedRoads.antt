@@ -6,14 +6,13 @@ use mathlib.Core.List.{List}
 use Prim.Native.Nat.{ℕ, zero, suc, _+_, _<_, _≤_, _^_}
 use native.Mathlib.Nat.{eq-or-lt-of-le, le-of-lt}
 use native.Mathlib.Omega.{arith}
-use borrow.Author.Tests.{eq-eqb}
-use lib.Dec.{T, eqb, ltb, eqb→eq, ltb→lt, lt→ltb}
+use lib.Dec.{T, ltb, ltb→lt, lt→ltb}
 use Rattle.words.specs.Word.{payloadOf}
 use Rattle.counting.proofs.Tests.{holds, and-i, and-l, and-r}
 use Rattle.checks.specs.Checked.{Checked, accepted, _>>=_, wordAt, isKind}
 use Rattle.checks.proofs.Checks.{require-e, bind-accepted, same-accepted}
 use Rattle.checks.specs.Heads.{isWide}
-use Rattle.roads.specs.Roads.{GoodRoad, roadAt, weightAt, firstPlace, secondPlace, spareBits, placePair, roadChecked, roadsFrom}
+use Rattle.roads.specs.Roads.{GoodRoad, roadAt, weightAt, firstPlace, secondPlace, bitsFit, placePair, roadChecked, roadsFrom}
 
 pair-few : (wide : Bool) (w : ℕ) → placePair wide w < 2 ^ 24
 pair-few true w = omega arith
@@ -28,7 +27,7 @@ module _ (s : List ℕ) (n : ℕ) where
 
   -- what the check of a road tells where it passes
   pub record Passed (index last pair : ℕ) : Type 0 where
-    pub spare : spareBits (isWide s) (wordAt s index) ≡ 0
+    pub fit : T (bitsFit (isWide s) (wordAt s index))
     pub order : firstPlace (isWide s) (wordAt s index) < secondPlace (isWide s) (wordAt s index)
     pub inside : secondPlace (isWide s) (wordAt s index) < n
     pub later : T (ltb last (placePair (isWide s) (wordAt s index)))
@@ -49,12 +48,12 @@ module _ (s : List ℕ) (n : ℕ) where
     unfolding roadChecked
     road-passed e =
         let w : ℕ = wordAt s index in
-        let (none, e₁) = require-e (eqb (spareBits (isWide s) w) 0) 4 index _ pair e in
+        let (fit, e₁) = require-e (bitsFit (isWide s) w) 4 index _ pair e in
         let (ends, e₂) = require-e (ordered && among) 5 index _ pair e₁ in
         let (later, e₃) = require-e (ltb last (placePair (isWide s) w)) 6 index _ pair e₂ in
         let (weight, e₄) = require-e weighed 7 (index + 1) _ pair e₃ in
         record {
-          spare = eqb→eq _ _ none;
+          fit = fit;
           order = ltb→lt _ _ (and-l ordered _ ends);
           inside = ltb→lt _ _ (and-r ordered _ ends);
           later = later;
@@ -68,7 +67,7 @@ module _ (s : List ℕ) (n : ℕ) where
     road-passes p =
         let ends = holds (ordered && among) (and-i ordered among (lt→ltb _ _ (p .order)) (lt→ltb _ _ (p .inside))) in
         let later = holds (ltb last (placePair (isWide s) (wordAt s index))) (p .later) in
-        simp (eq-eqb (spareBits (isWide s) (wordAt s index)) 0 (p .spare), ends, later, holds weighed (p .weight)) (ap accepted (p .pair-of))
+        simp (holds (bitsFit (isWide s) (wordAt s index)) (p .fit), ends, later, holds weighed (p .weight)) (ap accepted (p .pair-of))
 
   -- what every road has that passed, whatever stands before it
   pub each-road : (P : ℕ → Type 0) → ((r last pair : ℕ) → T (isKind 2 s (at r)) → Passed (at r) last pair → P r)

@@ -1,20 +1,23 @@
--- The table before any place is let in: nothing but the zeros of its diagonal, then one road after the other, each stored at both entries of
--- its ends.
+-- The table before any place is let in: nothing but the zeros of its diagonal, then one road after the other, each stored at the entries of
+-- the ways that it runs.
 use Prim.Native.Nat.{ℕ, zero, suc, _+_, _-_, _*_, _<_, _≤_, _^_}
 use mathlib.Core.Path.{_≡_, refl, sym, _∙_, ap, ap₂}
-use mathlib.Core.Bool.{Bool, true, false, cond, _&&_, and-false, and-comm}
+use mathlib.Core.Bool.{Bool, true, false, cond, _&&_, _||_, and-false}
+use mathlib.Core.Logic.{⊎-elim}
 use mathlib.Core.List.{List}
 use native.Mathlib.Decide.{decLt, ℕ-discrete}
 use native.Mathlib.Numerals.{add-one}
 use native.Mathlib.Omega.{arith}
-use lib.Dec.{ltb, eqb}
+use lib.Dec.{T, ltb, eqb, eqb→eq}
 use lib.ListN.{set, replicate, length-replicate, getD-replicate}
 use borrow.Author.Tests.{lt-ltb, le-ltb, eq-eqb, ne-eqb}
 use Rattle.words.specs.Rows.{rows}
 use Rattle.words.proofs.Rows.{in-table, list-rows, rows-ext, rows-set}
 use Rattle.network.specs.Distance.{dist, none, direct, distance}
-use Rattle.roads.specs.Roads.{GoodRoad, firstOf, secondOf, weightOf, joins, weightAmong}
-use Rattle.roads.specs.DistanceStages.{saturated, stage}
+use Rattle.counting.proofs.Tests.{holds, and-l, and-r, or-l, or-r, or-e}
+use Rattle.roads.specs.declared.road.Way.{Way}
+use Rattle.roads.specs.Roads.{GoodRoad, leadsBy, firstOf, forthOf, backOf, weightOf, leads, weightAmong}
+use Rattle.roads.specs.DistanceStages.{saturated, stage, wayPut}
 
 -- ---- the diagonal
 abbrev diagonal : ℕ → ℕ → ℕ → ℕ
@@ -55,92 +58,92 @@ no-roads s n = refl
 pub light : (s : List ℕ) (r a b x : ℕ) → weightAmong s r a b ≡ dist x → x ≤ 2 ^ 28
 unfolding weightAmong
 light s zero a b x e = let z : _≡_ {A = ℕ} 0 1 = cc in absurd (omega arith)
-light s (suc r) a b x e = go (joins s r a b) e (light s r a b x)
+light s (suc r) a b x e = go (leads s r a b) e (light s r a b x)
   where
     go : (t : Bool) → elim t [ true ↦ dist (weightOf s r) | false ↦ weightAmong s r a b ] ≡ dist x
         → (weightAmong s r a b ≡ dist x → x ≤ 2 ^ 28) → x ≤ 2 ^ 28
     go true e f = let q : weightOf s r ≡ x = cc in omega arith
     go false e f = f e
 
+-- a table in which a way is put
+module _ (n : ℕ) (way : Way) (w : ℕ) (f : ℕ → ℕ → ℕ) where
+  with-way : ℕ → ℕ → ℕ
+  with-way p q = cond (leadsBy way p q) w (f p q)
+
+  -- an entry that is not that of the way
+  elsewhere : (p q : ℕ) → (p * n + q ≡ way .from * n + way .to → ⊥) → (eqb (way .from) p && eqb (way .to) q) ≡ false
+  elsewhere p q o = go (ℕ-discrete (way .from) p) (ℕ-discrete (way .to) q)
+    where
+      go : Dec (way .from ≡ p) → Dec (way .to ≡ q) → (eqb (way .from) p && eqb (way .to) q) ≡ false
+      go (yes e) (yes f) = absurd (o (ap₂ (λ (x y : ℕ). x * n + y) (sym e) (sym f)))
+      go (yes e) (no f) = rw (ne-eqb (way .to) q f) (and-false (eqb (way .from) p))
+      go (no e) f = rw (ne-eqb (way .from) p e)
+
+  way-stored : way .from < n → way .to < n → wayPut n way w (rows f n n) ≡ rows with-way n n
+  unfolding with-way
+  way-stored h k = go (way .runs)
+    where
+      go : (runs : Bool) → cond runs (set (rows f n n) (way .from * n + way .to) w) (rows f n n) ≡ rows (λ p q. cond (runs && (eqb (way .from) p && eqb (way .to) q)) w (f p q)) n n
+      go true = rows-set f (λ p q. cond (eqb (way .from) p && eqb (way .to) q) w (f p q)) n n (way .from) (way .to) w h k
+          (rw (eq-eqb (way .from) (way .from) refl, eq-eqb (way .to) (way .to) refl))
+          (λ p q _ _ o. rw (elsewhere p q o))
+      go false = refl
+
+-- a way does not lead from a place to itself where its ends are two
+way-apart : (way : Way) (p q : ℕ) → (way .from ≡ way .to → ⊥) → T (leadsBy way p q) → p ≡ q → ⊥
+way-apart way p q apart h e =
+    let ends = and-r (way .runs) _ h in
+    apart (eqb→eq (way .from) p (and-l (eqb (way .from) p) _ ends) ∙ e ∙ sym (eqb→eq (way .to) q (and-r (eqb (way .from) p) _ ends)))
+
 module _ (s : List ℕ) (n r : ℕ) (good : GoodRoad s n r) where
-  abbrev first : ℕ
-  first = firstOf s r
-
-  abbrev second : ℕ
-  second = secondOf s r
-
   abbrev weight : ℕ
   weight = weightOf s r
 
-  -- an entry before and after the road, and with the road stored one way
+  -- an entry before and after the road
   before : ℕ → ℕ → ℕ
   before p q = saturated (distance (weightAmong s r) 0 p q)
 
   after : ℕ → ℕ → ℕ
   after p q = saturated (distance (weightAmong s (suc r)) 0 p q)
 
-  between : ℕ → ℕ → ℕ
-  between p q = cond (eqb first p && eqb second q) weight (before p q)
+  -- .. of two places from one of which the road leads to the other, or does not
+  module _ (p q : ℕ) where
+    apart : T (leads s r p q) → p ≡ q → ⊥
+    unfolding leads
+    apart h = ⊎-elim
+        (way-apart (forthOf s r) p q (λ e. omega (arith, good .order)))
+        (way-apart (backOf s r) p q (λ e. omega (arith, good .order)))
+        (or-e (leadsBy (forthOf s r) p q) _ h)
 
-  -- an entry that is not at a, b
-  elsewhere : (a b p q : ℕ) → (p * n + q ≡ a * n + b → ⊥) → (eqb a p && eqb b q) ≡ false
-  elsewhere a b p q o = go (ℕ-discrete a p) (ℕ-discrete b q)
-    where
-      go : Dec (a ≡ p) → Dec (b ≡ q) → (eqb a p && eqb b q) ≡ false
-      go (yes e) (yes f) = absurd (o (ap₂ (λ (x y : ℕ). x * n + y) (sym e) (sym f)))
-      go (yes e) (no f) = rw (ne-eqb b q f) (and-false (eqb a p))
-      go (no e) f = rw (ne-eqb a p e)
+    led : T (leads s r p q) → weight ≡ after p q
+    unfolding after distance direct saturated weightAmong
+    led h =
+        let stored : weight ≡ saturated (dist weight) = omega arith in
+        rw (ne-eqb p q (apart h)) (stored ∙ ap (λ (t : Bool). saturated (elim t [ true ↦ dist weight | false ↦ weightAmong s r p q ])) (sym (holds (leads s r p q) h)))
 
-  weight-joined : (p q : ℕ) → joins s r p q ≡ true → weightAmong s (suc r) p q ≡ dist weight
-  unfolding weightAmong
-  weight-joined p q e = ap (λ (t : Bool). elim t [ true ↦ dist weight | false ↦ weightAmong s r p q ]) e
+    not-led : leads s r p q ≡ false → before p q ≡ after p q
+    unfolding before after distance direct weightAmong
+    not-led e = ap (λ (t : Bool). saturated (cond (eqb p q) (dist 0) (elim t [ true ↦ dist weight | false ↦ weightAmong s r p q ]))) (sym e)
 
-  weight-other : (p q : ℕ) → joins s r p q ≡ false → weightAmong s (suc r) p q ≡ weightAmong s r p q
-  unfolding weightAmong
-  weight-other p q e = ap (λ (t : Bool). elim t [ true ↦ dist weight | false ↦ weightAmong s r p q ]) e
+    both-ways : with-way n (backOf s r) weight (with-way n (forthOf s r) weight before) p q ≡ after p q
+    unfolding with-way leads
+    both-ways = go (leadsBy (forthOf s r) p q) (leadsBy (backOf s r) p q) refl refl
+      where
+        go : (t u : Bool) → leadsBy (forthOf s r) p q ≡ t → leadsBy (backOf s r) p q ≡ u → cond u weight (cond t weight (before p q)) ≡ after p q
+        go true true e f = led (or-l (leadsBy (forthOf s r) p q) _ (rw e tt))
+        go true false e f = led (or-l (leadsBy (forthOf s r) p q) _ (rw e tt))
+        go false true e f = led (or-r (leadsBy (forthOf s r) p q) _ (rw f tt))
+        go false false e f = not-led (ap₂ _||_ e f)
 
-  -- the entry of a road that was just stored, and of one that was not
-  joined-entry : (p q : ℕ) → (p ≡ q → ⊥) → joins s r p q ≡ true → after p q ≡ weight
-  unfolding after distance direct saturated
-  joined-entry p q o e = rw (ne-eqb p q o, weight-joined p q e) (omega arith)
-
-  other-entry : (p q : ℕ) → joins s r p q ≡ false → before p q ≡ after p q
-  unfolding before after distance direct
-  other-entry p q e = rw (weight-other p q e)
-
-  road-stored : set (set (stage (weightAmong s r) n 0) (first * n + second) weight) (second * n + first) weight ≡ stage (weightAmong s (suc r)) n 0
-  unfolding stage before after between joins
+  road-stored : wayPut n (backOf s r) weight (wayPut n (forthOf s r) weight (stage (weightAmong s r) n 0)) ≡ stage (weightAmong s (suc r)) n 0
+  unfolding stage before after
   road-stored =
-      let known : first < n = omega (arith, good .order, good .inside) in
-      ap (λ (t : List ℕ). set t (second * n + first) weight) (rows-set before between n n first second weight known (good .inside) there once)
-      ∙ rows-set between after n n second first weight (good .inside) known back twice
-    where
-      there : between first second ≡ weight
-      there = rw (eq-eqb first first refl, eq-eqb second second refl)
+      let known : firstOf s r < n = omega (arith, good .order, good .inside) in
+      ap (wayPut n (backOf s r) weight) (way-stored n (forthOf s r) weight before known (good .inside))
+      ∙ way-stored n (backOf s r) weight (with-way n (forthOf s r) weight before) (good .inside) known
+      ∙ rows-ext _ after n n (λ p q _ _. both-ways p q)
 
-      once : (p q : ℕ) → p < n → q < n → (p * n + q ≡ first * n + second → ⊥) → before p q ≡ between p q
-      once p q _ _ o = rw (elsewhere first second p q o)
-
-      back : after second first ≡ weight
-      back = joined-entry second first (λ e. omega (arith, good .order))
-          (rw (ne-eqb first second (λ e. omega (arith, good .order)), eq-eqb first first refl, eq-eqb second second refl))
-
-      twice : (p q : ℕ) → p < n → q < n → (p * n + q ≡ second * n + first → ⊥) → between p q ≡ after p q
-      twice p q _ _ o = go (ℕ-discrete first p) (ℕ-discrete second q)
-        where
-          not-back : (eqb first q && eqb second p) ≡ false
-          not-back = and-comm (eqb first q) (eqb second p) ∙ elsewhere second first p q o
-
-          go : Dec (first ≡ p) → Dec (second ≡ q) → between p q ≡ after p q
-          go (yes e) (yes f) =
-              rw (eq-eqb first p e, eq-eqb second q f)
-              (sym (joined-entry p q (λ x. omega (arith, good .order)) (rw (eq-eqb first p e, eq-eqb second q f))))
-          go (yes e) (no f) =
-              rw (ne-eqb second q f, and-false (eqb first p))
-              (other-entry p q (rw (ne-eqb second q f, and-false (eqb first p), not-back)))
-          go (no e) f = rw (ne-eqb first p e) (other-entry p q (rw (ne-eqb first p e, not-back)))
-
-  -- the same of numbers and a list that were read
-  pub road-put : (t : List ℕ) (a b w : ℕ) → a ≡ first → b ≡ second → w ≡ weight → t ≡ stage (weightAmong s r) n 0
-      → set (set t (a * n + b) w) (b * n + a) w ≡ stage (weightAmong s (r + 1)) n 0
-  road-put t a b w ea eb ew et = rw (ea, eb, ew, et, add-one r) road-stored
+  -- the same of ways, a number and a list that were read
+  pub road-put : (t : List ℕ) (forth back : Way) (w : ℕ) → forth ≡ forthOf s r → back ≡ backOf s r → w ≡ weight → t ≡ stage (weightAmong s r) n 0
+      → wayPut n back w (wayPut n forth w t) ≡ stage (weightAmong s (r + 1)) n 0
+  road-put t forth back w ef eb ew et = rw (ef, eb, ew, et, add-one r) road-stored

@@ -4,12 +4,12 @@ use mathlib.Core.Bool.{true, false, _&&_}
 use mathlib.Core.List.{List}
 use mathlib.Core.Path.{_≡_, refl, sym, _∙_, ap}
 use native.Mathlib.Omega.{arith}
-use lib.Dec.{ltb, eqb}
+use lib.Dec.{ltb}
 use lib.ListN.{length}
 use Rattle.words.specs.Word.{payloadOf}
 use Rattle.checks.specs.Checked.{accepted, refused, _>>=_, mapped, wordAt, isKind}
 use Rattle.checks.specs.Heads.{headWords, isWide}
-use Rattle.roads.specs.Roads.{roadAt, firstPlace, secondPlace, spareBits, placePair, roadChecked, roadsFrom}
+use Rattle.roads.specs.Roads.{roadAt, firstPlace, secondPlace, bitsFit, placePair, roadChecked, roadsFrom}
 use Rattle.checks.proofs.Checks.{require-accepted}
 use Rattle.checks.proofs.Tests.{and-true, kind-told}
 
@@ -19,8 +19,8 @@ unfolding roadChecked
 road-there s n at last e =
     let w = wordAt s at in
     let wide = isWide s in
-    let spare = require-accepted (eqb (spareBits wide w) 0) 4 at _ e in
-    let places = require-accepted (ltb (firstPlace wide w) (secondPlace wide w) && ltb (secondPlace wide w) n) 5 at _ (spare .1) in
+    let fit = require-accepted (bitsFit wide w) 4 at _ e in
+    let places = require-accepted (ltb (firstPlace wide w) (secondPlace wide w) && ltb (secondPlace wide w) n) 5 at _ (fit .1) in
     let order = require-accepted (ltb last (placePair wide w)) 6 at _ (places .1) in
     let weight = require-accepted (isKind 3 s (at + 1) && ltb 0 (payloadOf (wordAt s (at + 1)))) 7 (at + 1) _ (order .1) in
     kind-told 3 s (at + 1) (and-true (isKind 3 s (at + 1)) (ltb 0 (payloadOf (wordAt s (at + 1)))) (weight .0) .0) .0

@@ -9,6 +9,7 @@ use lib.ListN.{getD, set}
 use Rattle.words.specs.Bytes.{wordsOf, numbersOf}
 use Rattle.words.specs.Rows.{rows}
 use Rattle.network.specs.Distance.{Distance, distance}
+use Rattle.roads.specs.declared.road.Way.{Way}
 use Rattle.roads.specs.Roads.{distanceNumber}
 
 -- the largest number of 64 bits stands for none and for whatever is too large
@@ -24,10 +25,14 @@ module _ (weight : ℕ → ℕ → Distance) (n : ℕ) where
   unfoldable pub relaxing : ℕ → ℕ → List ℕ
   relaxing k m = rows (λ a b. saturated (cond (ltb (a * n + b) m) (distance weight (suc k) a b) (distance weight k a b))) n n
 
+-- the weight of a road put into a table of n places one way, if the road runs so
+abbrev pub wayPut : ℕ → Way → ℕ → List ℕ → List ℕ
+wayPut n way weight t = cond (way .runs) (set t (way .from * n + way .to) weight) t
+
 -- one number of a table relaxed: x plus another number takes its place where that is less
 abbrev pub relaxed : ℕ → ℕ → ℕ → List ℕ → List ℕ
 relaxed x from to t = set t to (min (getD t to 0) (x + getD t from 0))
 
 -- whatever the weights are, the bytes of a table that was at one stage are those of the next
-abbrev pub Leads : ((ℕ → ℕ → Distance) → List ℕ) → ((ℕ → ℕ → Distance) → List ℕ) → List ℕ → List ℕ → Type 0
-Leads from to before after = (weight : ℕ → ℕ → Distance) → numbersOf (wordsOf before) ≡ from weight → numbersOf (wordsOf after) ≡ to weight
+abbrev pub Advances : ((ℕ → ℕ → Distance) → List ℕ) → ((ℕ → ℕ → Distance) → List ℕ) → List ℕ → List ℕ → Type 0
+Advances from to before after = (weight : ℕ → ℕ → Distance) → numbersOf (wordsOf before) ≡ from weight → numbersOf (wordsOf after) ≡ to weight

@@ -1,5 +1,5 @@
--- The roads of a sheet, narrow or wide ("The sheet", request M-104; refusals 4 to 7), the network that they make, and its distances as the lent table holds
--- them ("Distance").
+-- The roads of a sheet, narrow or wide ("The sheet", requests M-104 and M-106; refusals 4 to 7), the network that they make, and its distances as the lent table
+-- holds them ("Distance").
 use Prim.Native.Nat.{ℕ, zero, suc, _+_, _-_, _*_, _<_, _^_}
 use mathlib.Core.Path.{_≡_}
 use mathlib.Core.Bool.{Bool, true, false, cond, _&&_, _||_}
@@ -12,6 +12,7 @@ use Rattle.network.specs.Distance.{Distance, dist, none}
 use Rattle.network.specs.Network.{Network, distanceIn}
 use Rattle.checks.specs.Checked.{Checked, accepted, _>>=_, require, wordAt, isKind}
 use Rattle.checks.specs.Heads.{headWords, isWide}
+use Rattle.roads.specs.declared.road.Way.{Way}
 
 -- ---- where a road stands and what its first word says: eight bits for a place in a narrow sheet, twelve in a wide one (M-104)
 
@@ -25,7 +26,7 @@ weightAt wide r = roadAt wide r + 1
 abbrev pub placeBits : Bool → ℕ
 placeBits wide = cond wide 12 8
 
--- the second place in the lowest bits, the first above it, then spare bits
+-- the second place in the lowest bits, the first above it, then spare bits up to bit 25
 abbrev pub firstPlace : Bool → ℕ → ℕ
 firstPlace wide w = bits (placeBits wide) (placeBits wide) w
 
@@ -33,7 +34,29 @@ abbrev pub secondPlace : Bool → ℕ → ℕ
 secondPlace wide w = bits 0 (placeBits wide) w
 
 abbrev pub spareBits : Bool → ℕ → ℕ
-spareBits wide w = bits (2 * placeBits wide) (28 - 2 * placeBits wide) w
+spareBits wide w = bits (2 * placeBits wide) (26 - 2 * placeBits wide) w
+
+-- which ways a road runs (M-106): bit 27 lets it run only forth, from its first place to its second, and bit 26 only back; neither means both ways
+abbrev pub runsForth : ℕ → Bool
+runsForth w = eqb (bits 26 1 w) 0
+
+abbrev pub runsBack : ℕ → Bool
+runsBack w = eqb (bits 27 1 w) 0
+
+-- no spare bit, and not both of bits 27 and 26
+abbrev pub bitsFit : Bool → ℕ → Bool
+bitsFit wide w = eqb (spareBits wide w) 0 && (runsForth w || runsBack w)
+
+-- the two ways of a road, and whether it runs so (M-106)
+abbrev pub wayForth : Bool → ℕ → Way
+wayForth wide w = record { from = firstPlace wide w; to = secondPlace wide w; runs = runsForth w }
+
+abbrev pub wayBack : Bool → ℕ → Way
+wayBack wide w = record { from = secondPlace wide w; to = firstPlace wide w; runs = runsBack w }
+
+-- a way leads from a to b
+abbrev pub leadsBy : Way → ℕ → ℕ → Bool
+leadsBy way a b = way .runs && (eqb (way .from) a && eqb (way .to) b)
 
 -- both places as one number: the order of such numbers is that of the pairs
 abbrev pub placePair : Bool → ℕ → ℕ
@@ -45,7 +68,7 @@ module _ (s : List ℕ) where
   roadChecked n at last =
       let w : ℕ = wordAt s at in
       let wide : Bool = isWide s in
-      require (eqb (spareBits wide w) 0) 4 at
+      require (bitsFit wide w) 4 at
       (require (ltb (firstPlace wide w) (secondPlace wide w) && ltb (secondPlace wide w) n) 5 at
       (require (ltb last (placePair wide w)) 6 at
       (require (isKind 3 s (at + 1) && ltb 0 (payloadOf (wordAt s (at + 1)))) 7 (at + 1)
@@ -66,6 +89,13 @@ module _ (s : List ℕ) where
   abbrev pub secondOf : ℕ → ℕ
   secondOf r = secondPlace (isWide s) (wordAt s (roadAt (isWide s) r))
 
+  -- its two ways
+  abbrev pub forthOf : ℕ → Way
+  forthOf r = wayForth (isWide s) (wordAt s (roadAt (isWide s) r))
+
+  abbrev pub backOf : ℕ → Way
+  backOf r = wayBack (isWide s) (wordAt s (roadAt (isWide s) r))
+
   abbrev pub weightOf : ℕ → ℕ
   weightOf r = payloadOf (wordAt s (weightAt (isWide s) r))
 
@@ -76,14 +106,14 @@ module _ (s : List ℕ) where
     pub order : firstOf r < secondOf r
     pub inside : secondOf r < n
 
-  -- road r joins a and b; roads run both ways
-  unfoldable pub joins : ℕ → ℕ → ℕ → Bool
-  joins r a b = eqb (firstOf r) a && eqb (secondOf r) b || eqb (firstOf r) b && eqb (secondOf r) a
+  -- road r leads from a to b: forth, or back (M-106)
+  unfoldable pub leads : ℕ → ℕ → ℕ → Bool
+  leads r a b = leadsBy (forthOf r) a b || leadsBy (backOf r) a b
 
-  -- the weight of the road between a and b among the first r roads
+  -- the weight of the road that leads from a to b among the first r roads
   unfoldable pub weightAmong : ℕ → ℕ → ℕ → Distance
   weightAmong zero a b = none
-  weightAmong (suc r) a b = elim (joins r a b) [ true ↦ dist (weightOf r) | false ↦ weightAmong r a b ]
+  weightAmong (suc r) a b = elim (leads r a b) [ true ↦ dist (weightOf r) | false ↦ weightAmong r a b ]
 
   -- the network of so many places and roads
   abbrev pub networkOf : ℕ → ℕ → Network

@@ -1,8 +1,8 @@
 // The check of the roads, one after the other.
+use crate::road::bits_fit;
 use crate::road::first_place;
 use crate::road::place_pair;
 use crate::road::second_place;
-use crate::road::spare_bits;
 use checks::fault::Fault;
 use checks::head::head_words;
 use checks::head::is_wide;
@@ -24,8 +24,8 @@ fn check_road(s: &[u8], at: usize, places: usize, last: usize) -> Stage
 {
     let w = words::word_or_zero(s, at);
     let wide = is_wide(s);
-    if spare_bits(w, wide) != 0 {
-        return Stage::Refused(Fault::RoadSpareBits, at);
+    if !bits_fit(w, wide) {
+        return Stage::Refused(Fault::RoadBits, at);
     }
     let second = second_place(w, wide);
     if second <= first_place(w, wide) {

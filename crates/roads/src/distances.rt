@@ -1,19 +1,20 @@
 // The distances of all places, computed within the lent table: n * n numbers of 64 bits, row by row, 2^64 - 1 for none.
 // Paths are let through one more place at a time (Floyd and Warshall). Within one table this is right because the row and the
 // column of the place that is let in do not change in its turn.
-use crate::road::first_place;
+use crate::road::Way;
 use crate::road::road_at;
-use crate::road::second_place;
+use crate::road::way_back;
+use crate::road::way_forth;
 use crate::road::weight;
 use checks::head::is_wide;
 ghost use mathlib.Core.Path.{_≡_};
 ghost use Prim.Native.Nat.{ℕ, _+_, _-_, _*_, _<_, _≤_, _^_, min};
-ghost use lib.ListN.{length, set, drop, replicate};
+ghost use lib.ListN.{length, drop, replicate};
 ghost use Rattle.words.specs.Bytes.{wordsOf, numbersOf};
 ghost use Rattle.words.specs.Rows.{padded};
 ghost use Rattle.network.specs.Distance.{none};
 ghost use Rattle.roads.specs.Roads.{GoodRoad, weightAmong, distancesAlong};
-ghost use Rattle.roads.specs.DistanceStages.{stage, relaxing, relaxed, Leads};
+ghost use Rattle.roads.specs.DistanceStages.{stage, wayPut, relaxing, relaxed, Advances};
 
 // Where no path is.
 pub const NONE: u64 = 18446744073709551615;
@@ -39,13 +40,14 @@ fn start(n: usize, table: &mut [u8])
     }
 }
 
-// A weight from a to b and back.
-fn put_both(n: usize, a: usize, b: usize, weight: u64, table: &mut [u8])
-    requires { ⌜ (a < n) × (b < n) × (length (numbersOf (wordsOf (now table))) ≡ n * n) ⌝ }
-    ensures { λ _. ⌜ numbersOf (wordsOf (now (table .exit))) ≡ set (set (numbersOf (wordsOf (now (table .entry)))) (a * n + b) weight) (b * n + a) weight ⌝ }
+// A road's weight one way, if the road runs so.
+fn put_way(n: usize, way: Way, weight: u64, table: &mut [u8])
+    requires { ⌜ (way .from < n) × (way .to < n) × (length (numbersOf (wordsOf (now table))) ≡ n * n) ⌝ }
+    ensures { λ _. ⌜ numbersOf (wordsOf (now (table .exit))) ≡ wayPut n way weight (numbersOf (wordsOf (now (table .entry)))) ⌝ }
 {
-    words::put_number(table, a * n + b, weight);
-    words::put_number(table, b * n + a, weight);
+    if way.runs {
+        words::put_number(table, way.from * n + way.to, weight);
+    }
 }
 
 // One road more.
@@ -56,13 +58,9 @@ fn put_road(s: &[u8], n: usize, r: usize, table: &mut [u8])
     let wide = is_wide(s);
     let at = road_at(wide, r);
     let road = words::word_at(s, at);
-    put_both(
-        n,
-        first_place(road, wide),
-        second_place(road, wide),
-        weight(s, at + 1),
-        table,
-    );
+    let length = weight(s, at + 1);
+    put_way(n, way_forth(road, wide), length, table);
+    put_way(n, way_back(road, wide), length, table);
 }
 
 // All roads, in order.
@@ -102,7 +100,7 @@ fn relax(x: u64, from: usize, to: usize, table: &mut [u8])
 // The distances from a, by way of k where that is less. Where k has none from a, none is.
 fn relax_row(n: usize, k: usize, a: usize, table: &mut [u8])
     requires { ⌜ (k < n) × (a < n) × (length (numbersOf (wordsOf (now table))) ≡ n * n) ⌝ }
-    ensures { λ _. ⌜ Leads (λ weight. relaxing weight n k (a * n)) (λ weight. relaxing weight n k (a * n + n)) (now (table .entry)) (now (table .exit)) ⌝ }
+    ensures { λ _. ⌜ Advances (λ weight. relaxing weight n k (a * n)) (λ weight. relaxing weight n k (a * n + n)) (now (table .entry)) (now (table .exit)) ⌝ }
 {
     let row = a * n;
     let via = k * n;
@@ -118,7 +116,7 @@ fn relax_row(n: usize, k: usize, a: usize, table: &mut [u8])
 // Paths may pass through k too.
 fn relax_through(n: usize, k: usize, table: &mut [u8])
     requires { ⌜ (k < n) × (length (numbersOf (wordsOf (now table))) ≡ n * n) ⌝ }
-    ensures { λ _. ⌜ Leads (λ weight. stage weight n k) (λ weight. stage weight n (k + 1)) (now (table .entry)) (now (table .exit)) ⌝ }
+    ensures { λ _. ⌜ Advances (λ weight. stage weight n k) (λ weight. stage weight n (k + 1)) (now (table .entry)) (now (table .exit)) ⌝ }
 {
     for a in 0..n {
         relax_row(n, k, a, table);
@@ -128,7 +126,7 @@ fn relax_through(n: usize, k: usize, table: &mut [u8])
 // Paths may pass through every place.
 fn relax_all(n: usize, table: &mut [u8])
     requires { ⌜ length (numbersOf (wordsOf (now table))) ≡ n * n ⌝ }
-    ensures { λ _. ⌜ Leads (λ weight. stage weight n 0) (λ weight. stage weight n n) (now (table .entry)) (now (table .exit)) ⌝ }
+    ensures { λ _. ⌜ Advances (λ weight. stage weight n 0) (λ weight. stage weight n n) (now (table .entry)) (now (table .exit)) ⌝ }
 {
     for k in 0..n {
         relax_through(n, k, table);

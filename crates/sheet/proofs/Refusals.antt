@@ -44,20 +44,22 @@ refusal-3 : (outcome (0x10001001 ∷ []) ≡ refused 3 0) × (outcome (0x1010000
 unfolding outcome
 refusal-3 = (refl, refl, refl, refl)
 
--- bit 16; and before the places are looked at
-refusal-4 : (outcome (three (0x20010001 ∷ 0x30000001 ∷ [])) ≡ refused 4 1) × (outcome (three (0x28000909 ∷ [])) ≡ refused 4 1)
+-- bit 16; bit 25, before the places are looked at; both of bits 27 and 26 (M-106). Each of them alone passes: what is missing is the weight.
+refusal-4 : (outcome (three (0x20010001 ∷ 0x30000001 ∷ [])) ≡ refused 4 1) × (outcome (three (0x22000909 ∷ [])) ≡ refused 4 1) × (outcome (three (0x2C000001 ∷ [])) ≡ refused 4 1)
+    × (outcome (three (0x28000001 ∷ [])) ≡ refused 7 2) × (outcome (three (0x24000001 ∷ [])) ≡ refused 7 2)
 unfolding outcome
-refusal-4 = (refl, refl)
+refusal-4 = (refl, refl, refl, refl, refl)
 
 -- equal places, places in the wrong order, a second place that is not there
 refusal-5 : (outcome (three (0x20000101 ∷ [])) ≡ refused 5 1) × (outcome (three (0x20000100 ∷ [])) ≡ refused 5 1) × (outcome (three (0x20000003 ∷ [])) ≡ refused 5 1)
 unfolding outcome
 refusal-5 = (refl, refl, refl)
 
--- the pair of the road before; a lower one; told before the weight is looked for
-refusal-6 : (outcome (three (0x20000001 ∷ 0x30000001 ∷ 0x20000001 ∷ [])) ≡ refused 6 3) × (outcome (three (0x20000102 ∷ 0x30000001 ∷ 0x20000002 ∷ [])) ≡ refused 6 3)
+-- the pair of the road before, also where one runs forth and the other back (M-106); a lower one; told before the weight is looked for
+refusal-6 : (outcome (three (0x20000001 ∷ 0x30000001 ∷ 0x20000001 ∷ [])) ≡ refused 6 3) × (outcome (three (0x24000001 ∷ 0x30000001 ∷ 0x28000001 ∷ [])) ≡ refused 6 3)
+    × (outcome (three (0x20000102 ∷ 0x30000001 ∷ 0x28000002 ∷ [])) ≡ refused 6 3)
 unfolding outcome
-refusal-6 = (refl, refl)
+refusal-6 = (refl, refl, refl)
 
 -- no weight, another kind, the weight 0
 refusal-7 : (outcome (three (0x20000001 ∷ [])) ≡ refused 7 2) × (outcome (three (0x20000001 ∷ 0x40000001 ∷ [])) ≡ refused 7 2) × (outcome (three (0x20000001 ∷ 0x30000000 ∷ [])) ≡ refused 7 2)
@@ -113,10 +115,12 @@ refusal-17 : (outcome (0xA0000000 ∷ 0x10001001 ∷ []) ≡ refused 17 0) × (o
 unfolding outcome
 refusal-17 = (refl, refl, refl, refl, refl, refl)
 
--- a wide road: bit 24 is spare, and the second place has twelve bits
-refusals-wide-road : (outcome (0xA0000002 ∷ 0x10001002 ∷ 0x21000001 ∷ []) ≡ refused 4 2) × (outcome (0xA0000002 ∷ 0x10001002 ∷ 0x20000100 ∷ []) ≡ refused 5 2)
+-- a wide road: bit 24 is spare, alone and beside bit 27, both of bits 27 and 26 are told, one alone passes, and the second place has twelve bits
+refusals-wide-road : (outcome (0xA0000002 ∷ 0x10001002 ∷ 0x21000001 ∷ []) ≡ refused 4 2) × (outcome (0xA0000002 ∷ 0x10001002 ∷ 0x29000001 ∷ []) ≡ refused 4 2)
+    × (outcome (0xA0000002 ∷ 0x10001002 ∷ 0x2C000001 ∷ []) ≡ refused 4 2) × (outcome (0xA0000002 ∷ 0x10001002 ∷ 0x24000001 ∷ []) ≡ refused 7 3)
+    × (outcome (0xA0000002 ∷ 0x10001002 ∷ 0x20000100 ∷ []) ≡ refused 5 2)
 unfolding outcome
-refusals-wide-road = (refl, refl)
+refusals-wide-road = (refl, refl, refl, refl, refl)
 
 -- a road between the first and the last of 300 places passes, and one to a place beyond them does not
 far-road : (checked (0xA000012C ∷ 0x10001001 ∷ 0x2000012B ∷ 0x30000007 ∷ []) 90000 ≡ refused 8 4) × (checked (0xA000012C ∷ 0x10001001 ∷ 0x2000012C ∷ 0x30000007 ∷ []) 90000 ≡ refused 5 2)

@@ -13,8 +13,7 @@ use Rattle.words.specs.Word.{payloadOf, sampleOf}
 use Rattle.checks.specs.Checked.{wordAt}
 use Rattle.checks.specs.Heads.{isWide}
 use Rattle.sheet.specs.Layout.{Layout}
-use Rattle.roads.specs.Roads.{roadAt, weightAt, firstPlace, secondPlace}
-use Rattle.roads.specs.Roads.{GoodRoad}
+use Rattle.roads.specs.Roads.{roadAt, weightAt, wayForth, wayBack, GoodRoad}
 use Rattle.sheet.specs.Recording.{network, recording}
 use Rattle.sheet.specs.Alike.{AlikeButSamples, SamplesApart, SamplesRaised}
 use Rattle.sheet.proofs.Whole.{AcceptedSheet}
@@ -29,7 +28,7 @@ module _ (Related : ℤ → ℤ → Type 0) (X Y : List ℕ) (alike : AlikeButSa
       let wide = layout-same Related X Y alike in
       let road : wordAt X (roadAt (isWide X) r) ≡ wordAt Y (roadAt (isWide Y) r) = rw wide (word-same Related X Y alike 2 (roadAt (isWide Y) r) tt (good .road)) in
       let weight : wordAt X (weightAt (isWide X) r) ≡ wordAt Y (weightAt (isWide Y) r) = rw wide (word-same Related X Y alike 3 (weightAt (isWide Y) r) tt (good .weight)) in
-      record { first = λ i. firstPlace (wide i) (road i); second = λ i. secondPlace (wide i) (road i); weight = λ i. payloadOf (weight i) }
+      record { forth = λ i. wayForth (wide i) (road i); back = λ i. wayBack (wide i) (road i); weight = λ i. payloadOf (weight i) }
 
   pub network-same : network X L ≡ network Y L
   unfolding network

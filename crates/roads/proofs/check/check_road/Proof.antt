@@ -1,23 +1,23 @@
--- Spare bits, places, order, weight: each test of the code decides one of the definition's.
+-- Bits, places, order, weight: each test of the code decides one of the definition's.
 use mathlib.Core.Path.{_≡_, sym, _∙_}
 use Prim.Native.Nat.{ℕ, _+_}
 use mathlib.Core.Bool.{Bool, true, _&&_}
 use mathlib.Core.List.{List}
 use native.Mathlib.Omega.{arith}
-use lib.Dec.{ltb, eqb}
-use borrow.Author.Tests.{lt-ltb, le-ltb, eq-eqb, ne-eqb, not-true, not-false}
+use lib.Dec.{ltb}
+use borrow.Author.Tests.{lt-ltb, le-ltb, not-true, not-false}
 use Rattle.words.specs.Bytes.{wordsOf}
 use Rattle.words.specs.Word.{payloadOf}
 use Rattle.words.proofs.Words.{words-count}
 use Rattle.checks.specs.Checked.{Checked, accepted, require, wordAt, isKind}
 use Rattle.checks.specs.Heads.{isWide}
-use Rattle.roads.specs.Roads.{firstPlace, secondPlace, spareBits, roadChecked}
+use Rattle.roads.specs.Roads.{firstPlace, secondPlace, bitsFit, roadChecked}
 use borrow.Author.Needs.{needs}
 use Rattle.roads.proofs.check.check_road.Statement.{statement}
 use Rattle.roads.proofs.check.check_road.Tie as tie
 
 -- the word and its layout as they were read
-module _ (c : tie.After-spare-bits) where
+module _ (c : tie.After-bits-fit) where
   abbrev start : tie.Start
   start = c .before .before .before .before
 
@@ -36,16 +36,16 @@ module _ (c : tie.After-spare-bits) where
   read : wordAt sheet (start .args .at) ≡ word
   read = sym (c .before .before .word-or-zero .ensures)
 
-  spare : spareBits wide word ≡ c .spare-bits .result
-  spare = sym (c .spare-bits .ensures)
+  fit : bitsFit wide word ≡ c .bits-fit .result
+  fit = sym (c .bits-fit .ensures)
 
 returns : tie.Need-returns
 unfolding roadChecked
-returns c = simp (read (c .before), layout (c .before), spare (c .before), ne-eqb _ 0 (c .if1 .taken))
+returns c = simp (read (c .before), layout (c .before), fit (c .before), not-true (c .before .bits-fit .result) (c .if1 .taken))
 
--- the places as they were read, where the spare bits have passed
+-- the places as they were read, where the bits have passed
 module _ (c : tie.After-first-place) where
-  abbrev before : tie.After-spare-bits
+  abbrev before : tie.After-bits-fit
   before = c .before .before .before
 
   first-read : firstPlace (wide before) (word before) ≡ c .first-place .result
@@ -54,26 +54,26 @@ module _ (c : tie.After-first-place) where
   second-read : secondPlace (wide before) (word before) ≡ c .before .second-place .result
   second-read = sym (c .before .second-place .ensures)
 
-  spare-zero : eqb (before .spare-bits .result) 0 ≡ true
-  spare-zero = eq-eqb _ 0 (c .before .before .if1 .left)
+  fits : before .bits-fit .result ≡ true
+  fits = not-false _ (c .before .before .if1 .left)
 
 returns-2 : tie.Need-returns-2
 unfolding roadChecked
 returns-2 c =
     let p = c .before in
     let b = before p in
-    simp (read b, layout b, spare b, spare-zero p, first-read p, second-read p, le-ltb _ _ (c .if2 .taken))
+    simp (read b, layout b, fit b, fits p, first-read p, second-read p, le-ltb _ _ (c .if2 .taken))
 
 returns-3 : tie.Need-returns-3
 unfolding roadChecked
 returns-3 c =
     let p = c .before .before in
     let b = before p in
-    simp (read b, layout b, spare b, spare-zero p, first-read p, second-read p, lt-ltb _ _ (c .before .if2 .left), le-ltb _ _ (c .if3 .taken))
+    simp (read b, layout b, fit b, fits p, first-read p, second-read p, lt-ltb _ _ (c .before .if2 .left), le-ltb _ _ (c .if3 .taken))
 
 -- ---- the places have passed: what is left is the order, and the weight
 
-abbrev placed : tie.After-place-pair → tie.After-spare-bits
+abbrev placed : tie.After-place-pair → tie.After-bits-fit
 placed c = before (c .before .before .before)
 
 abbrev index : tie.After-place-pair → ℕ
@@ -93,8 +93,8 @@ order-next c =
     simp (
       read b,
       layout b,
-      spare b,
-      spare-zero p,
+      fit b,
+      fits p,
       first-read p,
       second-read p,
       lt-ltb _ _ (c .before .before .if2 .left),

@@ -8,10 +8,12 @@ use lib.ListN.{length}
 use Rattle.words.specs.Word.{payloadOf}
 use Rattle.words.specs.Bytes.{wordsOf, numbersOf}
 use Rattle.words.proofs.Words.{words-count}
+use Rattle.words.proofs.Numbers.{same-count}
 use Rattle.checks.specs.Checked.{wordAt}
 use Rattle.checks.specs.Heads.{isWide}
-use Rattle.roads.specs.Roads.{roadAt, weightAt, firstPlace, secondPlace, firstOf, secondOf, weightAmong}
+use Rattle.roads.specs.Roads.{roadAt, weightAt, wayForth, wayBack, GoodRoad, firstOf, forthOf, backOf, weightOf, weightAmong}
 use Rattle.checks.proofs.Checks.{kind-inside}
+use Rattle.roads.specs.DistanceStages.{wayPut}
 use Rattle.roads.proofs.DistanceStages.{length-stage}
 use Rattle.roads.proofs.DistanceStart.{road-put}
 use borrow.Author.Needs.{needs}
@@ -35,12 +37,6 @@ module _ (c : tie.After-word-at) where
   road : c .word-at .result ≡ wordAt sheet (roadAt (isWide sheet) (start .args .r))
   road = c .word-at .ensures ∙ ap (wordAt sheet) here
 
-from : (c : tie.After-first-place) → c .first-place .result ≡ firstOf (sheet (c .before)) (start (c .before) .args .r)
-from c = c .first-place .ensures ∙ ap₂ firstPlace (layout (c .before)) (road (c .before))
-
-to : (c : tie.After-second-place) → c .second-place .result ≡ secondOf (sheet (c .before .before)) (start (c .before .before) .args .r)
-to c = c .second-place .ensures ∙ ap₂ secondPlace (layout (c .before .before)) (road (c .before .before))
-
 -- the road's words are there
 there : (c : tie.Start) → roadAt (isWide (wordsOf (c .args .s .now))) (c .args .r) + 1 < length (wordsOf (c .args .s .now))
 there c = kind-inside (wordsOf (c .args .s .now)) 3 (weightAt (isWide (wordsOf (c .args .s .now))) (c .args .r)) (c .pre .0 .weight)
@@ -56,32 +52,59 @@ word-at-requires c κs =
     omega (arith, there s, c .road-at .ensures ∙ ap (λ (w : Bool). roadAt w (s .args .r)) (c .before .is-wide .ensures))
 
 add-weight : tie.Need-add-weight
-add-weight c = let read = c .before .before in omega (arith, there (start read), here read, words-count (start read .args .s .now))
+add-weight c = omega (arith, there (start c), here c, words-count (start c .args .s .now))
 
 weight-requires : tie.Need-weight-requires
-weight-requires c κs = let read = c .before .before in omega (arith, there (start read), here read)
+weight-requires c κs = omega (arith, there (start c), here c)
 
-put-both-requires : tie.Need-put-both-requires
-put-both-requires c κs =
-    let read = c .before .before .before .before in
-    let g = start read .args in
-    let h = start read .pre in
-    let t = numbersOf (wordsOf (g .table .now)) in
-    let a = from (c .before .before .before) in
-    let b = to (c .before .before) in
-    let e : length t ≡ g .n * g .n = ap length (h .1) ∙ length-stage (weightAmong (wordsOf (g .s .now)) (g .r)) (g .n) 0 in
-    (omega (arith, h .0 .order, h .0 .inside), omega (arith, h .0 .inside), e)
+-- what was read of the road, each as the definition has it
+module _ (c : tie.After-way-forth) where
+  abbrev read : tie.After-word-at
+  read = c .before .before
+
+  weighed : c .before .weight .result ≡ weightOf (sheet read) (start read .args .r)
+  weighed = c .before .weight .ensures ∙ ap (λ (at : ℕ). payloadOf (wordAt (sheet read) (at + 1))) (here read)
+
+  forth : c .way-forth .result ≡ forthOf (sheet read) (start read .args .r)
+  forth = c .way-forth .ensures ∙ ap₂ wayForth (layout read) (road read)
+
+  good : GoodRoad (sheet read) (start read .args .n) (start read .args .r)
+  good = start read .pre .0
+
+  first-inside : firstOf (sheet read) (start read .args .r) < start read .args .n
+  first-inside = omega (arith, good .order, good .inside)
+
+  count : length (numbersOf (wordsOf (start read .args .table .now))) ≡ start read .args .n * start read .args .n
+  count = ap length (start read .pre .1) ∙ length-stage (weightAmong (sheet read) (start read .args .r)) (start read .args .n) 0
+
+put-way-requires : tie.Need-put-way-requires
+put-way-requires c κs =
+    let w = c .before in
+    (rw (forth w) (first-inside w), rw (forth w) (good w .inside), count w)
+
+module _ (c : tie.After-way-back) where
+  abbrev put : tie.After-put-way
+  put = c .before .before .before
+
+  back : c .way-back .result ≡ backOf (sheet (read (put .before .before))) (start (read (put .before .before)) .args .r)
+  back = let r = read (put .before .before) in c .way-back .ensures ∙ ap₂ wayBack (layout r) (road r)
+
+put-way-requires-2 : tie.Need-put-way-requires-2
+put-way-requires-2 c κs =
+    let p = put (c .before) in
+    let w = p .before .before in
+    let table = start (read w) .args .table .now in
+    (rw (back (c .before)) (good w .inside), rw (back (c .before)) (first-inside w), same-count (p .put-way .last .1 .1 .1 .0) table (p .put-way .kept .1 .1 .1 .0) ∙ count w)
 
 returns : tie.Need-returns
 returns c =
-    let weighed = c .before .before .before .before in
-    let read = weighed .before .before .before in
-    let g = start read .args in
-    let h = start read .pre in
-    let w = weighed .weight .ensures ∙ ap (λ (at : ℕ). payloadOf (wordAt (sheet read) (at + 1))) (here read) in
-    c .before .before .put-both .ensures
-    ∙ road-put (wordsOf (g .s .now)) (g .n) (g .r) (h .0) (numbersOf (wordsOf (g .table .now))) _ _ _
-    (from (weighed .before .before)) (to (weighed .before)) w (h .1)
+    let again = c .before .before in
+    let w = again .before .before in
+    let p = put w in
+    let f = p .before .before in
+    let g = start (read f) .args in
+    again .put-way2 .ensures ∙ ap (wayPut (g .n) (w .way-back .result) (f .before .weight .result)) (p .put-way .ensures)
+    ∙ road-put (sheet (read f)) (g .n) (g .r) (good f) (numbersOf (wordsOf (g .table .now))) _ _ _ (forth f) (back w) (weighed f) (start (read f) .pre .1)
 
 pub put-road-spec : {M : Type 1} → statement M
 put-road-spec =
@@ -90,10 +113,11 @@ put-road-spec =
     (λ c κs. search needs)
     road-at-requires
     word-at-requires
-    (λ c κs. search needs)
-    (λ c κs. search needs)
     add-weight
     weight-requires
-    put-both-requires
+    (λ c κs. search needs)
+    put-way-requires
+    (λ c κs. search needs)
+    put-way-requires-2
     (λ c. search needs)
     returns)
