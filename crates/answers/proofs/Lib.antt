@@ -14,6 +14,8 @@ pub mod Pinned
 pub mod LookingBack
 pub mod ReadingOn
 pub mod Islands
+pub mod OneWay
+pub mod BothWays
 pub mod Forecasts
 pub mod Fitting
 pub mod Wide

@@ -41,9 +41,9 @@ refusal distances answer number place = record {
 }
 
 module _ (s : List ℕ) (distances answer : ℕ) where
-  unfoldable pub answered : Layout → Judged
-  answered L =
-      let N : Network = network s L in
+  -- on a network
+  abbrev pub answeredOn : Network → Layout → Judged
+  answeredOn N L =
       let x : Recording = recording s L in
       record {
         result = record {
@@ -57,10 +57,16 @@ module _ (s : List ℕ) (distances answer : ℕ) where
         distances = padded (distanceTable N) distances;
       }
 
+  unfoldable pub answered : Layout → Judged
+  answered L = answeredOn (network s L) L
+
   -- 15 comes last: fewer words than needed, told at the sheet's length
+  abbrev pub decided : (Layout → Judged) → Checked Layout → Judged
+  decided leave (refused number place) = refusal distances answer number place
+  decided leave (accepted L) = cond (leb (wordsNeeded (isWide s) (L.sizes.places) L.lines) answer) (leave L) (refusal distances answer 15 (length s))
+
   abbrev pub judgedBy : Checked Layout → Judged
-  judgedBy (refused number place) = refusal distances answer number place
-  judgedBy (accepted L) = cond (leb (wordsNeeded (isWide s) (L.sizes.places) L.lines) answer) (answered L) (refusal distances answer 15 (length s))
+  judgedBy = decided answered
 
   -- `distances` and `answer` are how many distances and answer words are lent
   unfoldable pub judged : Judged

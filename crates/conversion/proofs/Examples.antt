@@ -1,4 +1,4 @@
--- Request M-105 on worked sheets: example A to wide and back, a sheet that stays as it is, and the refusals 14, 15 and 18.
+-- Requests M-105 and M-106 on worked sheets: example A to wide and back, a sheet that stays as it is, the refusals 14, 15 and 18, and roads that run one way.
 use mathlib.Core.Path.{_≡_, refl}
 use mathlib.Core.Bool.{true, false}
 use mathlib.Core.List.{List, [], _∷_, _++_}
@@ -37,3 +37,17 @@ sheet65 = 0xA0000041 ∷ 0x10001001 ∷ replicate 65 0x40000000 ++ (0x50000000 �
 too-many-places : (converted false sheet65 ≡ refused 18 0) × (left (converted false sheet65) 69 0 ≡ refusal 0 18 0) × (converted true sheet65 ≡ accepted sheet65)
 unfolding answerOf validated roadRelaid relaid converted left sheet65
 too-many-places = (refl, refl, refl)
+
+-- which ways roads run is carried over (M-106): from 2 to 1, and from 3 to 4
+behindRoads : List ℕ
+behindRoads = replicate 5 0x40000000 ++ (0x50000000 ∷ [])
+
+oneWayNarrow : List ℕ
+oneWayNarrow = 0x10501001 ∷ 0x24000102 ∷ 0x30000003 ∷ 0x28000304 ∷ 0x30000007 ∷ behindRoads ++ (0xF000000B ∷ [])
+
+oneWayWide : List ℕ
+oneWayWide = 0xA0000005 ∷ 0x10001001 ∷ 0x24001002 ∷ 0x30000003 ∷ 0x28003004 ∷ 0x30000007 ∷ behindRoads ++ (0xF000000C ∷ [])
+
+directions-carried : (converted true oneWayNarrow ≡ accepted oneWayWide) × (converted false oneWayWide ≡ accepted oneWayNarrow)
+unfolding answerOf validated roadRelaid relaid converted behindRoads oneWayNarrow oneWayWide
+directions-carried = (refl, refl)

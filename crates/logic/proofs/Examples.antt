@@ -1,8 +1,8 @@
 -- Examples on the definitions of the logic alone, so that they are pinned where they stand: K of document 01 for the bounds of a surround, H for its
--- rounds, B and C in both readings and two places for its islands, an until, a since, an always and a historically for the samples that they look
--- at, an until and a since as they are read (M-102). All examples on whole sheets are in the crate answers.
+-- rounds, B and C in both readings and two places for its islands, a road that leads one way, an until, a since, an always and a
+-- historically for the samples that they look at, an until and a since as they are read (M-102). All examples on whole sheets are in the crate answers.
 use mathlib.Core.Path.{_≡_, refl}
-use mathlib.Core.Bool.{true, false, cond, _||_}
+use mathlib.Core.Bool.{true, false, cond, _&&_, _||_}
 use mathlib.Core.List.{List, [], _∷_}
 use Prim.Native.Nat.{ℕ, zero, suc, _+_}
 use lib.Dec.{eqb}
@@ -15,7 +15,7 @@ use Rattle.network.specs.Distance.{dist, none, direct, distance}
 use Rattle.network.specs.Network.{Network, joined, distanceIn, within, reached, other}
 use Rattle.logic.specs.Iteration.{iterate, masked, except, first, atRest, rounds}
 use Rattle.logic.specs.Surround.{greatestRegion, boundary, bounded, allowed, regionValue, surround}
-use Rattle.logic.specs.Table.{Reading, Signal, verdicts, margins, everTrue, leastSoFar, untilSoFar, untilAt, surroundAt, value}
+use Rattle.logic.specs.Table.{Reading, Signal, verdicts, margins, everTrue, leastSoFar, untilSoFar, untilAt, somewhereAt, surroundAt, value}
 use Rattle.logic.specs.Counts.{runRounds, surroundRounds, roundsAt}
 use Rattle.counting.specs.Totals.{mostBelow}
 
@@ -92,6 +92,29 @@ two-places-rounds = refl
 level-rounds : surroundRounds pair 0 9 false (signal (pos 5 ∷ pos 5 ∷ []) 0) (right 0) 0 ≡ 2
 unfolding surroundRounds runRounds mostBelow other reached except rounds first atRest iterate masked leastOver within distanceIn distance direct joined
 level-rounds = refl
+
+-- ---- a road that leads from 0 to 1 alone (M-106)
+
+-- About 0 the boundary is where a road leads out: 0 alone has 4 on it, and both places, an island, have 5. About 1 it is 1 alone, out of which no road leads.
+abbrev oneWay : Network
+oneWay = record { places = 2; weight = λ a b. cond (eqb a 0 && eqb b 1) (dist 3) none }
+
+leads-out : (surroundAt margins oneWay false left right 0 9 0 0 ≡ finite (pos 4)) × (surroundAt margins oneWay true left right 0 9 0 0 ≡ finite (pos 5))
+    × (surroundAt margins oneWay false left right 0 9 0 1 ≡ minusInfinity) × (surroundAt margins oneWay true left right 0 9 0 1 ≡ finite (pos 6))
+unfolding surroundAt surround greatestRegion allowed bounded regionValue boundary leastOver greatestOver within distanceIn distance direct joined
+leads-out = (refl, refl, refl, refl)
+
+-- somewhere looks where roads lead from the centre
+ahead : (somewhereAt margins oneWay left 1 9 0 0 ≡ finite (pos 6)) × (somewhereAt margins oneWay left 1 9 0 1 ≡ minusInfinity)
+unfolding somewhereAt greatestOver within distanceIn distance direct
+ahead = (refl, refl)
+
+-- the run about 0 that leaves 1 out comes to 4 in a step, and about 1 there is none
+one-way-rounds : (surroundRounds oneWay 0 9 false (left 0) (right 0) 0 ≡ 2) × (surroundRounds oneWay 0 9 false (left 0) (right 0) 1 ≡ 0)
+unfolding surroundRounds runRounds mostBelow other reached except rounds first atRest iterate masked leastOver within distanceIn distance direct joined
+one-way-rounds = (refl, refl)
+
+-- ---- over time
 
 -- samples one after the other, alike at every place
 abbrev overTime : List ℤ → Signal margins

@@ -16,7 +16,7 @@ greatestRegion L zero f = f []
 greatestRegion L (suc n) f = L.join (greatestRegion L n (λ A. f (false ∷ A))) (greatestRegion L n (λ A. f (true ∷ A)))
 
 module _ (joined : ℕ → ℕ → Bool) (n : ℕ) where
-  -- Definition 2.4: k is outside A and joined by a road to a place of A
+  -- Definition 2.4: k is outside A, and a road leads to it from a place of A (M-106)
   unfoldable pub boundary : (ℕ → Bool) → ℕ → Bool
   boundary A k = not (A k) && greatestOver verdictLattice A (λ j. joined j k) n
 

@@ -1,5 +1,5 @@
--- Definition 2.1: a network is its places (the source's locations), numbered from 0, and the weight of the road (edge) between two of them. A
--- sheet's roads run both ways and have weights above 0: that is said where they are read (roads/specs/Roads.antt).
+-- Definition 2.1: a network is its places (the source's locations), numbered from 0, and the weight of the road (edge) that leads from one of them to
+-- another; back there may be none (M-106). That a sheet's roads have weights above 0 is said where they are read (roads/specs/Roads.antt).
 use mathlib.Core.Bool.{Bool, true, false, not, _&&_}
 use Prim.Native.Nat.{ℕ}
 use lib.Dec.{eqb}

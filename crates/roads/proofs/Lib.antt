@@ -3,3 +3,4 @@ pub mod AcceptedRoads
 pub mod DistanceStages
 pub mod DistanceStart
 pub mod SameRoads
+pub mod BothWays

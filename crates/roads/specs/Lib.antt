@@ -1,2 +1,3 @@
 pub mod Roads
 pub mod DistanceStages
+pub mod BothWays

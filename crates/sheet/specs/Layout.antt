@@ -66,14 +66,17 @@ module _ (s : List ℕ) where
   endChecked at found =
       require (isKind 15 s at && eqb (payloadOf (wordAt s at)) at) 14 at (require (eqb (length s) (at + 1)) 14 (at + 1) (accepted found))
 
-  -- the whole check, given how many distances are lent
-  unfoldable pub checked : ℕ → Checked Layout
-  checked distances = do
+  -- the whole check, given that of the roads among so many places, and how many distances are lent
+  abbrev pub checkedBy : (ℕ → Checked ℕ) → ℕ → Checked Layout
+  checkedBy roadsAmong distances = do
     sizes ← headChecked distances
-    roads ← roadsFrom s (sizes .places) (length s) 0 0
+    roads ← roadsAmong (sizes .places)
     linesAt ← samplesFrom (sampleCount sizes) (roadAt (isWide s) roads)
     found ← linesFrom s (sizes .signals) (sizes .samples) mostLines [] linesAt
     endChecked (found .1) (record { sizes = sizes; roads = roads; lines = found .0 })
+
+  unfoldable pub checked : ℕ → Checked Layout
+  checked = checkedBy (λ places. roadsFrom s places (length s) 0 0)
 
   -- for those that ask for no distance: with as many as the most places have, so that no 1 arises (M-105)
   unfoldable pub validated : Checked Layout
