@@ -16,6 +16,12 @@
  * sheet begins with a word of kind 10, its answer with the same word. A wide sheet
  * of few places is as good as a narrow one.
  *
+ * Roads. A road joins two places, of which the lower one is its first, and has one
+ * weight. It runs both ways, or, by a bit of its first word, only from first to second
+ * or only from second to first. The distance from one place to another is that of the
+ * shortest way that takes each road as it runs; the distance back may be another, and
+ * there may be one without the other. Two places have at most one road.
+ *
  * Ownership. All buffers are the host's, before, during and after a call. The
  * library keeps nothing between calls, takes no memory of its own but some of
  * the stack, and reads and writes nothing beside what is lent. What the lent
@@ -34,9 +40,10 @@
  * they read, as long as nobody writes to it; each call has lent buffers of its own.
  *
  * Surrounds. A line of code 7, "left surrounded by right", asks for a region with
- * left that has a boundary, and right on all of it. A region with nothing around
- * it does not count: a place that no road leads to is not surrounded, no at minus
- * infinity. For a line of code 15 such an island counts as well, by its left
+ * left that has a boundary, and right on all of it: on every place outside to which
+ * a road leads out of the region. A region with nothing around it does not count: a
+ * place from which no road leads is not surrounded, no at minus infinity, whatever
+ * leads to it. For a line of code 15 such an island counts as well, by its left
  * alone. Code 7 takes about as many times as long as code 15 as places lie within
  * the upper bound, which should therefore be no greater than the condition needs.
  *
@@ -55,9 +62,9 @@
 extern "C" {
 #endif
 
-#define TECUHUALMA_VERSION "0.5.0"
+#define TECUHUALMA_VERSION "0.6.0"
 #define TECUHUALMA_VERSION_MAJOR 0
-#define TECUHUALMA_VERSION_MINOR 5
+#define TECUHUALMA_VERSION_MINOR 6
 #define TECUHUALMA_VERSION_PATCH 0
 
 /* The limits of a sheet; places and roads of a narrow one, then of a wide one. */
@@ -74,6 +81,12 @@ extern "C" {
  * sheet has a word more, before its head. */
 #define TECUHUALMA_MOST_SHEET_WORDS 1052801
 #define TECUHUALMA_MOST_WIDE_SHEET_WORDS 17824962
+
+/* The bits of a road's first word that let it run only from its first place to its
+ * second, and only from its second to its first, the same in both layouts. A road that
+ * runs both ways has neither; one with both is refused with number 4. */
+#define TECUHUALMA_ROAD_FORTH_ONLY 0x08000000u
+#define TECUHUALMA_ROAD_BACK_ONLY 0x04000000u
 
 /* What to lend. The result has just 40 bytes, that of a tool just 24.
  *
@@ -110,7 +123,8 @@ extern "C" {
  * sheet. */
 #define TECUHUALMA_STACK_BYTES(places) ((places) <= TECUHUALMA_MOST_PLACES ? 65536 : 524288)
 
-/* The distance of two places that no roads connect. */
+/* The distance from one place to another to which no roads lead from it, even if roads
+ * lead back. */
 #define TECUHUALMA_NO_DISTANCE UINT64_MAX
 
 /* The five numbers of the result: the index of each, eight bytes apart. A tool's
@@ -139,9 +153,10 @@ enum tecuhualma_number {
     TECUHUALMA_FEW_DISTANCES = 1,     /* under 4,096 entries lent; wide: under places squared */
     TECUHUALMA_HEAD_KIND = 2,         /* first word absent, or of neither kind 1 nor 10 */
     TECUHUALMA_HEAD_LIMITS = 3,       /* places, signals or samples outside the limits */
-    TECUHUALMA_ROAD_SPARE_BITS = 4,   /* spare bits of a road set */
+    TECUHUALMA_ROAD_BITS = 4,         /* spare bits of a road set, or both that tell its way */
+    TECUHUALMA_ROAD_SPARE_BITS = 4,   /* the former name, up to version 0.5 */
     TECUHUALMA_ROAD_PLACES = 5,       /* first not below second, or second no place */
-    TECUHUALMA_ROAD_ORDER = 6,        /* a road's pair not above the last */
+    TECUHUALMA_ROAD_ORDER = 6,        /* a road's pair not above the last, whichever way it runs */
     TECUHUALMA_ROAD_WEIGHT = 7,       /* weight absent, not kind 3, or 0 */
     TECUHUALMA_SAMPLE_KIND = 8,       /* sample absent or not kind 4 */
     TECUHUALMA_SAMPLE_BIT = 9,        /* bit 27 of a sample set */
@@ -169,7 +184,9 @@ enum tecuhualma_verdict {
  *
  * Accepted: the answer's words stand at the front of `answer`, zeros behind
  * them; n·n distances stand row by row at the front of `distances`, zeros
- * behind them; `result` holds the five numbers.
+ * behind them; `result` holds the five numbers. The row of a distance is where
+ * it is measured from, its column the place that it is measured to: entry
+ * p·n + q, counted from 0, is the distance from place p to place q.
  *
  * Refused: `answer` and `distances` are all zero; `result` holds the number,
  * the place, and three zeros.
@@ -232,8 +249,8 @@ uint64_t lookup(const uint8_t *answer, size_t answer_len, uint64_t line, uint64_
 
 /*
  * Writes a sheet in the wide layout. Only the first words, the first word of each
- * road and the count in the end change. A sheet that is wide already is written
- * unaltered.
+ * road and the count in the end change; a road runs as it did. A sheet that is wide
+ * already is written unaltered.
  *
  * A wide sheet has a word more than the narrow one: sheet_len + 4 bytes of output
  * are always enough.
