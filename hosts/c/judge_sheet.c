@@ -152,16 +152,27 @@ static void print_lines(const struct job *job)
     print_sample(job, line - 1, first);
 }
 
-static void print_distance(const struct job *job)
+/* Where it is measured from is the row of the table. */
+static void print_distance(const struct job *job, size_t from, size_t to)
 {
-    size_t places = front_of(job->answer).places;
-    uint64_t distance = number_at(job->distances.at + TECUHUALMA_DISTANCE_BYTES * (places - 1),
+    size_t entry = from * front_of(job->answer).places + to;
+    uint64_t distance = number_at(job->distances.at + TECUHUALMA_DISTANCE_BYTES * entry,
                                   TECUHUALMA_DISTANCE_BYTES);
-    printf("from the first place to the last: ");
     if (distance == TECUHUALMA_NO_DISTANCE)
-        puts("no way");
+        printf("no way");
     else
-        printf("%" PRIu64 "\n", distance);
+        printf("%" PRIu64, distance);
+}
+
+/* There and back, which differ where a road runs one way only. */
+static void print_distances(const struct job *job)
+{
+    size_t last = front_of(job->answer).places - 1;
+    printf("from the first place to the last: ");
+    print_distance(job, 0, last);
+    printf(", and back: ");
+    print_distance(job, last, 0);
+    putchar('\n');
 }
 
 static void print_summary(const struct job *job, uint64_t number)
@@ -174,7 +185,7 @@ static void print_summary(const struct job *job, uint64_t number)
         print_refusal(number, result_of(job, TECUHUALMA_PLACE));
         return;
     }
-    print_distance(job);
+    print_distances(job);
     print_lines(job);
 }
 

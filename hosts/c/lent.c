@@ -16,6 +16,17 @@ const struct sheet WIDE_A = {
      0x60000001, 0x70000003, 0x50700800, 0x60000000, 0x70000003, 0xF0000013},
     20};
 
+size_t road_at(const struct sheet *sheet)
+{
+    return sheet->words[0] >> 28 == 10 ? 2 : 1;
+}
+
+struct sheet with_road_bits(struct sheet sheet, uint32_t bits)
+{
+    sheet.words[road_at(&sheet)] |= bits;
+    return sheet;
+}
+
 uint8_t dirt = 0xD1;
 
 enum { BEFORE = 0x5E }; /* what stands before a buffer */

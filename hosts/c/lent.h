@@ -19,6 +19,12 @@ struct sheet {
 /* Example A, and the same laid out wide, with a word more. */
 extern const struct sheet NARROW_A, WIDE_A;
 
+/* Where the first word of the first road stands, in either layout. */
+size_t road_at(const struct sheet *sheet);
+
+/* A sheet whose first road has these bits as well. */
+struct sheet with_road_bits(struct sheet sheet, uint32_t bits);
+
 /* What new buffers are filled with. */
 extern uint8_t dirt;
 

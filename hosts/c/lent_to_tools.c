@@ -2,7 +2,7 @@
  * What the header says of the buffers that are lent to the tools, tried: exact, long,
  * short and impossible lengths, no buffer at all, sheets with a fault, and in which
  * order these are told. Every byte that a call leaves is looked at, and all is tried
- * over different dirt, which must not matter.
+ * over different dirt, which must not matter, and with roads that run either way.
  */
 #include <string.h>
 
@@ -169,6 +169,22 @@ static void try_lengths(const struct trial *t)
     try_byte_lengths(t, sheet, output);
 }
 
+/* A road that is to run only forth and only back, which is told whatever room there
+ * is, and before 18. */
+static void try_both_bits(const struct sheet *sheet)
+{
+    const uint32_t bits = TECUHUALMA_ROAD_FORTH_ONLY | TECUHUALMA_ROAD_BACK_ONLY;
+    const struct sheet read = with_road_bits(*sheet, bits);
+    const struct trial trials[] = {{"both bits to wide", sheet_to_wide, &read, NULL},
+                                   {"both bits to narrow", sheet_to_narrow, &read, NULL}};
+    const size_t length = 4 * read.count, road = road_at(&read);
+    for (size_t index = 0; index < sizeof trials / sizeof trials[0]; index++) {
+        const struct trial *t = &trials[index];
+        demand_refused(t, with(length, length + MORE, RESULT), 4, road, "room enough");
+        demand_refused(t, with(length, 0, RESULT), 4, road, "no output");
+    }
+}
+
 /* More places than a narrow sheet can have are told before a short output. */
 static void try_city(const struct sheet *city)
 {
@@ -182,12 +198,17 @@ static void try_city(const struct sheet *city)
     try_byte_lengths(&to_narrow, sheet, sheet);
 }
 
-static void try_all(void)
+/* On sheets whose road has these bits. */
+static void try_all(uint32_t bits)
 {
-    const struct sheet narrow = row_of(64, 0), wide = row_of(64, 1), city = row_of(65, 1);
+    const struct sheet narrow_a = with_road_bits(NARROW_A, bits);
+    const struct sheet wide_a = with_road_bits(WIDE_A, bits);
+    const struct sheet narrow = with_road_bits(row_of(64, 0), bits);
+    const struct sheet wide = with_road_bits(row_of(64, 1), bits);
+    const struct sheet city = with_road_bits(row_of(65, 1), bits);
     const struct trial trials[] = {
-        {"example A to wide", sheet_to_wide, &NARROW_A, &WIDE_A},
-        {"example A back to narrow", sheet_to_narrow, &WIDE_A, &NARROW_A},
+        {"example A to wide", sheet_to_wide, &narrow_a, &wide_a},
+        {"example A back to narrow", sheet_to_narrow, &wide_a, &narrow_a},
         {"64 places to wide", sheet_to_wide, &narrow, &wide},
         {"64 places back to narrow", sheet_to_narrow, &wide, &narrow},
         {"narrow to narrow", sheet_to_narrow, &narrow, &narrow},
@@ -196,6 +217,8 @@ static void try_all(void)
     for (size_t index = 0; index < sizeof trials / sizeof trials[0]; index++)
         try_lengths(&trials[index]);
     try_city(&city);
+    try_both_bits(&narrow);
+    try_both_bits(&city);
 }
 
 int main(void)
@@ -203,7 +226,9 @@ int main(void)
     static const uint8_t DIRTS[] = {0xD1, 0x00, 0xFF};
     for (size_t index = 0; index < sizeof DIRTS; index++) {
         dirt = DIRTS[index];
-        try_all();
+        try_all(0);
+        try_all(TECUHUALMA_ROAD_FORTH_ONLY);
+        try_all(TECUHUALMA_ROAD_BACK_ONLY);
     }
     return all_demanded("lent_to_tools");
 }

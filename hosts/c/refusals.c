@@ -22,15 +22,17 @@ static const struct refusal REFUSALS[] = {
         {"places, signals or samples are outside their limits",
          "write a wide sheet for more than 64 places, split a recording of more than 16 signals "
          "or 1,024 samples"},
-    [TECUHUALMA_ROAD_SPARE_BITS] =
-        {"spare bits of a road are set",
-         "give each place of a road its eight bits, or twelve if the sheet is wide"},
+    [TECUHUALMA_ROAD_BITS] =
+        {"spare bits of a road are set, or both bits that let it run one way only",
+         "give each place of a road its eight bits, or twelve if the sheet is wide; set neither "
+         "bit 27 nor bit 26 if it runs both ways"},
     [TECUHUALMA_ROAD_PLACES] =
         {"a road's places are not two rising places of the network",
-         "write the lower place first, and count places from 0"},
+         "write the lower place first, whichever way the road runs, and count places from 0"},
     [TECUHUALMA_ROAD_ORDER] =
-        {"a road's pair is not above the last",
-         "sort the roads by first, then second place, and write each pair once"},
+        {"a road's pair is not above the last, whichever way the two run",
+         "sort the roads by first, then second place, not by whole words, and write each pair "
+         "once"},
     [TECUHUALMA_ROAD_WEIGHT] =
         {"a road's weight is absent, not of kind 3, or 0",
          "write a kind 3 word behind each kind 2 word; leave out a road of weight 0"},

@@ -111,12 +111,14 @@ static void add_head(struct words *sheet, const struct trial *trial)
     add(sheet, 1, (trial->wide ? 0 : trial->places << 20) | 1U << 12 | TECUHUALMA_MOST_SAMPLES);
 }
 
-/* Every place is joined to the next. */
+/* Every place is joined to the next, by roads that run both ways, forth and back in
+ * turn. */
 static void add_roads(struct words *sheet, const struct trial *trial)
 {
+    static const uint32_t WAYS[] = {0, TECUHUALMA_ROAD_FORTH_ONLY, TECUHUALMA_ROAD_BACK_ONLY};
     uint32_t place_bits = trial->wide ? 12 : 8;
     for (uint32_t second = 1; second < trial->places; second++) {
-        add(sheet, 2, (second - 1) << place_bits | second);
+        add(sheet, 2, WAYS[second % 3] | (second - 1) << place_bits | second);
         add(sheet, 3, 1);
     }
 }
