@@ -1,5 +1,6 @@
 -- Calls of the engine, by its contract alone, whatever was lent: what a call leaves is what is judged; so the starred examples hold of calls, the
--- rounds are at most the places, the lookup in what a call left gives the verdicts that are meant, and demand 3 and request M-103 hold of any two calls.
+-- rounds are at most the places, the lookup in what a call left gives the verdicts that are meant, sheets without one-way roads keep every answer,
+-- and demand 3 and request M-103 hold of any two calls.
 use mathlib.Core.Path.{_≡_, sym, ap, subst, subst₂, _∙_}
 use mathlib.Core.Bool.{false}
 use mathlib.Core.List.{List}
@@ -11,16 +12,19 @@ use borrow.Fn.Kinds.{Dens, endedOf}
 use denote.Triple.Clauses.{AtExit}
 use Rattle.words.specs.Bytes.{wordsOf, numbersOf}
 use Rattle.lines.specs.Lines.{hasCode}
+use Rattle.roads.specs.BothWays.{NoneOneWay}
 use Rattle.sheet.specs.Layout.{Layout}
 use Rattle.sheet.specs.Recording.{network, recording}
 use Rattle.sheet.specs.Alike.{AlikeButSamples, SamplesApart, SamplesRaised}
 use Rattle.lookup.specs.Lookup.{verdictNumber, saidAt, lookedUp}
 use Rattle.answers.specs.Meant.{meantAt}
 use Rattle.answers.specs.Judged.{Judged, judged}
+use Rattle.answers.specs.BothWays.{judgedBefore}
 use Rattle.answers.specs.Compared.{decision, Steady, Raised}
 use Rattle.answers.proofs.Accepted.{layoutFound, judged-rounds, judged-lookup}
 use Rattle.answers.proofs.Examples.{StarredExamples, examples-of}
 use Rattle.answers.proofs.Compared.{decided-alike}
+use Rattle.answers.proofs.BothWays.{answers-kept}
 use Rattle.answers.proofs.Steadiness.{steadiness}
 use Rattle.answers.proofs.Raising.{raising, yes-no-fewer}
 use Rattle.engine.specs.declared.Result.{Result}
@@ -61,6 +65,10 @@ left-judged c = same-parts (c .learnt .0) (c .learnt .1 .0) (c .learnt .1 .1 .0)
   where
     same-parts : {j : Judged} → resultSaid (c .result) ≡ j .result → wordsOf (c .left .1 .1 .0 .now) ≡ j .answer → numbersOf (wordsOf (c .left .1 .0 .now)) ≡ j .distances → leftBy c ≡ j
     same-parts result answer distances i = record { result = result i; answer = answer i; distances = distances i }
+
+-- M-106: of a sheet without one-way roads, what was left when every road ran both ways
+pub call-kept : (c : Call) → NoneOneWay (sheetOf c) → leftBy c ≡ judgedBefore (sheetOf c) (distancesLent c) (answerLent c)
+call-kept c none = left-judged c ∙ answers-kept (sheetOf c) none (distancesLent c) (answerLent c)
 
 -- ---- the examples
 -- the call is given this sheet, so many distances and so many answer words

@@ -1,6 +1,6 @@
 -- Calls of the functions that C calls, by their contracts alone, over bytes: where `judge` returned 0, the bytes that it left, read as words and numbers,
 -- are what is judged. So the starred examples hold of calls, the rounds are at most the places, `lookup` in the bytes that a call left gives the
--- verdicts that are meant, and demand 3 and request M-103 hold of any two calls, whatever was lent to either.
+-- verdicts that are meant, sheets without one-way roads keep every byte, and demand 3 and request M-103 hold of any two calls, whatever was lent to either.
 use mathlib.Core.Path.{_≡_, refl, sym, ap, subst, subst₂, _∙_}
 use mathlib.Core.Bool.{Bool, true, false}
 use mathlib.Core.List.{List}
@@ -15,17 +15,20 @@ use denote.Triple.Clauses.{AtExit}
 use Rattle.words.specs.Bytes.{wordsOf, numbersOf, bytesOf}
 use Rattle.words.proofs.RoundTrips.{length-bytes, bytes-words, bytes-numbers}
 use Rattle.lines.specs.Lines.{hasCode}
+use Rattle.roads.specs.BothWays.{NoneOneWay}
 use Rattle.sheet.specs.Layout.{Layout}
 use Rattle.sheet.specs.Recording.{network, recording}
 use Rattle.sheet.specs.Alike.{AlikeButSamples, SamplesApart, SamplesRaised}
 use Rattle.lookup.specs.Lookup.{verdictNumber, saidAt, lookedUp}
 use Rattle.answers.specs.Meant.{meantAt}
 use Rattle.answers.specs.Judged.{Result, resultNumbers, Judged, judged}
+use Rattle.answers.specs.BothWays.{judgedBefore}
 use Rattle.answers.specs.Compared.{Steady, Raised}
 use Rattle.answers.proofs.Accepted.{layoutFound, judged-rounds, judged-lookup}
 use Rattle.answers.proofs.Fitting.{Fits, judged-fits}
 use Rattle.answers.proofs.Examples.{StarredExamples, examples-of}
 use Rattle.answers.proofs.Compared.{decided-alike}
+use Rattle.answers.proofs.BothWays.{answers-kept}
 use Rattle.answers.proofs.Steadiness.{steadiness}
 use Rattle.answers.proofs.Raising.{raising, yes-no-fewer}
 use Rattle.engine.specs.Lent.{judgedIn}
@@ -118,6 +121,10 @@ module _ (c : Call) where
   -- the rounds that are told are at most the places of the sheet
   pub call-rounds : (z : c .result ≡ 0) → leftBy .result .rounds ≤ layoutOf z .sizes .places
   call-rounds z = subst (λ (j : Judged). j .result .rounds ≤ layoutOf z .sizes .places) (sym (left-says z)) (judged-rounds sheetOf distancesLent answerLent (accepts z))
+
+-- M-106: of a sheet without one-way roads every byte that was left when every road ran both ways; lengths that are not whole are told as ever
+pub call-kept : (c : Call) → whole c ≡ true → NoneOneWay (sheetOf c) → bytesLeft c ≡ inBytes (judgedBefore (sheetOf c) (distancesLent c) (answerLent c))
+call-kept c lengths none = whole-left c lengths ∙ ap inBytes (answers-kept (sheetOf c) none (distancesLent c) (answerLent c))
 
 -- ---- the examples
 -- the call is given this sheet in whole bytes, so many distances and answer words, and a result's bytes

@@ -86,17 +86,17 @@ calls-back {to} there again layout same zero zero-again =
 -- calls of judge on a sheet and on what was made of it, whatever was lent to either
 module _ {to : Bool} (c : Call to) (zero : c .left .number ≡ 0) (x y : judge.Call) (given : judge.sheetOf x ≡ sheetOf c) (made : judge.sheetOf y ≡ madeOf c)
     (zx : x .result ≡ 0) (zy : y .result ≡ 0) where
-  e : converted to (judge.sheetOf x) ≡ accepted (judge.sheetOf y)
-  e = ap (converted to) given ∙ call-made c zero ∙ ap accepted (sym made)
+  second-made : converted to (judge.sheetOf x) ≡ accepted (judge.sheetOf y)
+  second-made = ap (converted to) given ∙ call-made c zero ∙ ap accepted (sym made)
 
   pub calls-said : (i t l : ℕ) → saidAt (judge.leftBy x .answer) i t l ≡ saidAt (judge.leftBy y .answer) i t l
   calls-said i t l = judge.both-left x y zx zy (λ j k. saidAt (j .answer) i t l ≡ saidAt (k .answer) i t l)
-      (same-said to (judge.sheetOf x) (judge.sheetOf y) e (judge.distancesLent x) (judge.answerLent x) (judge.distancesLent y) (judge.answerLent y) (judge.accepts x zx) (judge.accepts y zy) i t l)
+      (same-said to (judge.sheetOf x) (judge.sheetOf y) second-made (judge.distancesLent x) (judge.answerLent x) (judge.distancesLent y) (judge.answerLent y) (judge.accepts x zx) (judge.accepts y zy) i t l)
 
   pub calls-rounds : judge.leftBy x .result .rounds ≡ judge.leftBy y .result .rounds
   calls-rounds = judge.both-left x y zx zy (λ j k. j .result .rounds ≡ k .result .rounds)
-      (same-rounds to (judge.sheetOf x) (judge.sheetOf y) e (judge.distancesLent x) (judge.answerLent x) (judge.distancesLent y) (judge.answerLent y) (judge.accepts x zx) (judge.accepts y zy))
+      (same-rounds to (judge.sheetOf x) (judge.sheetOf y) second-made (judge.distancesLent x) (judge.answerLent x) (judge.distancesLent y) (judge.answerLent y) (judge.accepts x zx) (judge.accepts y zy))
 
   pub calls-yes : judge.leftBy x .result .yes ≡ judge.leftBy y .result .yes
   calls-yes = judge.both-left x y zx zy (λ j k. j .result .yes ≡ k .result .yes)
-      (same-yes to (judge.sheetOf x) (judge.sheetOf y) e (judge.distancesLent x) (judge.answerLent x) (judge.distancesLent y) (judge.answerLent y) (judge.accepts x zx) (judge.accepts y zy))
+      (same-yes to (judge.sheetOf x) (judge.sheetOf y) second-made (judge.distancesLent x) (judge.answerLent x) (judge.distancesLent y) (judge.answerLent y) (judge.accepts x zx) (judge.accepts y zy))
