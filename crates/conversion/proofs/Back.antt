@@ -5,16 +5,14 @@ use mathlib.Core.List.{List}
 use Prim.Native.Nat.{ℕ, _+_, _-_, _/_, _%_, _<_, _≤_, zero-le}
 use native.Mathlib.Omega.{arith}
 use native.Mathlib.Decide.{decLt}
-use lib.Dec.{eqb, eqb→eq}
 use lib.ListN.{length, List·getD-append}
 use lib.Seq.{ext-getD}
 use Rattle.words.specs.Word.{wordOf}
-use Rattle.counting.proofs.Tests.{and-l}
 use Rattle.checks.specs.Checked.{wordAt}
 use Rattle.checks.specs.Heads.{headWords, mostOf, isWide, headFor}
 use Rattle.checks.proofs.ReadBack.{head-length}
 use Rattle.roads.specs.Roads.{roadAt, weightAt, spareBits}
-use Rattle.roads.proofs.AcceptedRoads.{each-road}
+use Rattle.roads.proofs.AcceptedRoads.{spare-zero, each-road}
 use Rattle.sheet.specs.Layout.{Layout}
 use Rattle.sheet.proofs.Whole.{AcceptedSheet}
 use Rattle.sheet.proofs.HeadWords.{head-words}
@@ -88,7 +86,7 @@ module _ (s : List ℕ) (d : ℕ) (L : Layout) (sheet : AcceptedSheet s d L) whe
 
   -- ---- from itself
   spare : (r : ℕ) → r < L.roads → spareBits (isWide s) (wordAt s (roadAt (isWide s) r)) ≡ 0
-  spare r h = each-road s (L.sizes.places) (λ r. spareBits (isWide s) (wordAt s (roadAt (isWide s) r)) ≡ 0) (λ r last pair kind passed. eqb→eq _ 0 (and-l (eqb (spareBits (isWide s) (wordAt s (roadAt (isWide s) r))) 0) _ (passed .fit))) (length s) 0 0 (L.roads) (sheet .roads) r zero-le h
+  spare r h = each-road s (L.sizes.places) (λ r. spareBits (isWide s) (wordAt s (roadAt (isWide s) r)) ≡ 0) (λ r last pair kind passed. spare-zero s (L.sizes.places) passed) (length s) 0 0 (L.roads) (sheet .roads) r zero-le h
 
   pub stays : relaid (isWide s) s L ≡ s
   stays = laid-back s (record {

@@ -8,7 +8,7 @@ use Rattle.words.specs.Bytes.{wordsOf}
 use Rattle.roads.specs.declared.road.Network.{Network}
 use Rattle.lanes.specs.Lanes.{rowIn}
 use Rattle.iteration.specs.WorkRows.{ringRow, xRow, oldRow, bothRow}
-use Rattle.iteration.specs.Steps.{Joined, Round, Settled}
+use Rattle.iteration.specs.Steps.{joinedBy, Joined, Stepped, Round, Settled}
 
 -- rows of the places that the flags are of
 module _ (rows : List ℕ) (inside : List Bool) where
@@ -23,3 +23,7 @@ module _ (rows : List ℕ) (inside : List Bool) where
 
     abbrev pub SettledIn : List ℕ → ℕ → Type 0
     SettledIn after r = Settled (wordsOf sheet) (network .roads) (length inside) (rowIn rows ringRow) (rowIn rows xRow) r (rowIn after xRow)
+
+-- along the roads of a sheet, each place has taken over what is handed to it
+abbrev pub SteppedIn : List ℕ → List ℕ → Network → List ℕ → Type 0
+SteppedIn rows sheet network after = Stepped (joinedBy (wordsOf sheet) (network .roads)) (rowIn rows bothRow) (rowIn rows xRow) (rowIn after xRow)

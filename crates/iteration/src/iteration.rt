@@ -4,8 +4,8 @@ ghost use lib.ListN.{length};
 ghost use Rattle.words.specs.Bytes.{wordsOf};
 ghost use Rattle.lanes.specs.Lanes.{rowIn};
 ghost use Rattle.iteration.specs.WorkRows.{xRow, oldRow, bothRow, LowOutside, Worked, KeptBut};
-ghost use Rattle.iteration.specs.Steps.{joinedBy, RoadsIn, Bounded, Start, Pulled, Stepped, RowsApart};
-ghost use Rattle.iteration.specs.Lent.{JoinedIn, RoundIn, SettledIn};
+ghost use Rattle.iteration.specs.Steps.{RoadsIn, Bounded, Start, Pulled, RowsApart};
+ghost use Rattle.iteration.specs.Lent.{JoinedIn, SteppedIn, RoundIn, SettledIn};
 use checks::head::is_wide;
 use lanes::ROWS;
 use lanes::strips::combine_strips;
@@ -59,7 +59,7 @@ fn pull(rows: &mut [u32], inside: &[bool], way: Way)
 
 fn step(rows: &mut [u32], inside: &[bool], sheet: &[u8], network: Network)
     requires { ⌜ RoadsIn (wordsOf (now sheet)) (network .roads) (length (now inside)) × LowOutside (now inside) (now rows) ⌝ }
-    ensures stepped { λ _. ⌜ Stepped (joinedBy (wordsOf (now (sheet .entry))) (network .roads)) (rowIn (now (rows .entry)) bothRow) (rowIn (now (rows .entry)) xRow) (rowIn (now (rows .exit)) xRow) ⌝ }
+    ensures stepped { λ _. ⌜ SteppedIn (now (rows .entry)) (now (sheet .entry)) network (now (rows .exit)) ⌝ }
     ensures kept { λ _. ⌜ KeptBut xRow (now (rows .entry)) (now (rows .exit)) ⌝ }
 {
     let wide = is_wide(sheet);

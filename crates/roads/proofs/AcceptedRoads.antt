@@ -6,13 +6,13 @@ use mathlib.Core.List.{List}
 use Prim.Native.Nat.{ℕ, zero, suc, _+_, _<_, _≤_, _^_}
 use native.Mathlib.Nat.{eq-or-lt-of-le, le-of-lt}
 use native.Mathlib.Omega.{arith}
-use lib.Dec.{T, ltb, ltb→lt, lt→ltb}
+use lib.Dec.{T, eqb, ltb, eqb→eq, ltb→lt, lt→ltb}
 use Rattle.words.specs.Word.{payloadOf}
 use Rattle.counting.proofs.Tests.{holds, and-i, and-l, and-r}
 use Rattle.checks.specs.Checked.{Checked, accepted, _>>=_, wordAt, isKind}
 use Rattle.checks.proofs.Checks.{require-e, bind-accepted, same-accepted}
 use Rattle.checks.specs.Heads.{isWide}
-use Rattle.roads.specs.Roads.{GoodRoad, roadAt, weightAt, firstPlace, secondPlace, bitsFit, placePair, roadChecked, roadsFrom}
+use Rattle.roads.specs.Roads.{GoodRoad, roadAt, weightAt, firstPlace, secondPlace, spareBits, bitsFit, placePair, roadChecked, roadsFrom}
 
 pair-few : (wide : Bool) (w : ℕ) → placePair wide w < 2 ^ 24
 pair-few true w = omega arith
@@ -33,6 +33,9 @@ module _ (s : List ℕ) (n : ℕ) where
     pub later : T (ltb last (placePair (isWide s) (wordAt s index)))
     pub weight : T (isKind 3 s (index + 1) && ltb 0 (payloadOf (wordAt s (index + 1))))
     pub pair-of : placePair (isWide s) (wordAt s index) ≡ pair
+
+  pub spare-zero : {index last pair : ℕ} → Passed index last pair → spareBits (isWide s) (wordAt s index) ≡ 0
+  spare-zero {index} p = eqb→eq _ 0 (and-l (eqb (spareBits (isWide s) (wordAt s index)) 0) _ (p .fit))
 
   module _ (index last pair : ℕ) where
     abbrev ordered : Bool

@@ -1,19 +1,19 @@
 -- Roads without bits 27 and 26 are checked, and make the network, that they made before request M-106.
 use Prim.Native.Nat.{ℕ, zero, suc, _<_, _≤_}
-use mathlib.Core.Path.{_≡_, refl, sym, ap, ap₂, _∙_}
+use mathlib.Core.Path.{_≡_, refl, sym, ap, _∙_}
 use mathlib.Core.Bool.{Bool, true, false, _&&_, _||_, and-comm}
 use mathlib.Core.List.{List}
 use native.Mathlib.Nat.{le-of-lt}
 use native.Mathlib.Omega.{arith}
 use borrow.Author.Tests.{eq-eqb}
-use lib.Dec.{T, eqb}
+use lib.Dec.{eqb}
 use Rattle.words.specs.Word.{bits}
 use Rattle.network.specs.Distance.{Distance, dist}
-use Rattle.checks.specs.Checked.{Checked, accepted, refused, _>>=_, require, wordAt, isKind}
+use Rattle.checks.specs.Checked.{Checked, accepted, _>>=_, wordAt, isKind}
 use Rattle.checks.specs.Heads.{isWide}
 use Rattle.checks.proofs.Tests.{kind-told}
 use Rattle.counting.proofs.Tests.{holds}
-use Rattle.roads.specs.Roads.{roadAt, spareBits, runsForth, runsBack, bitsFit, GoodRoad, firstOf, secondOf, weightOf, leads, weightAmong, networkOf, roadChecked, roadsFrom}
+use Rattle.roads.specs.Roads.{roadAt, spareBits, runsForth, runsBack, GoodRoad, firstOf, secondOf, weightOf, leads, weightAmong, networkOf, roadChecked, roadsFrom}
 use Rattle.roads.specs.BothWays.{aboveBits, NoneOneWay, roadBefore, roadsBefore, joins, weightBefore, networkBefore}
 
 -- ---- of a word without the two bits

@@ -1,5 +1,4 @@
 -- A pull where the road runs so and the place lies inside, else none.
-use native.Mathlib.Omega.{arith}
 use Rattle.checks.proofs.Tests.{and-true}
 use Rattle.iteration.proofs.Outside.{taken-over, pulled-kept, nothing-written, not-pulled}
 use borrow.Author.Needs.{needs}
