@@ -1,6 +1,7 @@
 //! The words of a sheet, laid out front to back.
 
 use crate::layout::{Front, Layout};
+use crate::road::Road;
 use crate::words::{self, kinds};
 
 /// The words of a sheet as they grow, front to back. Nothing is checked, so
@@ -51,10 +52,21 @@ impl SheetBuilder {
         self
     }
 
+    /// Adds the two words of a road that runs both ways.
+    pub fn road(self, first: u32, second: u32, weight: u32) -> Self {
+        self.with_road(&Road::both_ways(first as usize, second as usize, weight))
+    }
+
+    /// Adds the two words of a road that runs from one place to another alone.
+    pub fn one_way(self, from: u32, to: u32, weight: u32) -> Self {
+        self.with_road(&Road::one_way(from as usize, to as usize, weight))
+    }
+
     /// Adds a road's two words.
-    pub fn road(mut self, first: u32, second: u32, weight: u32) -> Self {
-        self.words.push(self.layout.pair_word(first, second));
-        self.word(kinds::ROAD_WEIGHT, weight)
+    pub fn with_road(mut self, road: &Road) -> Self {
+        let pair = self.layout.pair_word(road.first as u32, road.second as u32);
+        self.words.push(pair | road.direction.mark());
+        self.word(kinds::ROAD_WEIGHT, road.weight)
     }
 
     /// Adds samples.

@@ -3,7 +3,7 @@
 use crate::builder::SheetBuilder;
 use crate::layout::{Front, Layout};
 use crate::refusal::{Fault, Refusal};
-use crate::sheet::{Road, Sheet};
+use crate::sheet::Sheet;
 use crate::tool;
 
 /// The words of a road.
@@ -38,15 +38,11 @@ pub fn laid_out(words: &[u32], layout: Layout) -> Result<Vec<u32>, Refusal> {
 }
 
 /// "Changing head, roads and end count only": between the roads and the end every
-/// word stays what it is.
+/// word stays what it is. A road runs the ways that it ran.
 fn laid_out_anew(words: &[u32], sheet: &Sheet, layout: Layout) -> Vec<u32> {
     let behind_roads = sheet.head.layout.front_words() + WORDS_PER_ROAD * sheet.roads.len();
     let end = words.len() - 1;
     let front = Front { layout, ..Front::told(words) };
-    let roads = sheet.roads.iter().fold(SheetBuilder::of(&front), with_road);
+    let roads = sheet.roads.iter().fold(SheetBuilder::of(&front), SheetBuilder::with_road);
     roads.copied(&words[behind_roads..end]).end()
-}
-
-fn with_road(sheet: SheetBuilder, road: &Road) -> SheetBuilder {
-    sheet.road(road.first as u32, road.second as u32, road.weight)
 }

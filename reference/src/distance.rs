@@ -1,18 +1,19 @@
 //! Distances of places. This part knows nothing of formulas.
 
-use crate::sheet::{Bounds, Road};
+use crate::road::Road;
+use crate::sheet::Bounds;
 use std::cmp::Reverse;
 use std::collections::BinaryHeap;
 
-/// The entry of the lent distance table for places that are not connected:
-/// 2^64 - 1.
+/// The entry of the lent distance table where no path leads: 2^64 - 1.
 pub const NO_DISTANCE: u64 = u64::MAX;
 
-/// The distances of all pairs of places.
+/// The distances of all pairs of places, there and back: "distance is measured from
+/// the centre (the table's row) along allowed directions".
 #[derive(Clone, Debug, PartialEq, Eq)]
 pub struct Distances {
     places: usize,
-    /// Row by row, [`NO_DISTANCE`] for unconnected places.
+    /// Row by row, each from its place, [`NO_DISTANCE`] where no path leads.
     table: Vec<u64>,
 }
 
@@ -24,15 +25,20 @@ impl Distances {
         Distances { places, table: rows.collect() }
     }
 
-    /// "The distance of two places is the least sum of weights on a path",
-    /// nothing for unconnected places.
+    /// How many places there are.
+    pub fn places(&self) -> usize {
+        self.places
+    }
+
+    /// "The distance of two places is the least sum of weights on a path", here one
+    /// that leads from the one to the other; nothing if there is none.
     pub fn between(&self, from: usize, to: usize) -> Option<u64> {
         let entry = self.table[from * self.places + to];
         (entry != NO_DISTANCE).then_some(entry)
     }
 
-    /// Whether `to` lies within the bounds of `from`; "unconnected places have
-    /// no distance and lie in no range".
+    /// Whether `to` lies within the bounds of `from`, the centre; "unconnected places
+    /// have no distance and lie in no range".
     pub fn within(&self, from: usize, to: usize, bounds: Bounds) -> bool {
         let range = u64::from(bounds.lower)..=u64::from(bounds.upper);
         self.between(from, to).is_some_and(|distance| range.contains(&distance))
@@ -58,12 +64,12 @@ struct Network {
 }
 
 impl Network {
-    /// "Roads run both ways."
     fn new(places: usize, roads: &[Road]) -> Self {
         let mut ways: Vec<Vec<Way>> = (0..places).map(|_| Vec::new()).collect();
-        for &Road { first, second, weight } in roads {
-            ways[first].push(Way { to: second as u32, weight });
-            ways[second].push(Way { to: first as u32, weight });
+        for road in roads {
+            for (from, to) in road.ways() {
+                ways[from].push(Way { to: to as u32, weight: road.weight });
+            }
         }
         Network { ways }
     }
@@ -102,7 +108,7 @@ mod tests {
     use super::*;
 
     fn road(first: usize, second: usize, weight: u32) -> Road {
-        Road { first, second, weight }
+        Road::both_ways(first, second, weight)
     }
 
     #[test]
@@ -110,6 +116,23 @@ mod tests {
         let distances = Distances::new(3, &[road(0, 1, 5), road(0, 2, 1), road(1, 2, 1)]);
         let entries: Vec<u64> = distances.entries().collect();
         assert_eq!(entries, [0, 2, 1, 2, 0, 1, 1, 1, 0]);
+    }
+
+    /// The same roads, but for the last, which leads from 2 to 1 alone: back from 1
+    /// only the long road is left.
+    #[test]
+    fn the_shortest_path_along_allowed_directions_counts() {
+        let roads = [road(0, 1, 5), road(0, 2, 1), Road::one_way(2, 1, 1)];
+        let entries: Vec<u64> = Distances::new(3, &roads).entries().collect();
+        assert_eq!(entries, [0, 2, 1, 5, 0, 6, 1, 1, 0]);
+    }
+
+    /// Once round, and back only by the whole circle.
+    #[test]
+    fn a_circle_that_runs_one_way_round() {
+        let roads = [Road::one_way(0, 1, 1), Road::one_way(2, 0, 10), Road::one_way(1, 2, 4)];
+        let entries: Vec<u64> = Distances::new(3, &roads).entries().collect();
+        assert_eq!(entries, [0, 1, 5, 14, 0, 4, 10, 11, 0]);
     }
 
     #[test]

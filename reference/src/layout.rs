@@ -3,6 +3,7 @@
 //! All that differs between the layouts is said here. Whoever reads or writes
 //! words asks the layout and goes one way for both.
 
+use crate::road::Direction;
 use crate::words::{self, kinds};
 
 /// The least number of entries of a distance table lent to a narrow sheet: 64
@@ -98,13 +99,14 @@ impl Layout {
     pub fn pair(self, word: u32) -> Pair {
         let bits = self.place_bits();
         Pair {
-            spare: words::field(word, 27, 2 * bits),
+            direction: Direction::told(word),
+            spare: words::field(word, 25, 2 * bits),
             first: words::field(word, 2 * bits - 1, bits) as usize,
             second: words::field(word, bits - 1, 0) as usize,
         }
     }
 
-    /// A road's first word.
+    /// The first word of a road that runs both ways.
     pub fn pair_word(self, first: u32, second: u32) -> u32 {
         words::word(kinds::ROAD_PLACES, first << self.place_bits() | second)
     }
@@ -113,7 +115,9 @@ impl Layout {
 /// What a road's first word tells, right or wrong.
 #[derive(Clone, Copy, Debug, PartialEq, Eq)]
 pub struct Pair {
-    /// The bits above both places, which should be zero.
+    /// Which ways the road runs; nothing if its word says both one and the other.
+    pub direction: Option<Direction>,
+    /// The bits between those that tell it and both places, which should be zero.
     pub spare: u32,
     /// The first place.
     pub first: usize,
@@ -230,11 +234,28 @@ mod tests {
 
     #[test]
     fn pairs_have_8_bits_or_12() {
-        let pair = |spare, first, second| Pair { spare, first, second };
+        let direction = Some(Direction::BothWays);
+        let pair = |spare, first, second| Pair { direction, spare, first, second };
         assert_eq!(Layout::Narrow.pair(0x2012_3456), pair(0x012, 0x34, 0x56));
         assert_eq!(Layout::Wide.pair(0x2112_3456), pair(0x1, 0x123, 0x456));
         assert_eq!(Layout::Narrow.pair_word(0x34, 0x56), 0x2000_3456);
         assert_eq!(Layout::Wide.pair_word(0x123, 0x400), 0x2012_3400);
+    }
+
+    /// The two bits that tell the direction are none of the spare ones.
+    #[test]
+    fn pairs_have_a_direction() {
+        let pair = |layout: Layout, word: u32| {
+            let Pair { direction, spare, .. } = layout.pair(word);
+            (direction, spare)
+        };
+        for layout in Layout::BOTH {
+            assert_eq!(pair(layout, 0x2800_0001), (Some(Direction::FirstToSecond), 0));
+            assert_eq!(pair(layout, 0x2400_0001), (Some(Direction::SecondToFirst), 0));
+            assert_eq!(pair(layout, 0x2C00_0001), (None, 0));
+        }
+        assert_eq!(pair(Layout::Narrow, 0x2BFF_0001).1, 0x3FF);
+        assert_eq!(pair(Layout::Wide, 0x27FF_F001).1, 0x3);
     }
 
     /// Beyond its limits a count is refused before a distance is asked for.

@@ -39,6 +39,7 @@ pub mod numbers;
 pub mod page;
 pub mod print;
 pub mod refusal;
+pub mod road;
 pub mod sheet;
 pub mod tool;
 pub mod words;

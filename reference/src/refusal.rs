@@ -11,7 +11,7 @@ pub enum Fault {
     HeadKind = 2,
     /// n, v or T is outside its limits, of a wide sheet v or T.
     HeadLimits = 3,
-    /// Spare bits of a road's first word are set.
+    /// Spare bits of a road's first word are set, or both bits of its direction.
     RoadSpareBits = 4,
     /// First place not below second, or second not below n.
     RoadPlaces = 5,

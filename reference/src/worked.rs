@@ -49,5 +49,26 @@ pub const WIDE_A: [u32; 20] = [
     0x50700800, 0x60000000, 0x70000003, 0xF0000013,
 ];
 
+/// Two places and a road of weight 3 that runs from 0 to 1 alone. Line 0 is left, 5 and
+/// 6, line 1 is right, 3 and 4. Line 2 is somewhere left from 1 to 9, line 3 left
+/// surrounded by right from 0 to 9, and line 4 the same with islands.
+///
+/// From 1 nothing is reached, so that line 2 has nothing there, line 3 no boundary,
+/// and line 4 the island of 1 alone. From 0 line 2 has 6. Its regions are 0 alone,
+/// around which 1 is, with the lesser of 5 and 4, and the island of both, with 5.
+pub const ONE_WAY: [u32; 21] = [
+    0x10202001, 0x28000001, 0x30000003, 0x40000005, 0x40000003, 0x40000006, 0x40000004, 0x50100000,
+    0x80000000, 0x50100400, 0x80000000, 0x50600000, 0x60000001, 0x70000009, 0x50700001, 0x60000000,
+    0x70000009, 0x50F00001, 0x60000000, 0x70000009, 0xF0000014,
+];
+
+/// The same with the road turned round: it runs from 1 to 0 alone.
+pub const ONE_WAY_BACK: [u32; 21] = [
+    0x10202001, 0x24000001, 0x30000003, 0x40000005, 0x40000003, 0x40000006, 0x40000004, 0x50100000,
+    0x80000000, 0x50100400, 0x80000000, 0x50600000, 0x60000001, 0x70000009, 0x50700001, 0x60000000,
+    0x70000009, 0x50F00001, 0x60000000, 0x70000009, 0xF0000014,
+];
+
 /// All of them.
-pub const SHEETS: [&[u32]; 5] = [&UNTIL, &SINCE, &BEFORE_RAISING, &AFTER_RAISING, &WIDE_A];
+pub const SHEETS: [&[u32]; 7] =
+    [&UNTIL, &SINCE, &BEFORE_RAISING, &AFTER_RAISING, &WIDE_A, &ONE_WAY, &ONE_WAY_BACK];

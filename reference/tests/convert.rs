@@ -93,6 +93,21 @@ fn words_that_change() {
     assert_eq!(written(&wide, Layout::Narrow), lone);
 }
 
+/// Bits 27 and 26 of a road stay where they are, while its places move.
+#[test]
+fn directions_are_carried_over() {
+    let table = |sheet: SheetBuilder| sheet.samples(&[5; 6]).truth().end();
+    let roads = |sheet: SheetBuilder| sheet.road(2, 5, 1).one_way(3, 4, 7).one_way(5, 4, 8);
+    let narrow = table(roads(SheetBuilder::new(6, 1, 1)));
+    let wide = table(roads(SheetBuilder::wide(6, 1, 1)));
+    let road_words = |words: &[u32]| [words[0], words[2], words[4]];
+    assert_eq!(road_words(&narrow[1..]), [0x2000_0205, 0x2800_0304, 0x2400_0405]);
+    assert_eq!(road_words(&wide[2..]), [0x2000_2005, 0x2800_3004, 0x2400_4005]);
+    assert_eq!(written(&narrow, Layout::Wide), wide);
+    assert_eq!(written(&wide, Layout::Narrow), narrow);
+    assert_eq!([written(&narrow, Layout::Narrow), written(&wide, Layout::Wide)], [narrow, wide]);
+}
+
 /// At the sheet's length, whatever is to be written, also unaltered.
 #[test]
 fn number_15_is_exact() {
@@ -194,10 +209,11 @@ fn number_16_wrong_lengths() {
 
 /// A valid narrow sheet laid out wide word by word, without a look at what it says:
 /// before its samples every word of kind 2 begins a road, and none is there behind.
+/// Above the places stand the kind and the two bits of the direction.
 fn widened(words: &[u32]) -> Vec<u32> {
     let places = words::field(words[0], 27, 20);
     let behind = words[1..words.len() - 1].iter().map(|&word| match words::kind(word) {
-        kinds::ROAD_PLACES => word & 0xF000_0000 | (word & 0xFF00) << 4 | word & 0xFF,
+        kinds::ROAD_PLACES => word & 0xFC00_0000 | (word & 0xFF00) << 4 | word & 0xFF,
         _ => word,
     });
     let front = [0xA000_0000 | places, words[0] & 0xF00F_FFFF];

@@ -7,9 +7,11 @@ use reference::builder::SheetBuilder;
 use reference::fast::Fast;
 use reference::generate::network;
 use reference::generate::random::Random;
+use reference::layout::Layout;
 use reference::margin::Verdict;
 use reference::meaning::Meaning;
 use reference::print::print;
+use reference::road::Road;
 use reference::words;
 
 /// Code 7, to which a region with an empty boundary does not count, and code 15,
@@ -19,13 +21,12 @@ const WITH: u32 = 15;
 
 const GREATEST: u32 = (1 << 28) - 1;
 
-/// One sample of a network: at each place left, which line 0 is, and right,
-/// which line 1 is.
-fn network(roads: &[(u32, u32, u32)], places: &[(i32, i32)]) -> SheetBuilder {
-    let numbers: Vec<i32> = places.iter().flat_map(|&(left, right)| [left, right]).collect();
-    let sheet = SheetBuilder::new(places.len() as u32, 2, 1);
-    let add = |sheet: SheetBuilder, road: &(u32, u32, u32)| sheet.road(road.0, road.1, road.2);
-    roads.iter().fold(sheet, add).samples(&numbers).at_least(0, 0).at_least(1, 0)
+/// One sample of a network whose roads run both ways.
+fn network(roads: &[(usize, usize, u32)], places: &[(i32, i32)]) -> SheetBuilder {
+    let road =
+        |&(first, second, weight): &(usize, usize, u32)| Road::both_ways(first, second, weight);
+    let roads: Vec<Road> = roads.iter().map(road).collect();
+    left_and_right(Layout::Narrow, &roads, places)
 }
 
 /// The verdicts of line 0 surrounded by line 1, and the rounds.
@@ -180,8 +181,8 @@ fn regions_and_runs_agree() {
         let mut number = || random.between(least, -least) as i32;
         let numbers: Vec<(i32, i32)> = (0..places).map(|_| (number(), number())).collect();
         // Line 2 and its not have every verdict at margin 0, line 3 an infinity.
-        let sheet = network(&roads, &numbers).line(3, 0, 0).truth();
-        let far = roads.iter().map(|road| road.2).max().unwrap_or(1).min(GREATEST / 4);
+        let sheet = left_and_right(Layout::Narrow, &roads, &numbers).line(3, 0, 0).truth();
+        let far = roads.iter().map(|road| road.weight).max().unwrap_or(1).min(GREATEST / 4);
         let upper = random.field(0, 4 * far);
         let bounds = random.pick(&[(0, upper), (upper / 3, upper), (far, upper.max(far))]);
         let (left, right) = (random.field(0, 3), random.field(0, 3));

@@ -8,7 +8,7 @@ use crate::sheet::{Bounds, Sheet};
 pub struct Space<'a> {
     /// How many places there are.
     pub places: usize,
-    /// For each place those that a road joins to it.
+    /// For each place those to which a road leads from it.
     pub neighbours: Vec<Vec<usize>>,
     distances: &'a Distances,
 }
@@ -45,7 +45,7 @@ impl<'a> Space<'a> {
         (0..self.places).filter(|&place| self.distances.within(centre, place, bounds)).collect()
     }
 
-    /// Every other place with a distance from a centre.
+    /// Every other place with a distance from a centre, measured from it.
     pub fn others(&self, centre: usize) -> Vec<usize> {
         let has_distance = |&other: &usize| self.distances.between(centre, other).is_some();
         (0..self.places).filter(|&other| other != centre).filter(has_distance).collect()

@@ -139,7 +139,7 @@ struct Iteration<S> {
     step: Vec<S>,
     /// The step that follows.
     next: Vec<S>,
-    /// What each place offers its neighbours: max(X(i, ·), s2).
+    /// What each place offers those from which a road leads to it: max(X(i, ·), s2).
     offered: Vec<S>,
 }
 
@@ -190,7 +190,8 @@ impl<S: Scale> Iteration<S> {
         }
     }
 
-    /// Definition 4.4 (2), all places from the former step.
+    /// Definition 4.4 (2), all places from the former step. A place looks at those to
+    /// which a road leads from it.
     fn advance(&mut self, neighbours: &[Vec<usize>], right: &[S]) {
         let sides = self.step.iter().zip(right);
         for (offered, (&step, &right)) in self.offered.iter_mut().zip(sides) {

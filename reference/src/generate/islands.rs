@@ -13,7 +13,7 @@ use super::ties::{self, Recording};
 pub fn sheet(random: &mut Random, most_places: usize) -> Vec<u32> {
     let places = random.count(1, most_places.min(8));
     let roads = network::roads(random, places);
-    let weights: Vec<u32> = roads.iter().map(|road| road.2).collect();
+    let weights: Vec<u32> = roads.iter().map(|road| road.weight).collect();
     let codes: &[u32] = match random.below(4) {
         0 | 1 => &[WITHOUT_ISLANDS],
         2 => &[WITHOUT_ISLANDS, WITH_ISLANDS],

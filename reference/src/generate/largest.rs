@@ -4,11 +4,11 @@
 //! surrounds and since over all of it. The surround without islands has few places
 //! in each ball, as it makes a run for each.
 
-use super::network::{self, Triple};
 use super::random::Random;
-use super::runs;
 use super::valid::{front, recorded, Numbers};
+use super::{network, runs};
 use crate::layout::{MOST_PLACES, MOST_WIDE_PLACES};
+use crate::road::Road;
 use crate::sheet::{GREATEST_WEIGHT, MOST_SAMPLES, MOST_SIGNALS};
 
 /// The most places in a ball of code 7 on the largest sheet, the centre included.
@@ -44,7 +44,7 @@ pub fn city(random: &mut Random) -> Vec<u32> {
     let numbers = random.pick(&[Numbers::Ties, Numbers::Small, Numbers::Any]);
     let readings = numbers.draw_all(random, MOST_WIDE_PLACES * SAMPLES);
     let near = twice_the_longest(&roads);
-    let nearest = roads.iter().map(|road| road.2).min().unwrap_or(1);
+    let nearest = roads.iter().map(|road| road.weight).min().unwrap_or(1);
     recorded(&front(random, MOST_WIDE_PLACES, 1, SAMPLES), &roads, &readings)
         .at_least(0, numbers.draw(random))
         .at_most(0, numbers.draw(random))
@@ -57,7 +57,7 @@ pub fn city(random: &mut Random) -> Vec<u32> {
 }
 
 /// A bound that a place's neighbours are all within, and mostly theirs too.
-fn twice_the_longest(roads: &[Triple]) -> u32 {
-    let longest = roads.iter().map(|road| road.2).max();
+fn twice_the_longest(roads: &[Road]) -> u32 {
+    let longest = roads.iter().map(|road| road.weight).max();
     longest.map_or(1, |weight| (2 * weight).min(GREATEST_WEIGHT))
 }

@@ -2,11 +2,9 @@
 
 use super::random::Random;
 use crate::layout::MOST_PLACES;
+use crate::road::{Direction, Road};
 use crate::sheet::GREATEST_WEIGHT;
 use std::collections::BTreeMap;
-
-/// A road: first place, second place, weight.
-pub type Triple = (u32, u32, u32);
 
 #[derive(Clone, Copy)]
 enum Shape {
@@ -28,6 +26,32 @@ enum Weights {
     Huge,
     Any,
 }
+
+/// Which ways the roads of a network run.
+#[derive(Clone, Copy)]
+enum Traffic {
+    BothWays,
+    /// Few run one way, or a third each way and a third both ways.
+    Few,
+    Mixed,
+    /// Each one way or the other.
+    OneWay,
+    /// Each one way, from place to place as the shape is built, and from the last
+    /// place to the first: a ring is a circle that runs one way round.
+    Along,
+}
+
+/// Half of the networks have no road that runs one way only.
+const TRAFFICS: [Traffic; 8] = [
+    Traffic::BothWays,
+    Traffic::BothWays,
+    Traffic::BothWays,
+    Traffic::BothWays,
+    Traffic::Few,
+    Traffic::Mixed,
+    Traffic::OneWay,
+    Traffic::Along,
+];
 
 const SHAPES: [Shape; 9] = [
     Shape::Unconnected,
@@ -56,7 +80,7 @@ const CITY_SHAPES: [Shape; 8] = [
 const WEIGHTS: [Weights; 4] = [Weights::Ones, Weights::Small, Weights::Huge, Weights::Any];
 
 /// The roads of a random network, in the order a sheet wants them.
-pub fn roads(random: &mut Random, places: usize) -> Vec<Triple> {
+pub fn roads(random: &mut Random, places: usize) -> Vec<Road> {
     let shapes = if places > MOST_PLACES { &CITY_SHAPES[..] } else { &SHAPES[..] };
     let shape = random.pick(shapes);
     shaped(random, shape, places)
@@ -64,24 +88,37 @@ pub fn roads(random: &mut Random, places: usize) -> Vec<Triple> {
 
 /// The roads of a network in which one can go round in circles, if it has three
 /// places or more.
-pub fn roads_in_circles(random: &mut Random, places: usize) -> Vec<Triple> {
+pub fn roads_in_circles(random: &mut Random, places: usize) -> Vec<Road> {
     let shape = random.pick(&[Shape::Ring, Shape::Full, Shape::Split]);
     shaped(random, shape, places)
 }
 
-fn shaped(random: &mut Random, shape: Shape, places: usize) -> Vec<Triple> {
-    let weights = random.pick(&WEIGHTS);
-    let mut names: Vec<u32> = (0..places as u32).collect();
+fn shaped(random: &mut Random, shape: Shape, places: usize) -> Vec<Road> {
+    let (weights, traffic) = (random.pick(&WEIGHTS), random.pick(&TRAFFICS));
+    let mut names: Vec<usize> = (0..places).collect();
     if random.chance(60) {
         random.shuffle(&mut names);
     }
     let mut roads = BTreeMap::new();
     for (a, b) in pairs(random, shape, places) {
-        let (first, second) = (names[a].min(names[b]), names[a].max(names[b]));
-        roads.insert((first, second), weight(random, weights));
+        let (from, to) = if b == 0 && a + 1 == places { (a, b) } else { (b, a) };
+        let along = Road::one_way(names[from], names[to], weight(random, weights));
+        let direction = direction(random, traffic, along.direction);
+        roads.insert((along.first, along.second), Road { direction, ..along });
     }
-    let triple = |((first, second), weight)| (first, second, weight);
-    roads.into_iter().map(triple).collect()
+    roads.into_values().collect()
+}
+
+/// The direction of a road, given that which leads along the shape.
+fn direction(random: &mut Random, traffic: Traffic, along: Direction) -> Direction {
+    let one_way = [Direction::FirstToSecond, Direction::SecondToFirst];
+    match traffic {
+        Traffic::BothWays => Direction::BothWays,
+        Traffic::Few if random.chance(80) => Direction::BothWays,
+        Traffic::Mixed => random.pick(&Direction::ALL),
+        Traffic::Few | Traffic::OneWay => random.pick(&one_way),
+        Traffic::Along => along,
+    }
 }
 
 /// The pairs that a shape joins, the lower place second.

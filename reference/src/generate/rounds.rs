@@ -2,14 +2,16 @@
 //!
 //! Scattered numbers settle within a few rounds. Here the places form one path,
 //! what is lowest stands at one of its ends, and right is too low to stop it, so
-//! that it wanders from place to place, one a round.
+//! that it wanders from place to place, one a round. It wanders against the
+//! direction of roads, so those that run one way all lead to that end.
 
 use super::layout;
 use super::random::Random;
 use super::table::{WITHOUT_ISLANDS, WITH_ISLANDS};
 use crate::builder::SheetBuilder;
 use crate::layout::MOST_PLACES;
-use std::collections::BTreeSet;
+use crate::road::{Direction, Road};
+use std::collections::BTreeMap;
 
 /// A sheet on a path of up to so many places. In one half of them margins
 /// wander, in the other half verdicts, which no rounds count.
@@ -44,7 +46,11 @@ pub fn wandering_margins(random: &mut Random, most_places: usize) -> Vec<u32> {
 /// last place has a right that is a yes, so that with this place cut out there
 /// is a region to wander over.
 pub fn wandering_verdicts(random: &mut Random, most_places: usize) -> Vec<u32> {
-    let way = Way::drawn(random, most_places);
+    let mut way = Way::drawn(random, most_places);
+    if way.codes.0 == WITHOUT_ISLANDS {
+        // From every place a way leads to the last.
+        way.one_way = 0;
+    }
     let above = random.pick(&[0, 0, 10, 30]);
     let last = way.order.len() - 1;
     let numbers = |random: &mut Random, step: usize| {
@@ -69,6 +75,8 @@ pub fn wandering_verdicts(random: &mut Random, most_places: usize) -> Vec<u32> {
 struct Way {
     /// All places, in the order in which the path visits them.
     order: Vec<u32>,
+    /// Of a hundred roads so many lead to the path's first place alone.
+    one_way: usize,
     samples: u32,
     codes: (u32, u32),
     /// Bounds that hold the whole path.
@@ -84,7 +92,8 @@ impl Way {
         let (codes, samples) = codes_and_samples(random, order.len());
         let nearer = random.pick(&[far + 4, far / 4 + 4]);
         let near = (random.field(0, 4), random.field(4, nearer));
-        Way { order, samples, codes, far: (0, far), near }
+        let one_way = random.pick(&[0, 0, 50, 100]);
+        Way { order, one_way, samples, codes, far: (0, far), near }
     }
 
     /// Roads that join each place to the next, and two numbers for each place by
@@ -95,14 +104,26 @@ impl Way {
         numbers: impl Fn(&mut Random, usize) -> (i32, i32),
     ) -> SheetBuilder {
         let layout = layout(random, self.order.len());
-        let mut sheet = SheetBuilder::laid_out(layout, self.order.len() as u32, 2, self.samples);
-        for (first, second) in rising_pairs(&self.order) {
-            sheet = sheet.road(first, second, random.field(1, 3));
-        }
+        let sheet = SheetBuilder::laid_out(layout, self.order.len() as u32, 2, self.samples);
+        let sheet = self.roads(random).iter().fold(sheet, SheetBuilder::with_road);
         let samples = 0..self.samples;
         let numbers: Vec<i32> =
             samples.flat_map(|_| sample(random, &self.order, &numbers)).collect();
         sheet.samples(&numbers)
+    }
+
+    /// Roads from each place to the one before, as a sheet wants them: the pairs
+    /// rising.
+    fn roads(&self, random: &mut Random) -> Vec<Road> {
+        let mut roads = BTreeMap::new();
+        for pair in self.order.windows(2) {
+            let mut road = Road::one_way(pair[1] as usize, pair[0] as usize, random.field(1, 3));
+            if !random.chance(self.one_way) {
+                road.direction = Direction::BothWays;
+            }
+            roads.insert((road.first, road.second), road);
+        }
+        roads.into_values().collect()
     }
 }
 
@@ -131,12 +152,6 @@ fn places_in_order(random: &mut Random, most_places: usize) -> Vec<u32> {
     let mut order: Vec<u32> = (0..places as u32).collect();
     random.shuffle(&mut order);
     order
-}
-
-/// The pairs of places that follow one another, as a sheet wants them: the lower
-/// place first, the pairs rising.
-fn rising_pairs(order: &[u32]) -> BTreeSet<(u32, u32)> {
-    order.windows(2).map(|pair| (pair[0].min(pair[1]), pair[0].max(pair[1]))).collect()
 }
 
 fn sample(

@@ -1,10 +1,10 @@
 //! Two signals with many ties, and lines over them that have both verdicts at
 //! margin 0.
 
-use super::network::Triple;
 use super::random::Random;
 use super::valid::{front, recorded};
 use crate::builder::SheetBuilder;
+use crate::road::Road;
 
 const SIGNALS: usize = 2;
 
@@ -16,7 +16,7 @@ pub struct Recording<'a> {
     /// The number of places.
     pub places: usize,
     /// The roads between them.
-    pub roads: &'a [Triple],
+    pub roads: &'a [Road],
     /// The number of samples.
     pub samples: usize,
     /// The least and the greatest number.

@@ -1,10 +1,10 @@
 //! Valid sheets.
 
-use super::network::{self, Triple};
 use super::random::Random;
-use super::{layout, runs, table};
+use super::{layout, network, runs, table};
 use crate::builder::SheetBuilder;
 use crate::layout::{Front, MOST_PLACES};
+use crate::road::Road;
 use crate::sheet::{MOST_LINES, MOST_SAMPLES, MOST_SIGNALS};
 
 /// The least sample and constant.
@@ -126,7 +126,7 @@ fn sheet_of(random: &mut Random, sizes: Sizes) -> Vec<u32> {
         samples,
         numbers,
         readings: &readings,
-        weights: roads.iter().map(|road| road.2).collect(),
+        weights: roads.iter().map(|road| road.weight).collect(),
         widest: runs::widest(random, places, samples, &roads),
     };
     table::lines(random, sheet, &source, lines).end()
@@ -139,11 +139,8 @@ pub fn front(random: &mut Random, places: usize, signals: usize, samples: usize)
 }
 
 /// A sheet up to its table: its front, the roads, and the numbers sampled.
-pub fn recorded(front: &Front, roads: &[Triple], readings: &[i32]) -> SheetBuilder {
-    let sheet = SheetBuilder::of(front);
-    let add =
-        |sheet: SheetBuilder, &(first, second, weight): &Triple| sheet.road(first, second, weight);
-    roads.iter().fold(sheet, add).samples(readings)
+pub fn recorded(front: &Front, roads: &[Road], readings: &[i32]) -> SheetBuilder {
+    roads.iter().fold(SheetBuilder::of(front), SheetBuilder::with_road).samples(readings)
 }
 
 fn small(random: &mut Random, most_places: usize) -> Sizes {

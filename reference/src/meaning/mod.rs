@@ -14,7 +14,7 @@ use crate::distance::Distances;
 use crate::evaluation::Evaluation;
 use crate::margin::{Margin, Verdict};
 use crate::sheet::{Bounds, Line, Operator, Sheet};
-use regions::Region;
+use regions::{Region, Way};
 
 /// The verdicts of a sheet by the definitions.
 pub struct Meaning {
@@ -24,8 +24,9 @@ pub struct Meaning {
 
 impl Evaluation for Meaning {
     fn evaluate(sheet: &Sheet, distances: &Distances) -> Self {
-        let mut world =
-            World { sheet, distances, neighbours: sheet.neighbours(), lines: Vec::new() };
+        let ways = sheet.ways().collect();
+        let neighbours = sheet.neighbours();
+        let mut world = World { sheet, distances, ways, neighbours, lines: Vec::new() };
         let mut rounds = 0;
         for line in &sheet.lines {
             rounds = rounds.max(rounds::of_line(&world, line));
@@ -64,6 +65,9 @@ impl Verdicts {
 struct World<'a> {
     sheet: &'a Sheet,
     distances: &'a Distances,
+    /// From where to where roads lead, of which boundaries are made.
+    ways: Vec<Way>,
+    /// For each place those to which a road leads, over which rounds are counted.
     neighbours: Vec<Vec<usize>>,
     lines: Vec<Verdicts>,
 }
@@ -118,7 +122,7 @@ fn verdicts(world: &World, line: &Line) -> Verdicts {
 /// so they are enumerated once. "For code 7 a region with an empty boundary no
 /// longer counts"; code 15 has "the former reading".
 fn allowed_regions(world: &World, operator: &Operator, centre: usize) -> Vec<Region> {
-    let allowed = |bounds| regions::allowed(&world.neighbours, world.distances, centre, bounds);
+    let allowed = |bounds| regions::allowed(&world.ways, world.distances, centre, bounds);
     match *operator {
         Operator::Surround { bounds, .. } => {
             let mut regions = allowed(bounds);

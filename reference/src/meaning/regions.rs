@@ -6,6 +6,9 @@ use crate::sheet::Bounds;
 /// A set of places: place p is in it when bit p is set.
 pub type Places = u64;
 
+/// From where to where a road leads.
+pub type Way = (usize, usize);
+
 /// A region A with its outer boundary.
 #[derive(Clone, Copy, Debug, PartialEq, Eq)]
 pub struct Region {
@@ -31,18 +34,13 @@ impl Region {
 }
 
 /// All regions that a surround at the centre may take, islands among them: "some
-/// region A holds p, lies within distance 0..upper of p, and every place outside
-/// A joined by a road to a place of A lies within lower..upper of p".
-pub fn allowed(
-    neighbours: &[Vec<usize>],
-    distances: &Distances,
-    centre: usize,
-    bounds: Bounds,
-) -> Vec<Region> {
+/// region A holds p, lies within distance 0..upper of p", and its outer boundary
+/// "lies within lower..upper of p". Distance is measured from p.
+pub fn allowed(ways: &[Way], distances: &Distances, centre: usize, bounds: Bounds) -> Vec<Region> {
     let inner = Bounds { lower: 0, ..bounds };
     let within = |place: usize, bounds: Bounds| distances.within(centre, place, bounds);
-    all_sets(neighbours.len())
-        .map(|members| Region { members, boundary: outer_boundary(neighbours, members) })
+    all_sets(distances.places())
+        .map(|members| Region { members, boundary: outer_boundary(ways, members) })
         .filter(|region| region.members().any(|place| place == centre))
         .filter(|region| region.members().all(|place| within(place, inner)))
         .filter(|region| region.boundary().all(|place| within(place, bounds)))
@@ -54,12 +52,12 @@ fn all_sets(count: usize) -> impl Iterator<Item = Places> {
     0..=Places::MAX >> (64 - count)
 }
 
-/// Definition 2.4: the places outside a set that a road joins to a place of it.
-fn outer_boundary(neighbours: &[Vec<usize>], members: Places) -> Places {
-    let joined = places_of(members)
-        .flat_map(|place| &neighbours[place])
-        .fold(0, |joined, &place| joined | 1 << place);
-    joined & !members
+/// Definition 2.4 along allowed directions: "a place is on a region's boundary if a
+/// road leads to it out of the region".
+fn outer_boundary(ways: &[Way], members: Places) -> Places {
+    let is_in = |place: usize| members >> place & 1 == 1;
+    let leads_out = |&&(from, to): &&Way| is_in(from) && !is_in(to);
+    ways.iter().filter(leads_out).fold(0, |boundary, &(_, to)| boundary | 1 << to)
 }
 
 /// The places of a set, each taken out as its lowest.
@@ -84,10 +82,20 @@ mod tests {
     }
 
     #[test]
-    fn boundary_lies_outside_and_is_joined() {
-        let path = vec![vec![1], vec![0, 2], vec![1]];
+    fn boundary_lies_outside_and_roads_lead_to_it() {
+        let path = [(0, 1), (1, 0), (1, 2), (2, 1)];
         assert_eq!(outer_boundary(&path, 0b001), 0b010);
         assert_eq!(outer_boundary(&path, 0b010), 0b101);
         assert_eq!(outer_boundary(&path, 0b111), 0);
+    }
+
+    /// One way from 0 to 2: what leads into a region is not around it.
+    #[test]
+    fn boundary_is_where_roads_lead_out() {
+        let path = [(0, 1), (1, 2)];
+        assert_eq!(outer_boundary(&path, 0b001), 0b010);
+        assert_eq!(outer_boundary(&path, 0b010), 0b100);
+        assert_eq!(outer_boundary(&path, 0b100), 0);
+        assert_eq!(outer_boundary(&path, 0b101), 0b010);
     }
 }

@@ -73,7 +73,7 @@ pub fn settled(neighbours: &[Vec<usize>], s1: Vec<Margin>, s2: &[Margin]) -> (Ve
 }
 
 /// Definition 4.4 (2): a step from the former one, "all places stepping
-/// together from the former round".
+/// together from the former round". Neighbours are the places to which a road leads.
 fn next(neighbours: &[Vec<usize>], step: &[Margin], s2: &[Margin]) -> Vec<Margin> {
     let at = |place: usize| {
         let around = neighbours[place].iter();
@@ -106,6 +106,16 @@ mod tests {
         let s2 = [MinusInfinity, Finite(-3), MinusInfinity];
         let limit = vec![Finite(-3), MinusInfinity, MinusInfinity];
         assert_eq!(settled(&path, s1, &s2), (limit, 2));
+    }
+
+    /// Example H with roads that lead from 2 to 0 alone: place 0 looks at nothing, and
+    /// place 1 at place 0, whose left holds it up.
+    #[test]
+    fn nothing_is_handed_on_against_the_direction() {
+        let path = vec![vec![], vec![0], vec![1]];
+        let s1 = vec![Finite(4), Finite(4), MinusInfinity];
+        let s2 = [MinusInfinity, Finite(-3), MinusInfinity];
+        assert_eq!(settled(&path, s1.clone(), &s2), (s1, 1));
     }
 
     #[test]

@@ -1,10 +1,11 @@
 //! The check of a sheet: "Front to back; the first fault counts."
 
 use super::reader::Reader;
-use super::{table, Head, Road, Sheet};
+use super::{table, Head, Sheet};
 use super::{MOST_SAMPLES, MOST_SIGNALS};
 use crate::layout::{Front, Layout, Pair};
 use crate::refusal::{Fault, Refusal};
+use crate::road::{Direction, Road};
 use crate::words::{self, kinds};
 
 /// Checks the words of a sheet and a lent distance table of so many entries,
@@ -65,30 +66,33 @@ fn roads(reader: &mut Reader, head: &Head) -> Result<Vec<Road>, Refusal> {
     let mut roads = Vec::new();
     let mut last = None;
     while let Some(word) = reader.peek(kinds::ROAD_PLACES) {
-        let pair = road_places(reader, word, head, last)?;
+        let pair = head.layout.pair(word);
+        let direction = road_places(reader, &pair, head, last)?;
         let weight = road_weight(reader)?;
-        let (first, second) = pair;
-        roads.push(Road { first, second, weight });
-        last = Some(pair);
+        let Pair { first, second, .. } = pair;
+        roads.push(Road { first, second, weight, direction });
+        last = Some((first, second));
     }
     Ok(roads)
 }
 
 /// "Kind 2: bits 15..8 first place, 7..0 second place, 27..16 zero, first below
 /// second, second below n. Each pair (first, then second) is greater than the
-/// pair before." The places of a wide sheet have more bits.
+/// pair before." The places of a wide sheet have more bits. Of bits 27 and 26, which
+/// are spare no longer, one may be set: "both set is refusal 4".
 fn road_places(
     reader: &mut Reader,
-    word: u32,
+    pair: &Pair,
     head: &Head,
     last: Option<(usize, usize)>,
-) -> Result<(usize, usize), Refusal> {
-    let Pair { spare, first, second } = head.layout.pair(word);
-    reader.require(spare == 0, Fault::RoadSpareBits)?;
+) -> Result<Direction, Refusal> {
+    let &Pair { direction, spare, first, second } = pair;
+    let direction = direction.filter(|_| spare == 0);
+    let direction = direction.ok_or(reader.refusal(Fault::RoadSpareBits))?;
     reader.require(first < second && second < head.places, Fault::RoadPlaces)?;
     reader.require(last < Some((first, second)), Fault::RoadOrder)?;
     reader.pass();
-    Ok((first, second))
+    Ok(direction)
 }
 
 /// "Then kind 3: weight, 1 to 268,435,455."

@@ -15,6 +15,7 @@ pub use extent::Extent;
 pub use operator::{Bounds, Operator, Reach};
 
 use crate::layout::Layout;
+use crate::road::Road;
 use crate::words::PAYLOAD_MASK;
 
 /// The greatest number of signals.
@@ -43,17 +44,6 @@ pub struct Head {
     pub signals: usize,
     /// The number of samples in time, T.
     pub samples: usize,
-}
-
-/// A road between two places; "roads run both ways".
-#[derive(Clone, Copy, Debug, PartialEq, Eq)]
-pub struct Road {
-    /// The lower place.
-    pub first: usize,
-    /// The higher place.
-    pub second: usize,
-    /// The weight, at least 1.
-    pub weight: u32,
 }
 
 /// A line of the table. It has verdicts for the samples of its extent "and no
@@ -85,12 +75,16 @@ impl Sheet {
         self.readings[(sample * self.head.places + place) * self.head.signals + signal]
     }
 
-    /// For each place the places joined to it by a road.
+    /// From where to where roads lead.
+    pub fn ways(&self) -> impl Iterator<Item = (usize, usize)> + '_ {
+        self.roads.iter().flat_map(Road::ways)
+    }
+
+    /// For each place the places to which a road leads from it.
     pub fn neighbours(&self) -> Vec<Vec<usize>> {
         let mut neighbours = vec![Vec::new(); self.head.places];
-        for road in &self.roads {
-            neighbours[road.first].push(road.second);
-            neighbours[road.second].push(road.first);
+        for (from, to) in self.ways() {
+            neighbours[from].push(to);
         }
         neighbours
     }

@@ -14,6 +14,7 @@ use reference::layout::Layout;
 use reference::left::Left;
 use reference::margin::{Margin, Verdict};
 use reference::meaning::Meaning;
+use reference::road::Road;
 use reference::tool;
 
 /// The result of a call for which 40 bytes were lent.
@@ -148,6 +149,15 @@ pub const ISLANDS: [u32; 18] = [
     0x80000000, 0x50100400, 0x80000000, 0x50700001, 0x60000000, 0x70000009, 0x50F00001, 0x60000000,
     0x70000009, 0xF0000011,
 ];
+
+/// One sample of a network: at each place left, which line 0 is, and right,
+/// which line 1 is.
+pub fn left_and_right(layout: Layout, roads: &[Road], places: &[(i32, i32)]) -> SheetBuilder {
+    let numbers: Vec<i32> = places.iter().flat_map(|&(left, right)| [left, right]).collect();
+    let sheet = SheetBuilder::laid_out(layout, places.len() as u32, 2, 1);
+    let sheet = roads.iter().fold(sheet, SheetBuilder::with_road);
+    sheet.samples(&numbers).at_least(0, 0).at_least(1, 0)
+}
 
 /// Three places in a row with weights 1, two signals, one sample each.
 pub fn row_of_three(left: [i32; 3], right: [i32; 3]) -> SheetBuilder {

@@ -3,20 +3,24 @@
 use super::{find, other_kind};
 use crate::generate::random::Random;
 use crate::layout::{Front, Layout, Pair};
+use crate::road::{Direction, BOTH_MARKS};
 use crate::words::{self, kinds};
 
-/// 4: a spare bit of a road's first word.
+/// 4: a spare bit of a road's first word, or both bits of its direction, or both
+/// faults.
 pub fn road_spare_bits(random: &mut Random, mut words: Vec<u32>) -> Option<Vec<u32>> {
     let at = find(random, &words, kinds::ROAD_PLACES)?;
     let both_places = 2 * Layout::of(&words).place_bits();
-    words[at] |= 1 << random.field(both_places, 27);
+    let spare = 1 << random.field(both_places, 25);
+    words[at] |= random.pick(&[spare, spare, BOTH_MARKS, BOTH_MARKS, spare | BOTH_MARKS]);
     if random.chance(30) {
         words[at] ^= random.field(0, (1 << both_places) - 1);
     }
     Some(words)
 }
 
-/// 5: the two places equal, exchanged, or the second not below n.
+/// 5: the two places equal, exchanged, or the second not below n. The road runs the
+/// ways that it ran.
 pub fn road_places(random: &mut Random, mut words: Vec<u32>) -> Option<Vec<u32>> {
     let at = find(random, &words, kinds::ROAD_PLACES)?;
     let Front { layout, places, .. } = Front::told(&words);
@@ -37,11 +41,12 @@ pub fn road_places(random: &mut Random, mut words: Vec<u32>) -> Option<Vec<u32>>
         (first, second | high),
         (first | high, second | high),
     ]);
-    words[at] = layout.pair_word(first as u32, second as u32);
+    words[at] = layout.pair_word(first as u32, second as u32) | words[at] & BOTH_MARKS;
     Some(words)
 }
 
-/// 6: a road once more after itself, at once or later.
+/// 6: a road once more after itself, at once or later, as it was or with any
+/// direction.
 pub fn road_order(random: &mut Random, mut words: Vec<u32>) -> Option<Vec<u32>> {
     let roads = words.iter().filter(|&&word| words::kind(word) == kinds::ROAD_PLACES);
     let count = roads.count();
@@ -52,7 +57,9 @@ pub fn road_order(random: &mut Random, mut words: Vec<u32>) -> Option<Vec<u32>> 
     let before = random.count(again + 1, count);
     let at = |road: usize| Layout::of(&words).front_words() + 2 * road;
     let (again, before) = (at(again), at(before));
-    let road = [words[again], words[again + 1]];
+    let direction = random.pick(&Direction::ALL);
+    let other = words[again] & !BOTH_MARKS | direction.mark();
+    let road = [random.pick(&[words[again], other]), words[again + 1]];
     words.splice(before..before, road);
     Some(words)
 }
