@@ -5,7 +5,7 @@ mod common;
 use common::*;
 use reference::fast::Fast;
 use reference::generate::random::Random;
-use reference::generate::{self, answers, valid_case};
+use reference::generate::{self, answers, valid, valid_case};
 use reference::layout::ENOUGH_DISTANCES;
 use reference::lookup::lookup;
 use reference::margin::Margin;
@@ -47,6 +47,22 @@ fn on_some_larger_networks() {
         let mut random = Random::new(1000 + seed);
         assert_eq!(judged(&valid_case(&mut random, 10)).number, 0);
     }
+}
+
+/// Roads that run one way, in either layout: regions go by where roads lead out, and
+/// runs by the neighbours of each place.
+#[test]
+fn on_one_way_networks() {
+    let mut counts = [0; 2];
+    for seed in 0..1500 {
+        let words = valid::small_sheet(&mut Random::new(seed), 7);
+        let sheet = check(&words, ENOUGH_DISTANCES).expect("a valid sheet");
+        if sheet.roads.iter().any(|road| road.direction.is_one_way()) {
+            assert_eq!(judged_words(&words).number, 0);
+            counts[sheet.head.layout.head_index()] += 1;
+        }
+    }
+    assert!(counts.iter().all(|&count| count > 100), "{counts:?}");
 }
 
 /// "It is at most n", and the words say what soundness (Remark 3.5) demands.
