@@ -3,7 +3,7 @@
 
 use crate::difference::{demand, Checked, Difference};
 use crate::judging::{answered, Answered};
-use crate::reached::{Converted, Reached};
+use crate::reached::{one_way, with_one_way, Converted, Reached};
 use crate::tools::{compared, left_by, Tool, Tools};
 use crate::Engine;
 use reference::convert::laid_out;
@@ -16,9 +16,10 @@ use reference::words;
 /// Of a hundred sheets that are taken there and back so many have about 64 places.
 const AROUND_LIMIT: usize = 20;
 
-/// What a run must have taken there and back: sheets of both layouts.
+/// What a run must have taken there and back: sheets of both layouts, and such with
+/// roads that run one way.
 pub fn labels() -> impl Iterator<Item = String> {
-    Layout::BOTH.into_iter().map(label)
+    Layout::BOTH.into_iter().map(label).flat_map(|label| [label.clone(), with_one_way(&label)])
 }
 
 fn label(from: Layout) -> String {
@@ -86,7 +87,11 @@ pub fn check(
     compare(tools, random, &words::to_bytes(&words), reached)?;
     there_and_back(engine, tools, random, &words)?;
     if Front::told(&words).places <= MOST_PLACES {
-        reached.count(&label(Layout::of(&words)));
+        let label = label(Layout::of(&words));
+        reached.count(&label);
+        if one_way::is_in(&words) {
+            reached.count(&with_one_way(&label));
+        }
     }
     Ok(())
 }

@@ -5,6 +5,7 @@
 
 use crate::alike::{with_samples, Alike, Point};
 use crate::difference::Checked;
+use crate::reached::one_way::{self, SPATIAL};
 use crate::reached::Reached;
 use crate::Engine;
 use reference::generate::random::Random;
@@ -13,16 +14,21 @@ use reference::margin::Margin;
 use reference::sheet::LAST_CODE;
 use reference::words;
 
-/// What a run must have reached: pairs of sheets, and a line of every code in
-/// them.
+/// What a run must have reached: pairs of sheets, a line of every code in them, and of
+/// every code that goes by roads where some run one way.
 pub fn labels() -> impl Iterator<Item = String> {
-    std::iter::once(PAIR.into()).chain((0..=LAST_CODE).map(code_label))
+    let codes = (0..=LAST_CODE).map(code_label).chain(SPATIAL.map(one_way_label));
+    std::iter::once(PAIR.into()).chain(codes)
 }
 
 const PAIR: &str = "steadiness of two sheets";
 
 fn code_label(code: u32) -> String {
     format!("steadiness: code {code}")
+}
+
+fn one_way_label(code: u32) -> String {
+    format!("steadiness: code {code}, roads one way")
 }
 
 /// Judges a random sheet and another whose samples are not far away.
@@ -38,8 +44,12 @@ pub fn check(engine: &dyn Engine, random: &mut Random, reached: &mut Reached) ->
     demanded(&alike)?;
     reached.count(PAIR);
     reached.count_layout("steadiness", &alike.sheets[0]);
+    let is_one_way = one_way::is_in(&alike.sheets[0]);
     for code in words::line_codes(&alike.sheets[0]) {
         reached.count(&code_label(code));
+        if is_one_way && SPATIAL.contains(&code) {
+            reached.count(&one_way_label(code));
+        }
     }
     Ok(())
 }

@@ -2,6 +2,7 @@
 
 use super::FALLING;
 use crate::alike::{samples, Alike, Point};
+use crate::reached::one_way::{self, SPATIAL};
 use crate::reached::{chosen, Reached};
 use reference::generate::valid::MOST;
 use reference::layout::ENOUGH_DISTANCES;
@@ -55,6 +56,7 @@ pub fn labels() -> impl Iterator<Item = String> {
         .chain(allowed().map(code_label))
         .chain(turned)
         .chain(BACK.into_iter().map(late_label))
+        .chain(SPATIAL.into_iter().map(one_way_label))
         .chain(falls)
 }
 
@@ -72,6 +74,10 @@ fn turned_label(code: u32) -> String {
 
 fn late_label(code: u32) -> String {
     format!("raising: code {code}, a no that became a yes on a line that begins late")
+}
+
+fn one_way_label(code: u32) -> String {
+    format!("raising: code {code}, a no that became a yes where roads run one way")
 }
 
 fn fall_label(code: u32, text: &str) -> String {
@@ -146,9 +152,13 @@ fn of_lines(alike: &Alike) -> BTreeSet<String> {
     let depths = sheet.depths();
     let turned = alike.points().filter(became_yes).map(|point| point.line);
     let turned: BTreeSet<usize> = turned.collect();
-    let of_turned = turned.into_iter().flat_map(|at| of_turned(&sheet.lines[at], depths[at]));
+    let code = |at: usize| sheet.lines[at].operator.code();
+    let is_one_way = one_way::is_in(&alike.sheets[0]);
+    let is_by_roads = |&code: &u32| is_one_way && SPATIAL.contains(&code);
+    let of_one_way = turned.iter().map(|&at| code(at)).filter(is_by_roads).map(one_way_label);
+    let of_turned = turned.iter().flat_map(|&at| of_turned(&sheet.lines[at], depths[at]));
     let codes = sheet.lines.iter().map(|line| code_label(line.operator.code()));
-    codes.chain(of_turned).collect()
+    codes.chain(of_turned).chain(of_one_way).collect()
 }
 
 /// The labels of a line on which a no became a yes.

@@ -1,6 +1,6 @@
 //! What an accepted sheet and its answer show.
 
-use super::{extents, layouts, reading, surrounds};
+use super::{extents, layouts, one_way, reading, surrounds};
 use reference::distance::NO_DISTANCE;
 use reference::generate::Case;
 use reference::judge::BYTES_PER_DISTANCE;
@@ -55,7 +55,7 @@ pub fn labels() -> Vec<String> {
     let rest = IN_SHEET.iter().chain(&LENT).chain(IN_ANSWER.iter().map(|(label, _)| label));
     let of_lines =
         extents::labels().into_iter().chain(surrounds::labels()).chain(reading::labels());
-    let texts = of_lines.chain(layouts::texts());
+    let texts = of_lines.chain(layouts::texts()).chain(one_way::labels());
     codes.chain(rest.map(|text| label(text))).chain(texts.map(|text| label(&text))).collect()
 }
 
@@ -83,6 +83,7 @@ pub fn shown(words: &[u32], case: &Case, left: &Left) -> Vec<String> {
         .chain(surrounds::shown(&sheet, left).iter().map(|text| label(text)))
         .chain(reading::shown(&sheet, left).iter().map(|text| label(text)))
         .chain(layouts::shown(words, &sheet, case, left).iter().map(|text| label(text)))
+        .chain(one_way::shown(&sheet, left).iter().map(|text| label(text)))
         .collect()
 }
 

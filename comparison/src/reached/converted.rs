@@ -3,7 +3,8 @@
 
 use super::layouts::MOST_OF_A_BYTE;
 use reference::generate::tools::Given;
-use reference::layout::{Front, Layout, MOST_PLACES, MOST_WIDE_PLACES};
+use reference::layout::{Front, Layout, Pair, MOST_PLACES, MOST_WIDE_PLACES};
+use reference::road::Direction;
 use reference::tool::{self, Left, RESULT_BYTES};
 use reference::words::{self, kinds, BYTES_PER_WORD};
 
@@ -18,7 +19,7 @@ const OF_NARROW: [u64; 13] = [2, 3, 4, 5, 6, 7, 8, 9, 10, 11, 12, 13, 14];
 const OF_WIDE: [u64; 13] = [3, 4, 5, 6, 7, 8, 9, 10, 11, 12, 13, 14, 17];
 const BEHIND_WIDE_HEAD: [u64; 12] = [3, 4, 5, 6, 7, 8, 9, 10, 11, 12, 13, 14];
 
-const BOTH_WAYS: [Shown; 32] = [
+const BOTH_WAYS: [Shown; 37] = [
     ("unaltered, without a road", &[0], |call| !call.changes() && !call.has_roads()),
     ("unaltered, with roads", &[0], |call| !call.changes() && call.has_roads()),
     ("unaltered, room exact", &[0], |call| !call.changes() && call.room() == call.needed()),
@@ -37,6 +38,19 @@ const BOTH_WAYS: [Shown; 32] = [
     ("changed, 64 places", &[0], |call| call.changes() && call.places() == MOST_PLACES),
     ("changed, a road to place 63", &[0], |call| call.changes() && call.has_road_to(63)),
     ("changed, above 65,536 words", &[0, 15], |call| call.changes() && call.is_long()),
+    ("unaltered, a road from first to second", &[0], |call| {
+        !call.changes() && call.has_road_that_runs(Direction::FirstToSecond)
+    }),
+    ("unaltered, a road from second to first", &[0], |call| {
+        !call.changes() && call.has_road_that_runs(Direction::SecondToFirst)
+    }),
+    ("changed, a road from first to second", &[0], |call| {
+        call.changes() && call.has_road_that_runs(Direction::FirstToSecond)
+    }),
+    ("changed, a road from second to first", &[0], |call| {
+        call.changes() && call.has_road_that_runs(Direction::SecondToFirst)
+    }),
+    ("both directions of a road", &[4], |call| call.faulty_direction().is_none()),
     ("a narrow sheet", &OF_NARROW, |call| !call.layout().is_wide()),
     ("a wide sheet", &OF_WIDE, |call| call.layout().is_wide()),
     ("no room", &OWN, |call| call.room() == 0),
@@ -153,11 +167,24 @@ impl<'a> Converted<'a> {
         words::kind(self.words[self.layout().front_words()]) == kinds::ROAD_PLACES
     }
 
+    /// The first words of its roads, as its layout has them.
+    fn pairs(&self) -> impl Iterator<Item = Pair> + '_ {
+        let words = self.words.iter().filter(|&&word| words::kind(word) == kinds::ROAD_PLACES);
+        words.map(|&word| self.layout().pair(word))
+    }
+
     fn has_road_to(&self, place: usize) -> bool {
-        let mut words = self.words.iter();
-        words.any(|&word| {
-            words::kind(word) == kinds::ROAD_PLACES && self.layout().pair(word).second == place
-        })
+        self.pairs().any(|pair| pair.second == place)
+    }
+
+    fn has_road_that_runs(&self, direction: Direction) -> bool {
+        self.pairs().any(|pair| pair.direction == Some(direction))
+    }
+
+    /// The direction of the road that a sheet is refused for.
+    fn faulty_direction(&self) -> Option<Direction> {
+        let refusal = tool::valid(&self.words).err();
+        refusal.and_then(|refusal| self.layout().pair(self.words[refusal.place]).direction)
     }
 
     /// The words of room.
@@ -190,7 +217,7 @@ impl<'a> Converted<'a> {
 mod tests {
     use super::*;
     use reference::builder::SheetBuilder;
-    use reference::worked::WIDE_A;
+    use reference::worked::{ONE_WAY, ONE_WAY_BACK, WIDE_A};
     use std::collections::BTreeSet;
 
     /// What is shown by a sheet's words taken to a layout with so many words of room
@@ -223,6 +250,23 @@ mod tests {
         let lone = SheetBuilder::new(1, 1, 1).samples(&[0]).truth().end();
         let changed = ["changed, without a road", "changed, room exact", "changed, 1 place"];
         assert_shown(shown_of(wide, &lone, 5, 0), wide, 0, &changed);
+    }
+
+    #[test]
+    fn what_runs_one_way() {
+        let (narrow, wide) = (Layout::Narrow, Layout::Wide);
+        let forth = [
+            "unaltered, with roads",
+            "unaltered, room exact",
+            "unaltered, a road from first to second",
+        ];
+        assert_shown(shown_of(narrow, &ONE_WAY, 21, 0), narrow, 0, &forth);
+        let back =
+            ["changed, with roads", "changed, room exact", "changed, a road from second to first"];
+        assert_shown(shown_of(wide, &ONE_WAY_BACK, 22, 0), wide, 0, &back);
+        let texts = ["a narrow sheet", "some room", "both directions of a road"];
+        let both = [ONE_WAY[0], ONE_WAY[1] | ONE_WAY_BACK[1]];
+        assert_shown(shown_of(wide, &both, 22, 4), wide, 4, &texts);
     }
 
     #[test]

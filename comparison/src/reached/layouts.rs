@@ -1,7 +1,7 @@
 //! What accepted sheets show of the two layouts, and which layouts the checks
 //! beside judging were tried on.
 
-use super::chosen;
+use super::{chosen, one_way};
 use reference::generate::Case;
 use reference::judge::BYTES_PER_DISTANCE;
 use reference::layout::{Front, Layout, DISTANCE_ENTRIES, MOST_PLACES, MOST_WIDE_PLACES};
@@ -46,12 +46,24 @@ pub fn texts() -> Vec<String> {
 
 /// The labels of the checks.
 pub fn labels_of_checks() -> impl Iterator<Item = String> {
-    CHECKS.iter().flat_map(|check| LAYOUTS.map(|layout| format!("{check}: {layout}")))
+    let labels = CHECKS.iter().flat_map(|check| LAYOUTS.map(|layout| of_check(check, layout)));
+    labels.flat_map(|label| [label.clone(), with_one_way(&label)])
 }
 
-/// The label of a check that was tried on a sheet.
-pub fn label_of_check(check: &str, words: &[u32]) -> String {
-    format!("{check}: {}", layout(&Front::told(words)))
+fn of_check(check: &str, layout: &str) -> String {
+    format!("{check}: {layout}")
+}
+
+/// The label of a check on sheets some of whose roads run one way.
+pub fn with_one_way(label: &str) -> String {
+    format!("{label}, roads one way")
+}
+
+/// The labels of a check that was tried on a sheet.
+pub fn shown_by_check(check: &str, words: &[u32]) -> impl Iterator<Item = String> {
+    let label = of_check(check, layout(&Front::told(words)));
+    let one_way = one_way::is_in(words).then(|| with_one_way(&label));
+    std::iter::once(label).chain(one_way)
 }
 
 /// One of [`LAYOUTS`], whether or not the places are within their limits.
@@ -122,16 +134,21 @@ mod tests {
 
     #[test]
     fn layouts_are_told_apart() {
-        let layout_of = |sheet: SheetBuilder| label_of_check("laws", &sheet.words());
+        let layout_of = |sheet: SheetBuilder| {
+            shown_by_check("laws", &sheet.words()).collect::<Vec<String>>().join("; ")
+        };
         let expected = LAYOUTS.map(|layout| format!("laws: {layout}"));
         assert_eq!(layout_of(SheetBuilder::new(64, 1, 1)), expected[0]);
         assert_eq!(layout_of(SheetBuilder::new(65, 1, 1)), expected[0]);
         assert_eq!(layout_of(SheetBuilder::wide(64, 1, 1)), expected[1]);
         assert_eq!(layout_of(SheetBuilder::wide(65, 1, 1)), expected[2]);
+        assert_eq!(layout_of(SheetBuilder::new(2, 1, 1).road(0, 1, 1)), expected[0]);
+        let one_way = layout_of(SheetBuilder::wide(2, 1, 1).one_way(1, 0, 1));
+        assert_eq!(one_way, format!("{0}; {0}, roads one way", expected[1]));
     }
 
     #[test]
     fn no_layout_is_left_out() {
-        assert_eq!(labels_of_checks().count(), CHECKS.len() * LAYOUTS.len());
+        assert_eq!(labels_of_checks().count(), 2 * CHECKS.len() * LAYOUTS.len());
     }
 }

@@ -8,8 +8,10 @@ mod extents;
 mod layouts;
 mod looked_up;
 mod no_sample;
+pub mod one_way;
 mod reading;
 mod refused;
+mod roads_refused;
 mod runs;
 mod setting;
 mod surrounds;
@@ -17,6 +19,7 @@ mod wide_looked_up;
 mod wide_refused;
 
 pub use converted::Converted;
+pub use layouts::with_one_way;
 pub use looked_up::LookedUp;
 
 use crate::laws::LAWS;
@@ -90,9 +93,10 @@ impl Reached {
         }
     }
 
-    /// Counts the layout of a sheet that a check beside judging was tried on.
+    /// Counts the layout of a sheet that a check beside judging was tried on, and
+    /// whether some of its roads run one way.
     pub fn count_layout(&mut self, check: &str, words: &[u32]) {
-        self.count(&layouts::label_of_check(check, words));
+        layouts::shown_by_check(check, words).for_each(|label| self.count(&label));
     }
 
     /// A row for each label.

@@ -1,10 +1,11 @@
 //! The kinds of places that a refusal strikes.
 
 use super::extents::WITH_TWO;
-use super::{no_sample, setting, wide_refused};
+use super::{no_sample, roads_refused, setting, wide_refused};
 use reference::generate::Case;
 use reference::judge::{BYTES_PER_DISTANCE, RESULT_BYTES};
 use reference::layout::{Front, Layout, Pair, ENOUGH_DISTANCES, MOST_PLACES};
+use reference::road::BOTH_MARKS;
 use reference::sheet::{LAST_CODE, MOST_SAMPLES, MOST_SIGNALS};
 use reference::words::{self, kinds, BYTES_PER_WORD};
 
@@ -50,6 +51,7 @@ pub fn labels() -> Vec<String> {
         .chain(no_sample::texts().iter().map(|text| label(13, text)))
         .chain(setting::labels().map(|(number, text)| label(number, text)))
         .chain(wide_refused::labels().into_iter().map(|(number, text)| label(number, &text)))
+        .chain(roads_refused::labels().map(|(number, text)| label(number, &text)))
         .collect()
 }
 
@@ -110,6 +112,7 @@ pub fn shown(words: &[u32], case: &Case, number: u64, place: usize) -> Vec<Strin
     let struck = setting::Struck { words, case, place };
     shown.extend(setting::shown(&struck, number).into_iter().map(|text| label(number, text)));
     shown.extend(wide_refused::shown(&struck, number).iter().map(|text| label(number, text)));
+    shown.extend(roads_refused::shown(&struck, number).iter().map(|text| label(number, text)));
     shown
 }
 
@@ -193,9 +196,10 @@ fn road_places(pair: Pair) -> &'static str {
     }
 }
 
-/// The road before begins two words before.
+/// The road before begins two words before; directions do not count.
 fn road_order(words: &[u32], place: usize) -> &'static str {
-    if words[place] == words[place - 2] {
+    let pair = |at: usize| words[at] & !BOTH_MARKS;
+    if pair(place) == pair(place - 2) {
         "pair repeated"
     } else {
         "pair lower"

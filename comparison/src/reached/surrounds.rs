@@ -16,7 +16,7 @@ const WITH: u32 = 15;
 /// What is looked for in the network around a surround of either code.
 const OF_BOTH: [&str; 8] = [
     "a lone place",
-    "one of several components, of two places or more",
+    "some places reached, others not",
     "a ball that ends before the network does",
     "a ball of two places or more that holds all",
     "64 places in a ball",
@@ -100,11 +100,13 @@ fn of_network(sheet: &Sheet, distances: &Distances, line: &Line) -> [bool; 8] {
         Around { reached: others.len(), in_ball }
     };
     let centres: Vec<Around> = (0..places).map(around).collect();
+    let is_lone =
+        |place: usize| !sheet.roads.iter().any(|road| road.first == place || road.second == place);
     let any = |is_so: &dyn Fn(&Around) -> bool| centres.iter().any(is_so);
     // A network with as many roads as places has circles.
     let circles = sheet.roads.len() >= places;
     [
-        any(&|centre| centre.reached == 0),
+        (0..places).any(is_lone),
         any(&|centre| centre.reached > 0 && centre.reached + 1 < places),
         any(&|centre| centre.in_ball < centre.reached),
         any(&|centre| centre.reached > 0 && centre.in_ball == centre.reached),

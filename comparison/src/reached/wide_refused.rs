@@ -19,7 +19,7 @@ const ALL: [u64; 16] = [1, 3, 4, 5, 6, 7, 8, 9, 10, 11, 12, 13, 14, 15, 16, 17];
 /// Numbers that are told behind the front, and that of too few distances.
 const BEHIND_FRONT: [u64; 13] = [1, 4, 5, 6, 7, 8, 9, 10, 11, 12, 13, 14, 15];
 
-const SHOWN: [Shown; 27] = [
+const SHOWN: [Shown; 25] = [
     ("any", &ALL, |_| true),
     ("more than 64 places", &BEHIND_FRONT, |struck| struck.front().places > MOST_PLACES),
     ("more than 255 places", &BEHIND_FRONT, |struck| struck.front().places > MOST_OF_A_BYTE),
@@ -44,8 +44,6 @@ const SHOWN: [Shown; 27] = [
     ("places exchanged", &[5], |struck| pair(struck).first > pair(struck).second),
     ("second place beyond n", &[5], |struck| pair(struck).second >= struck.front().places),
     ("a pair that 8 bits would let through", &[5], is_right_in_8_bits),
-    ("pair repeated", &[6], |struck| struck.word() == struck.words[struck.place - 2]),
-    ("pair lower", &[6], |struck| struck.word() < struck.words[struck.place - 2]),
     ("count 0", &[17], |struck| struck.place == 0 && count(struck) == 0),
     ("count 1,025 or more", &[17], |struck| struck.place == 0 && count(struck) > MOST_WIDE_PLACES),
     ("no word behind", &[17], |struck| struck.place == 1 && struck.words.len() == 1),
@@ -58,7 +56,7 @@ const SHOWN: [Shown; 27] = [
 ];
 
 /// The bits that must be zero in a road's first word and in the kind 10 word.
-const SPARE: [(u64, std::ops::RangeInclusive<u32>); 2] = [(4, 24..=27), (17, 16..=27)];
+const SPARE: [(u64, std::ops::RangeInclusive<u32>); 2] = [(4, 24..=25), (17, 16..=27)];
 
 /// All labels, each a number and a text.
 pub fn labels() -> Vec<(u64, String)> {
@@ -178,7 +176,8 @@ mod tests {
 
     #[test]
     fn wide_roads() {
-        assert_eq!(shown_with(2, 0x24000001, 4), (4, texts(&["bit 26"])));
+        assert_eq!(shown_with(2, 0x22000001, 4), (4, texts(&["bit 25"])));
+        assert_eq!(shown_with(2, 0x2C000001, 4), (4, texts(&[])));
         assert_eq!(shown_with(2, 0x20001000, 4), (5, texts(&["places exchanged"])));
         let by_8_bits = "a pair that 8 bits would let through";
         let expected = texts(&["second place beyond n", by_8_bits]);

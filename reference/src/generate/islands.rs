@@ -8,6 +8,11 @@ use super::network;
 use super::random::Random;
 use super::table::{self, WITHOUT_ISLANDS, WITH_ISLANDS};
 use super::ties::{self, Recording};
+use crate::sheet::GREATEST_WEIGHT;
+
+/// Every place but the centre itself, which then has nothing to offer: were it cut
+/// out, the most rounds would follow.
+const ALL_AROUND: (u32, u32) = (1, GREATEST_WEIGHT);
 
 /// A sheet of up to so many places, eight at most.
 pub fn sheet(random: &mut Random, most_places: usize) -> Vec<u32> {
@@ -19,7 +24,8 @@ pub fn sheet(random: &mut Random, most_places: usize) -> Vec<u32> {
         2 => &[WITHOUT_ISLANDS, WITH_ISLANDS],
         _ => &[WITH_ISLANDS],
     };
-    let bounds = table::distance_bounds(random, &weights);
+    let any = table::distance_bounds(random, &weights);
+    let bounds = random.pick(&[any, any, ALL_AROUND]);
     let (left, right) = (ties::line(random), ties::line(random));
     let samples = random.count(1, 3);
     let size = random.pick(&[0, 0, 1, 1, 3, 20]);
