@@ -4,22 +4,33 @@
 use super::setting::Struck;
 use reference::layout::{Layout, Pair};
 use reference::road::Direction;
+use reference::words::{self, kinds};
 use std::ops::Range;
 
 /// What a refused road may show: its text, the numbers that a run must have seen it
 /// with, and whether it is so.
 type Shown = (&'static str, &'static [u64], fn(&Struck) -> bool);
 
-const SHOWN: [Shown; 12] = [
+const SHOWN: [Shown; 14] = [
     ("both directions", &[4], |struck| direction(struck).is_none()),
     ("both directions and nothing else", &[4], |struck| {
-        direction(struck).is_none() && pair(struck).spare == 0 && is_pair_right(struck)
+        direction(struck).is_none()
+            && pair(struck).spare == 0
+            && is_inside(struck)
+            && is_above(struck)
     }),
     ("both directions beside a spare bit", &[4], |struck| {
         direction(struck).is_none() && pair(struck).spare > 0
     }),
-    ("both directions of a faulty pair", &[4], |struck| {
-        direction(struck).is_none() && !is_pair_right(struck)
+    ("both directions of a pair not in the network", &[4], |struck| {
+        direction(struck).is_none() && !is_inside(struck)
+    }),
+    ("both directions of a pair out of order", &[4], |struck| {
+        direction(struck).is_none() && is_inside(struck) && !is_above(struck)
+    }),
+    ("both directions before a weight of 0", &[4], |struck| {
+        let weight = struck.words.get(struck.place + 1).copied();
+        direction(struck).is_none() && weight == Some(words::word(kinds::ROAD_WEIGHT, 0))
     }),
     ("a spare bit, both ways", &[4], |struck| direction(struck) == Some(Direction::BothWays)),
     ("a spare bit, one way", &[4], |struck| direction(struck).is_some_and(Direction::is_one_way)),
@@ -91,12 +102,16 @@ fn pair_before(struck: &Struck) -> (usize, usize) {
     places(struck.front().layout.pair(word_before(struck)))
 }
 
-/// Whether neither 5 nor 6 would be told of the road.
-fn is_pair_right(struck: &Struck) -> bool {
+/// Whether 5 would not be told of the road.
+fn is_inside(struck: &Struck) -> bool {
     let (first, second) = places(pair(struck));
+    first < second && second < struck.front().places
+}
+
+/// Whether 6 would not be told of it.
+fn is_above(struck: &Struck) -> bool {
     let is_first = struck.place == struck.front().layout.front_words();
-    let is_above = is_first || pair_before(struck) < (first, second);
-    first < second && second < struck.front().places && is_above
+    is_first || pair_before(struck) < places(pair(struck))
 }
 
 #[cfg(test)]
@@ -130,9 +145,10 @@ mod tests {
         let both = ["both directions", "both directions and nothing else"];
         assert_shown(Layout::Narrow, 0x2C00_0102, 4, &both);
         assert_shown(Layout::Wide, 0x2C00_1002, 4, &both);
-        let faulty = ["both directions", "both directions of a faulty pair"];
-        assert_shown(Layout::Narrow, 0x2C00_0001, 4, &faulty);
-        assert_shown(Layout::Wide, 0x2C00_1000, 4, &faulty);
+        let repeated = ["both directions", "both directions of a pair out of order"];
+        assert_shown(Layout::Narrow, 0x2C00_0001, 4, &repeated);
+        let exchanged = ["both directions", "both directions of a pair not in the network"];
+        assert_shown(Layout::Wide, 0x2C00_1000, 4, &exchanged);
         assert_shown(
             Layout::Narrow,
             0x2201_0102,

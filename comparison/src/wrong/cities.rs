@@ -2,6 +2,7 @@
 
 use super::evaluator::{self, Trapped};
 use super::mistaken::mistaken;
+use super::partly::beyond;
 use super::sizes::InCircles;
 use super::traps::{found_alone, Alone};
 use super::{caught, over};
@@ -10,28 +11,10 @@ use crate::compare::Comparison;
 use crate::{deciding, laws, mirror, raising, steadiness, Engine, Filled, Implementation};
 use reference::generate::random::Random;
 use reference::judge::BYTES_PER_DISTANCE;
-use reference::layout::{Front, MOST_PLACES};
 use reference::words::{self, kinds};
 
 /// Within how many cities of 1,024 places an engine has to be caught.
 const SEEDS_OF_CITIES: u64 = 20;
-
-/// Right up to 64 places; beyond it is the other engine.
-struct Beyond<E>(E);
-
-impl<E: Engine> Engine for Beyond<E> {
-    fn judge(&self, sheet: &[u8], left: Filled) -> u64 {
-        if Front::told_by_bytes(sheet).places > MOST_PLACES {
-            self.0.judge(sheet, left)
-        } else {
-            Implementation.judge(sheet, left)
-        }
-    }
-
-    fn lookup(&self, answer: &[u8], line: u64, sample: u64, place: u64) -> u64 {
-        Implementation.lookup(answer, line, sample, place)
-    }
-}
 
 /// Spoils what the implementation leaves: distances and answer.
 struct Spoils(fn(&mut [u8], &mut [u8]));
@@ -67,9 +50,9 @@ fn margins_doubled(_: &mut [u8], answer: &mut [u8]) {
 #[test]
 fn nothing_is_found_in_what_is_right() {
     for check in [steadiness::check as Alone, raising::check, laws::check, mirror::check] {
-        assert_eq!(found_alone(&Beyond(Implementation), check), None);
+        assert_eq!(found_alone(&beyond(Implementation), check), None);
     }
-    assert_eq!(found_alone(&Beyond(Implementation), deciding::check), None);
+    assert_eq!(found_alone(&beyond(Implementation), deciding::check), None);
 }
 
 #[test]
@@ -99,25 +82,25 @@ fn distances_of_34_bits() {
 
 #[test]
 fn margins_that_are_not_steady_beyond_64_places() {
-    let engine = Beyond(Spoils(margins_doubled));
+    let engine = beyond(Spoils(margins_doubled));
     assert_eq!(found_alone(&engine, steadiness::check), Some(2));
 }
 
 #[test]
 fn a_boundary_without_left_beyond_64_places() {
-    let engine = Beyond(Trapped::<{ evaluator::BOUNDARY_WITHOUT_LEFT }>);
+    let engine = beyond(Trapped::<{ evaluator::BOUNDARY_WITHOUT_LEFT }>);
     assert_eq!(found_alone(&engine, raising::check), Some(2));
 }
 
 #[test]
 fn laws_broken_beyond_64_places() {
-    let engine = Beyond(Trapped::<{ evaluator::ISLANDS_COUNTED }>);
+    let engine = beyond(Trapped::<{ evaluator::ISLANDS_COUNTED }>);
     assert_eq!(found_alone(&engine, laws::check), Some(1));
 }
 
 #[test]
 fn windows_clipped_one_way_beyond_64_places() {
-    let engine = Beyond(Trapped::<{ evaluator::AHEAD_CLIPPED }>);
+    let engine = beyond(Trapped::<{ evaluator::AHEAD_CLIPPED }>);
     assert_eq!(found_alone(&engine, mirror::check), Some(2));
 }
 
@@ -129,5 +112,5 @@ fn a_negative_first_sample_refused_beyond_64_places() {
             (outcome.number, outcome.place) = (9, 2);
         }
     });
-    assert_eq!(found_alone(&Beyond(engine), deciding::check), Some(2));
+    assert_eq!(found_alone(&beyond(engine), deciding::check), Some(2));
 }

@@ -1,9 +1,11 @@
 //! Converters that write what they should not, beside an engine that is right.
 
+use super::rereads::reread_roads;
 use super::{caught_of, SEEDS, SEEDS_OF_RIGHT};
 use crate::tools::{Tool, Tools, Written};
 use crate::Implementation;
 use reference::layout::{Front, Layout, MOST_PLACES};
+use reference::road::BOTH_MARKS;
 use reference::tool::Outcome;
 use reference::words::{self, kinds, BYTES_PER_WORD};
 
@@ -102,7 +104,7 @@ pub fn assert_caught(mistake: impl Fn(&Asked, &mut Told)) {
 
 /// Caught where the sheet changes, each way by itself.
 #[track_caller]
-fn assert_caught_where_changed(mistake: impl Fn(&[u32], &mut [u32])) {
+pub fn assert_caught_where_changed(mistake: impl Fn(&[u32], &mut [u32])) {
     for to in Layout::BOTH {
         assert_caught(|asked, told| {
             if asked.to == to && asked.changes() && told.outcome.number == 0 {
@@ -112,14 +114,13 @@ fn assert_caught_where_changed(mistake: impl Fn(&[u32], &mut [u32])) {
     }
 }
 
-/// Changes the first words of roads, by their pairs.
+/// Changes the first words of roads, by their pairs; they run the ways that they ran.
 fn change_roads(written: &mut [u32], change: impl Fn(Layout, usize, usize) -> u32) {
     let layout = Layout::of(written);
-    let is_road = |word: &&mut u32| words::kind(**word) == kinds::ROAD_PLACES;
-    for word in written.iter_mut().filter(is_road) {
-        let pair = layout.pair(*word);
-        *word = change(layout, pair.first, pair.second);
-    }
+    reread_roads(written, |word| {
+        let pair = layout.pair(word);
+        change(layout, pair.first, pair.second) | word & BOTH_MARKS
+    });
 }
 
 #[test]
@@ -169,7 +170,8 @@ fn the_last_road_as_it_was() {
         let last = written.iter().rposition(|&word| words::kind(word) == kinds::ROAD_PLACES);
         if let Some(at) = last {
             let pair = layout.pair(written[at]);
-            written[at] = layout.other().pair_word(pair.first as u32, pair.second as u32);
+            let as_it_was = layout.other().pair_word(pair.first as u32, pair.second as u32);
+            written[at] = as_it_was | written[at] & BOTH_MARKS;
         }
     });
 }

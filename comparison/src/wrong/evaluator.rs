@@ -35,6 +35,7 @@ pub const LAST_OF_RUNS: u32 = 21;
 pub const RIGHT_CUT_OUT: u32 = 22;
 pub const BOTH_CUT_OUT: u32 = 23;
 pub const BOUNDARY_WITHOUT_LEFT: u32 = 24;
+pub const RUNS_TOWARDS: u32 = 25;
 
 /// A row of verdicts, one for each place.
 pub type Row = Vec<Verdict>;

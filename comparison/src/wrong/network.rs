@@ -96,6 +96,7 @@ impl Network<'_> {
             RUN_OF_CENTRE => is_reached && !self.neighbours[centre.place].is_empty(),
             RUNS_OF_BALL => is_other && self.distances.within(centre.place, place, centre.ball),
             RUNS_OF_ALL => is_other,
+            RUNS_TOWARDS => is_other && self.distances.between(place, centre.place).is_some(),
             RUNS_OF_NEIGHBOURS => self.neighbours[centre.place].contains(&place),
             _ => is_other && is_reached,
         }

@@ -2,9 +2,10 @@
 //! (code 15) wrongly.
 
 use super::evaluator::{self, Trapped};
+use super::rereads::Rereads;
 use super::traps::found_alone;
 use super::{caught, over};
-use crate::{laws, raising, steadiness, Engine, Filled, Implementation};
+use crate::{laws, raising, steadiness, Engine};
 use reference::distance::Distances;
 use reference::evaluation::Evaluation;
 use reference::fast::Fast;
@@ -81,26 +82,13 @@ fn right_cut_out_beside_left() {
 }
 
 /// An engine that takes some codes for others.
-struct Recoded(fn(u32) -> u32);
-
-impl Engine for Recoded {
-    fn judge(&self, sheet: &[u8], left: Filled) -> u64 {
-        let recoded = |&word: &u32| match words::kind(word) {
-            kinds::LINE => words::with_code(word, (self.0)(words::field(word, 27, 20))),
-            _ => word,
-        };
-        match words::from_bytes(sheet) {
-            Some(words) => {
-                let words: Vec<u32> = words.iter().map(recoded).collect();
-                Implementation.judge(&words::to_bytes(&words), left)
-            }
-            None => Implementation.judge(sheet, left),
+fn recoded(recode: fn(u32) -> u32) -> impl Engine {
+    Rereads(move |words: &mut [u32]| {
+        let is_line = |word: &&mut u32| words::kind(**word) == kinds::LINE;
+        for word in words.iter_mut().filter(is_line) {
+            *word = words::with_code(*word, recode(words::field(*word, 27, 20)));
         }
-    }
-
-    fn lookup(&self, answer: &[u8], line: u64, sample: u64, place: u64) -> u64 {
-        Implementation.lookup(answer, line, sample, place)
-    }
+    })
 }
 
 #[test]
@@ -110,25 +98,25 @@ fn the_two_codes_exchanged() {
         15 => 7,
         _ => code,
     };
-    assert!(caught(&Recoded(exchanged)).is_some());
+    assert!(caught(&recoded(exchanged)).is_some());
 }
 
 #[test]
 fn one_reading_for_both_codes() {
-    assert!(caught(&Recoded(|code| if code == 15 { 7 } else { code })).is_some());
-    assert!(caught(&Recoded(|code| if code == 7 { 15 } else { code })).is_some());
+    assert!(caught(&recoded(|code| if code == 15 { 7 } else { code })).is_some());
+    assert!(caught(&recoded(|code| if code == 7 { 15 } else { code })).is_some());
 }
 
 #[test]
 fn the_first_code_that_there_is_not_taken() {
-    assert!(caught(&Recoded(|code| if code == 16 { 15 } else { code })).is_some());
-    assert!(caught(&Recoded(|code| if code == 16 { 0 } else { code })).is_some());
+    assert!(caught(&recoded(|code| if code == 16 { 15 } else { code })).is_some());
+    assert!(caught(&recoded(|code| if code == 16 { 0 } else { code })).is_some());
 }
 
 /// The lowest four bits of a code.
 #[test]
 fn codes_that_run_over() {
-    assert!(caught(&Recoded(|code| code & 0xF)).is_some());
+    assert!(caught(&recoded(|code| code & 0xF)).is_some());
 }
 
 /// The laws alone find what goes wrong with verdicts and margins, and tell the
@@ -143,8 +131,8 @@ fn faults_that_break_a_law() {
     assert_eq!(found(&Trapped::<{ evaluator::LAST_OF_RUNS }>), Some(1));
     assert_eq!(found(&Trapped::<{ evaluator::RIGHT_CUT_OUT }>), Some(1));
     assert_eq!(found(&Trapped::<{ evaluator::BOTH_CUT_OUT }>), Some(1));
-    assert_eq!(found(&Recoded(|code| if code == 15 { 7 } else { code })), Some(1));
-    assert_eq!(found(&Recoded(|code| if code == 7 { 15 } else { code })), Some(1));
+    assert_eq!(found(&recoded(|code| if code == 15 { 7 } else { code })), Some(1));
+    assert_eq!(found(&recoded(|code| if code == 7 { 15 } else { code })), Some(1));
 }
 
 /// Right, but for the margins of surrounds of one code, which are twice what they

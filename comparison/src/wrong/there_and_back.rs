@@ -3,6 +3,7 @@
 
 use super::bytes::Spoilt;
 use super::converters::mistaken;
+use super::rereads::reread_roads;
 use super::traps::DRAWS;
 use crate::converting::there_and_back;
 use crate::difference::Difference;
@@ -11,6 +12,7 @@ use crate::{Engine, Implementation};
 use reference::generate::random::Random;
 use reference::generate::valid;
 use reference::layout::Layout;
+use reference::road::{Direction, BOTH_MARKS};
 use reference::words::{self, kinds};
 
 /// What is found on random sheets, in an engine or in tools.
@@ -69,6 +71,21 @@ fn weights_lost_both_ways() {
         }
     });
     assert_found(found(&Implementation, &tools), "there and back the words are others", 2);
+}
+
+/// Each time they are exchanged, so that the words come back: what is said does not.
+#[test]
+fn directions_exchanged_both_ways() {
+    let tools = mistaken(|asked, told| {
+        if asked.changes() {
+            reread_roads(&mut told.words, |word| match Direction::told(word) {
+                Some(direction) => word & !BOTH_MARKS | direction.turned().mark(),
+                None => word,
+            });
+        }
+    });
+    let difference = found(&Implementation, &tools).expect("a difference");
+    assert!(difference.what.ends_with("is not the same in both layouts"), "{}", difference.what);
 }
 
 /// An engine that says something else to wide sheets.

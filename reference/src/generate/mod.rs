@@ -80,9 +80,10 @@ pub fn layout(random: &mut Random, places: usize) -> Layout {
     }
 }
 
-/// Refusals to aim at; those of lines more often, which have many ways to arise.
-const AIMS: [u64; 24] =
-    [1, 1, 2, 3, 4, 5, 6, 7, 8, 9, 10, 11, 11, 12, 12, 12, 12, 13, 13, 13, 14, 15, 16, 17];
+/// Refusals to aim at; those of lines more often, which have many ways to arise, and
+/// that of a road's bits.
+const AIMS: [u64; 25] =
+    [1, 1, 2, 3, 4, 4, 5, 6, 7, 8, 9, 10, 11, 11, 12, 12, 12, 12, 13, 13, 13, 14, 15, 16, 17];
 
 /// The case of a seed: of a hundred about 50 valid ones (one of them of many
 /// rounds, two with islands, two with windows full of ties), 36 aimed at a certain

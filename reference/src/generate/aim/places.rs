@@ -7,14 +7,23 @@ use crate::road::{Direction, BOTH_MARKS};
 use crate::words::{self, kinds};
 
 /// 4: a spare bit of a road's first word, or both bits of its direction, or both
-/// faults.
+/// faults. Now and then its pair or its weight is at fault as well.
 pub fn road_spare_bits(random: &mut Random, mut words: Vec<u32>) -> Option<Vec<u32>> {
     let at = find(random, &words, kinds::ROAD_PLACES)?;
     let both_places = 2 * Layout::of(&words).place_bits();
-    let spare = 1 << random.field(both_places, 25);
+    let any = random.field(both_places, 25);
+    let spare = 1 << random.pick(&[any, any, 25]) | random.pick(&Direction::ALL).mark();
+    words[at] &= !BOTH_MARKS;
     words[at] |= random.pick(&[spare, spare, BOTH_MARKS, BOTH_MARKS, spare | BOTH_MARKS]);
-    if random.chance(30) {
-        words[at] ^= random.field(0, (1 << both_places) - 1);
+    let pair = (1 << both_places) - 1;
+    let before = at.checked_sub(2).map(|before| words[before]);
+    match (random.below(10), before) {
+        (0..=2, _) => words[at] ^= random.field(0, pair),
+        (3 | 4, Some(word)) if words::kind(word) == kinds::ROAD_PLACES => {
+            words[at] = words[at] & !pair | word & pair;
+        }
+        (5, _) => words[at + 1] = words::word(kinds::ROAD_WEIGHT, 0),
+        _ => {}
     }
     Some(words)
 }
