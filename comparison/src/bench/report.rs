@@ -100,6 +100,11 @@ fn by_cities(engine: &dyn Engine) {
     }
     section("Wide: 1,024 places in full, 523,776 roads, one sample, true");
     row(engine, "distances alone", &cities::full_graph());
+    section("Wide: 32×32 grid of one-way streets, one surround with islands (15), samples: 100");
+    for (lower, upper) in OF_CITY {
+        let sheet = cities::surround_on_streets(100, (lower, upper));
+        row(engine, &format!("surround {lower}..{upper}"), &sheet);
+    }
 }
 
 /// Times the converters; prints a row for each way.

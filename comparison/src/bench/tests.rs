@@ -4,6 +4,7 @@ use super::cities;
 use super::sheets::{self, BothWays, Readings};
 use reference::builder::SheetBuilder;
 use reference::convert::laid_out;
+use reference::distance::{Distances, NO_DISTANCE};
 use reference::fast::Fast;
 use reference::judge::Outcome;
 use reference::layout::{Layout, ENOUGH_DISTANCES};
@@ -80,6 +81,16 @@ fn cities_are_wide_and_have_1024_places() {
     let sheet = checked(&cities::full_graph());
     assert_eq!((sheet.head.layout, sheet.head.places), (Layout::Wide, 1024));
     assert_eq!((sheet.roads.len(), sheet.lines.len()), (523_776, 1));
+}
+
+/// Every street runs one way, and from each place one comes to each.
+#[test]
+fn streets_run_one_way() {
+    let sheet = checked(&cities::surround_on_streets(100, (2, 12)));
+    assert_eq!((sheet.roads.len(), sheet.head.samples), (1984, 100));
+    assert!(sheet.roads.iter().all(|road| road.direction.is_one_way()));
+    let distances = Distances::new(1024, &sheet.roads);
+    assert!(distances.entries().all(|entry| entry != NO_DISTANCE));
 }
 
 /// Both layouts of one sheet: each is what the other is taken to.

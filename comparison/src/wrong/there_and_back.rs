@@ -84,8 +84,7 @@ fn directions_exchanged_both_ways() {
             });
         }
     });
-    let difference = found(&Implementation, &tools).expect("a difference");
-    assert!(difference.what.ends_with("is not the same in both layouts"), "{}", difference.what);
+    assert_found(found(&Implementation, &tools), "unlike rounds and yes counts", 2);
 }
 
 /// An engine that says something else to wide sheets.
