@@ -76,6 +76,13 @@ fn both_ways() {
     assert_leaves(0x2000_0001, [0, 3, 3, 0], lines, 2, 10);
 }
 
+/// The file that hosts are tried on.
+#[test]
+fn the_worked_sheet_as_a_file() {
+    let file = include_bytes!("../examples/one_way.sheet");
+    assert_eq!(file[..], words::to_bytes(&ONE_WAY));
+}
+
 #[test]
 fn the_worked_sheet_in_print() {
     let rows = "\

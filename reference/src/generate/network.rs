@@ -31,10 +31,11 @@ enum Weights {
 #[derive(Clone, Copy)]
 enum Traffic {
     BothWays,
-    /// Few run one way, or a third each way and a third both ways.
+    /// One in five runs one way only.
     Few,
+    /// A third run both ways, and a third each way.
     Mixed,
-    /// Each one way or the other.
+    /// Each runs one way or the other.
     OneWay,
     /// Each one way, from place to place as the shape is built, and from the last
     /// place to the first: a ring is a circle that runs one way round.
