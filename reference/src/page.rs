@@ -6,11 +6,12 @@ const PAGES: [&str; 2] =
 
 /// The labels of the newcomers' sheets. Those of the planners' page are among the
 /// worked ones.
-pub const SHEETS: [&str; 5] = [
+pub const SHEETS: [&str; 6] = [
     "words a-sheet",
     "words wide-sheet",
     "words network-sheet",
     "words islands-sheet",
+    "words one-way-sheet",
     "words back-sheet",
 ];
 

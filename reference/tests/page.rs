@@ -8,9 +8,10 @@ use reference::judge::{Outcome, BYTES_PER_DISTANCE};
 use reference::layout::Layout;
 use reference::page;
 use reference::print::print;
+use reference::road::Direction;
 use reference::sheet::LAST_CODE;
 use reference::words;
-use reference::worked::{AFTER_RAISING, BEFORE_RAISING, WIDE_A};
+use reference::worked::{AFTER_RAISING, BEFORE_RAISING, ONE_WAY, WIDE_A};
 
 fn printed(words: &[u32]) -> String {
     print::<Fast>(&words::to_bytes(words))
@@ -70,6 +71,8 @@ fn from_narrow_to_wide() {
     row("first words", narrow[0], &wide[..2]);
     row("end", narrow[18], &wide[19..]);
     row("a road's first word", road, &[Layout::Wide.pair_word(3, 4)]);
+    let forth = Direction::FirstToSecond.mark();
+    row("a one-way road's first word", road | forth, &[Layout::Wide.pair_word(3, 4) | forth]);
 }
 
 #[test]
@@ -96,6 +99,30 @@ fn islands_without_a_road() {
     assert!(printed(&both).ends_with(rows));
     let one = [&sheet[..], &line_2, &[0xF000_000C]].concat();
     assert!(printed(&one).starts_with("accepted 11 0 4\n"));
+}
+
+/// The sheet, and the rows of the page's table of what changes with its road: bit 27,
+/// bit 26, neither, and both, which are refused.
+#[test]
+fn a_one_way_road() {
+    let sheet = page::words("words one-way-sheet");
+    assert_eq!(sheet, ONE_WAY);
+    assert_eq!(printed(&sheet), page::block("rows one-way-printed").join("\n") + "\n");
+    let none = u64::MAX;
+    let ways = [
+        (0x28000001, [0, 3, none, 0], 8),
+        (0x24000001, [0, none, 3, 0], 8),
+        (0x20000001, [0, 3, 3, 0], 10),
+    ];
+    for (road, expected, yes) in ways {
+        let left = judged_words(&[&sheet[..1], &[road], &sheet[2..]].concat());
+        assert_eq!((distances(&left, 4), outcome(&left).yes), (expected.to_vec(), yes));
+        let row = format!("| `{road:08X}` | ");
+        let shown = page::rows().find(|shown| shown.starts_with(&row)).expect("a row");
+        assert!(shown.ends_with(&format!(" | {yes} |")), "{shown}");
+    }
+    let both = [&sheet[..1], &[0x2C000001], &sheet[2..]].concat();
+    assert_eq!(printed(&both), "refused 4 1\n");
 }
 
 #[test]
