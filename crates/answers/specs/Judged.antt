@@ -41,7 +41,7 @@ refusal distances answer number place = record {
 }
 
 module _ (s : List ℕ) (distances answer : ℕ) where
-  -- on a network
+  -- what is left for an accepted sheet, given the network that its roads make
   abbrev pub answeredOn : Network → Layout → Judged
   answeredOn N L =
       let x : Recording = recording s L in
@@ -60,10 +60,10 @@ module _ (s : List ℕ) (distances answer : ℕ) where
   unfoldable pub answered : Layout → Judged
   answered L = answeredOn (network s L) L
 
-  -- 15 comes last: fewer words than needed, told at the sheet's length
+  -- what is left, given what is for an accepted sheet; 15 comes last: fewer words than needed, told at the sheet's length
   abbrev pub decided : (Layout → Judged) → Checked Layout → Judged
-  decided leave (refused number place) = refusal distances answer number place
-  decided leave (accepted L) = cond (leb (wordsNeeded (isWide s) (L.sizes.places) L.lines) answer) (leave L) (refusal distances answer 15 (length s))
+  decided leaves (refused number place) = refusal distances answer number place
+  decided leaves (accepted L) = cond (leb (wordsNeeded (isWide s) (L.sizes.places) L.lines) answer) (leaves L) (refusal distances answer 15 (length s))
 
   abbrev pub judgedBy : Checked Layout → Judged
   judgedBy = decided answered

@@ -21,7 +21,7 @@ module _ (s : List ℕ) where
   abbrev pub NoneOneWay : Type 0
   NoneOneWay = (i : ℕ) → kindOf (wordAt s i) ≡ 2 → bits 26 2 (wordAt s i) ≡ 0
 
-  -- 4 is told of any of these bits; what is asked of the other bits, of the places and of the weight is as now
+  -- 4 is told of any of these bits; where they are zero, what is asked of the places and of the weight is as now
   abbrev pub roadBefore : ℕ → ℕ → ℕ → Checked ℕ
   roadBefore n at last = require (eqb (aboveBits (isWide s) (wordAt s at)) 0) 4 at (roadChecked s n at last)
 

@@ -89,15 +89,15 @@ module _ (s : List ℕ) where
   abbrev pub secondOf : ℕ → ℕ
   secondOf r = secondPlace (isWide s) (wordAt s (roadAt (isWide s) r))
 
+  abbrev pub weightOf : ℕ → ℕ
+  weightOf r = payloadOf (wordAt s (weightAt (isWide s) r))
+
   -- its two ways
   abbrev pub forthOf : ℕ → Way
   forthOf r = wayForth (isWide s) (wordAt s (roadAt (isWide s) r))
 
   abbrev pub backOf : ℕ → Way
   backOf r = wayBack (isWide s) (wordAt s (roadAt (isWide s) r))
-
-  abbrev pub weightOf : ℕ → ℕ
-  weightOf r = payloadOf (wordAt s (weightAt (isWide s) r))
 
   -- what the distances need of a road that passed
   pub record GoodRoad (n r : ℕ) : Type 0 where
@@ -124,7 +124,7 @@ abbrev pub distanceNumber : Distance → ℕ
 distanceNumber (dist x) = x
 distanceNumber none = 2 ^ 64 - 1
 
--- row by row
+-- row by row: a row has the distances from its place (M-106)
 unfoldable pub distanceTable : Network → List ℕ
 distanceTable N = rows (λ a b. distanceNumber (distanceIn N a b)) (N.places) (N.places)
 
