@@ -1,0 +1,122 @@
+// Two corrections of one sample with equal revision and unlike values: 20. Each correction is compared with the last one before it that has its sample and
+// its revision: those before that one agree with it, or they would have been found. Chains through lent words lead from a correction to the earlier ones
+// whose targets leave the same remainder, so that few others are looked at; where there is no room for them, every earlier one is.
+use crate::correction::Found;
+use crate::correction::Grid;
+use crate::correction::first_at;
+use crate::correction::second_at;
+use crate::correction::target_at;
+use crate::correction::value_at;
+ghost use mathlib.Core.Path.{_≡_};
+ghost use Prim.Native.Nat.{_+_, _<_};
+ghost use lib.ListN.{length, replicate};
+ghost use Rattle.words.specs.Bytes.{wordsOf};
+ghost use Rattle.corrections.specs.Corrections.{sameRevision, disagreesWith, agrees, inTurn};
+ghost use Rattle.corrections.specs.Aimed.{foundSaid, GridFits, AllAimed};
+ghost use Rattle.corrections.specs.Chains.{lastBelow, candidate, earlier, Chained, HeadsFit, Next};
+
+// The most corrections that words can number.
+const MOST_LINKED: usize = 4294967295;
+
+// How many heads there is room for beside a link for each correction.
+fn heads_for(count: usize, room: usize) -> usize
+    ensures { λ r. ⌜ (HeadsFit r count room) ⌝ }
+{
+    if room <= count {
+        return 0;
+    }
+    if MOST_LINKED < count {
+        return 0;
+    }
+    room - count
+}
+
+// Whether two corrections have the same sample and revision: their first two words are then the same.
+fn same_revision(list: &[u8], grid: Grid, i: usize, k: usize) -> bool
+    requires { ⌜ AllAimed (wordsOf (now list)) grid (k + 1) × (i < k) ⌝ }
+    ensures { λ r. ⌜ r ≡ sameRevision (wordsOf (now (list .entry))) grid i k ⌝ }
+{
+    if first_at(list, i) != first_at(list, k) {
+        return false;
+    }
+    second_at(list, i) == second_at(list, k)
+}
+
+// The last candidate before a correction, by one more than its number, 0 for none.
+fn last_candidate(list: &[u8], grid: Grid, links: &[u8], heads: usize, k: usize) -> usize
+    requires { ⌜ Next (wordsOf (now list)) grid heads (wordsOf (now links)) k ⌝ }
+    ensures { λ r. ⌜ r ≡ lastBelow (candidate (wordsOf (now (list .entry))) grid heads k) k ⌝ }
+{
+    if heads == 0 {
+        return k;
+    }
+    words::word_at(links, target_at(list, k, grid) % heads) as usize
+}
+
+// The candidate before one, in the same way.
+fn earlier_candidate(links: &[u8], heads: usize, i: usize) -> usize
+    requires { ⌜ (HeadsFit heads (i + 1) (length (wordsOf (now links)))) ⌝ }
+    ensures { λ r. ⌜ r ≡ earlier heads (wordsOf (now (links .entry))) i ⌝ }
+{
+    if heads == 0 {
+        return i;
+    }
+    words::word_at(links, heads + i) as usize
+}
+
+// Whether a correction disagrees with an earlier one, where those agree.
+fn disagrees(list: &[u8], grid: Grid, links: &[u8], heads: usize, k: usize) -> bool
+    requires { ⌜ Next (wordsOf (now list)) grid heads (wordsOf (now links)) k ⌝ }
+    ensures { λ r. ⌜ r ≡ disagreesWith (wordsOf (now (list .entry))) grid k k ⌝ }
+{
+    let mut after = last_candidate(list, grid, links, heads, k);
+    while 0 < after {
+        let i = after - 1;
+        if same_revision(list, grid, i, k) {
+            return value_at(list, i) != value_at(list, k);
+        }
+        after = earlier_candidate(links, heads, i);
+    }
+    false
+}
+
+// Puts a correction at the front of its chain.
+fn enter(list: &[u8], grid: Grid, links: &mut [u8], heads: usize, k: usize)
+    requires { ⌜ Next (wordsOf (now list)) grid heads (wordsOf (now links)) k ⌝ }
+    ensures { λ _. ⌜ Chained (wordsOf (now (list .entry))) grid heads (wordsOf (now (links .exit))) (k + 1) ⌝ }
+{
+    if heads == 0 {
+        return;
+    }
+    let head = target_at(list, k, grid) % heads;
+    let last = words::word_at(links, head);
+    words::put_word(links, heads + k, last);
+    words::put_word(links, head, (k + 1) as u32);
+}
+
+// One after the other, from no chains on.
+fn look_through(list: &[u8], grid: Grid, count: usize, links: &mut [u8], heads: usize) -> Found
+    requires { ⌜ AllAimed (wordsOf (now list)) grid count × GridFits grid × (HeadsFit heads count (length (wordsOf (now links)))) × Chained (wordsOf (now list)) grid heads (wordsOf (now links)) 0 ⌝ }
+    ensures { λ r. ⌜ foundSaid 20 r ≡ inTurn (agrees (wordsOf (now (list .entry))) grid) count ⌝ }
+{
+    for k in 0..count {
+        if disagrees(list, grid, links, heads, k) {
+            return Found::At(k * 3);
+        }
+        enter(list, grid, links, heads, k);
+    }
+    Found::Nothing
+}
+
+// The first correction that disagrees with an earlier one. What is lent serves for chains, and is zero in the end.
+pub fn find_clash(list: &[u8], grid: Grid, count: usize, links: &mut [u8]) -> Found
+    requires { ⌜ AllAimed (wordsOf (now list)) grid count × GridFits grid ⌝ }
+    ensures found { λ r. ⌜ foundSaid 20 r ≡ inTurn (agrees (wordsOf (now (list .entry))) grid) count ⌝ }
+    ensures cleared { λ _. ⌜ now (links .exit) ≡ replicate (length (now (links .entry))) 0 ⌝ }
+{
+    words::fill_zero(links);
+    let heads = heads_for(count, words::word_count(links));
+    let found = look_through(list, grid, count, links, heads);
+    words::fill_zero(links);
+    found
+}

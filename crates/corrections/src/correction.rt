@@ -1,0 +1,61 @@
+// What one correction says, and which sample of the sheet it is aimed at.
+ghost use mathlib.Core.Path.{_≡_};
+ghost use Prim.Native.Nat.{_+_, _*_, _<_};
+ghost use lib.ListN.{length};
+ghost use Rattle.words.specs.Bytes.{wordsOf};
+ghost use Rattle.checks.specs.Checked.{wordAt};
+ghost use Rattle.corrections.specs.Corrections.{revision, value, target};
+ghost use Rattle.corrections.specs.Aimed.{GridFits};
+
+// The samples of a sheet: the index at which they begin, and how many places, signals and samples there are.
+pub struct Grid {
+    pub start: usize,
+    pub places: usize,
+    pub signals: usize,
+    pub samples: usize,
+}
+
+// What a look through a list finds: no fault, or the index of the word at which one is told.
+pub enum Found {
+    Nothing,
+    At(usize),
+}
+
+pub(crate) fn first_at(list: &[u8], k: usize) -> u32
+    requires { ⌜ k * 3 + 2 < length (wordsOf (now list)) ⌝ }
+    ensures { λ r. ⌜ r ≡ wordAt (wordsOf (now (list .entry))) (k * 3) ⌝ }
+{
+    words::word_at(list, k * 3)
+}
+
+pub(crate) fn second_at(list: &[u8], k: usize) -> u32
+    requires { ⌜ k * 3 + 2 < length (wordsOf (now list)) ⌝ }
+    ensures { λ r. ⌜ r ≡ wordAt (wordsOf (now (list .entry))) (k * 3 + 1) ⌝ }
+{
+    words::word_at(list, k * 3 + 1)
+}
+
+pub fn value_at(list: &[u8], k: usize) -> u32
+    requires { ⌜ k * 3 + 2 < length (wordsOf (now list)) ⌝ }
+    ensures { λ r. ⌜ r ≡ value (wordsOf (now (list .entry))) k ⌝ }
+{
+    words::word_at(list, k * 3 + 2)
+}
+
+pub fn revision_at(list: &[u8], k: usize) -> u32
+    requires { ⌜ k * 3 + 2 < length (wordsOf (now list)) ⌝ }
+    ensures { λ r. ⌜ r ≡ revision (wordsOf (now (list .entry))) k ⌝ }
+{
+    first_at(list, k) / 1048576 % 256
+}
+
+// The index of the sample in the sheet.
+pub fn target_at(list: &[u8], k: usize, grid: Grid) -> usize
+    requires { ⌜ (k * 3 + 2 < length (wordsOf (now list))) × GridFits grid ⌝ }
+    ensures { λ r. ⌜ r ≡ target (wordsOf (now (list .entry))) grid k ⌝ }
+{
+    let first = first_at(list, k) as usize;
+    let place = second_at(list, k) as usize % 65536;
+    let row = first % 4096 * grid.places + place;
+    grid.start + (row * grid.signals + first / 4096 % 256)
+}
