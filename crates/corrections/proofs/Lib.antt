@@ -1,0 +1,5 @@
+pub mod Disagreeing
+pub mod LastBelow
+pub mod Chaining
+pub mod Walking
+pub mod OneSample
