@@ -35,19 +35,24 @@ module _ (c : List ℕ) (g : Grid) (heads k : ℕ) where
   }
 
   module _ (links : List ℕ) (next : Next c g heads links k) (after : ℕ) (walking : Walking c g heads k after) where
+    -- the link leads to the last candidate before
+    linked-to : (i later : ℕ) → after ≡ suc i → later ≡ earlier heads links i → later ≡ lastBelow (candidate c g heads k) i
+    linked-to i later e f = f ∙ link-earlier c g heads links k (next .chained) i k (omega (arith, walking .inside)) (walking .comes i e)
+
+    pub walk-less : (i later : ℕ) → after ≡ suc i → later ≡ earlier heads links i → later < after
+    walk-less i later e f = omega (arith, linked-to i later e f, last-bound (candidate c g heads k) i)
+
     pub walk-on : (i later : ℕ) → after ≡ suc i → sameRevision c g i k ≡ false → later ≡ earlier heads links i → Walking c g heads k later
-    walk-on i later e other f =
-        let here : later ≡ lastBelow (candidate c g heads k) i = f ∙ link-earlier c g heads links k (next .chained) i k (omega (arith, walking .inside)) (walking .comes i e) in
-        record {
-          inside = omega (arith, last-bound (candidate c g heads k) i, walking .inside);
-          passed = λ m h l. passed here m h l (ℕ-discrete m i) (decLt m i);
-          comes = λ m h. last-passes (candidate c g heads k) i m (sym here ∙ h);
-        }
+    walk-on i later e other f = record {
+      inside = omega (arith, walk-less i later e f, walking .inside);
+      passed = λ m h l. passed m h l (ℕ-discrete m i) (decLt m i);
+      comes = λ m h. last-passes (candidate c g heads k) i m (sym (linked-to i later e f) ∙ h);
+    }
       where
-        passed : later ≡ lastBelow (candidate c g heads k) i → (m : ℕ) → later ≤ m → m < k → Dec (m ≡ i) → Dec (m < i) → sameRevision c g m k ≡ false
-        passed here m h l (yes same) _ = subst (λ (n : ℕ). sameRevision c g n k ≡ false) (sym same) other
-        passed here m h l (no apart) (yes below) = not-same i m (omega arith) below
-        passed here m h l (no apart) (no above) = walking .passed m (omega arith) l
+        passed : (m : ℕ) → later ≤ m → m < k → Dec (m ≡ i) → Dec (m < i) → sameRevision c g m k ≡ false
+        passed m h l (yes same) _ = subst (λ (n : ℕ). sameRevision c g n k ≡ false) (sym same) other
+        passed m h l (no apart) (yes below) = not-same i m (omega (arith, linked-to i later e f)) below
+        passed m h l (no apart) (no above) = walking .passed m (omega arith) l
 
     pub walk-found : (i : ℕ) → after ≡ suc i → T (sameRevision c g i k) → disagreesWith c g k k ≡ not (eqb (value c i) (value c k))
     walk-found i e same =
