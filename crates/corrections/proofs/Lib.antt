@@ -1,3 +1,4 @@
+pub mod Turns
 pub mod Disagreeing
 pub mod LastBelow
 pub mod Chaining
