@@ -4,3 +4,4 @@ pub mod LastBelow
 pub mod Chaining
 pub mod Walking
 pub mod OneSample
+pub mod Searching
