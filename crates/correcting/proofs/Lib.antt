@@ -1,0 +1,4 @@
+pub mod Targets
+pub mod Counting
+pub mod Correction
+pub mod Examples
