@@ -1,0 +1,4 @@
+pub mod Raising
+pub mod Settling
+pub mod Writing
+pub mod Applying
