@@ -4,8 +4,7 @@ use crate::correction::Grid;
 use checks::word::is_kind;
 use checks::word::spare_bit_zero;
 ghost use mathlib.Core.Path.{_≡_};
-ghost use Prim.Native.Nat.{_*_, _<_};
-ghost use lib.ListN.{length};
+ghost use Prim.Native.Nat.{_+_, _*_, _<_, _^_};
 ghost use Rattle.words.specs.Bytes.{wordsOf};
 ghost use Rattle.corrections.specs.Corrections.{count, sampleNamed, placeNamed, wellFormed, inTurn};
 ghost use Rattle.corrections.specs.Aimed.{foundSaid};
@@ -19,7 +18,7 @@ pub fn correction_count(list: &[u8]) -> usize
 
 // The first word: a revision, a signal and a time of the sheet.
 fn names_sample(list: &[u8], k: usize, grid: Grid) -> bool
-    requires { ⌜ k * 3 < length (wordsOf (now list)) ⌝ }
+    requires { ⌜ k * 3 + 2 < 2 ^ 64 ⌝ }
     ensures { λ r. ⌜ r ≡ sampleNamed (wordsOf (now (list .entry))) grid k ⌝ }
 {
     let at = k * 3;
@@ -27,7 +26,7 @@ fn names_sample(list: &[u8], k: usize, grid: Grid) -> bool
     if !is_kind(list, at, 11) {
         return false;
     }
-    if first / 1048576 % 256 == 0 {
+    if first / 1048576 % 256 < 1 {
         return false;
     }
     first / 4096 % 256 < grid.signals && first % 4096 < grid.samples
@@ -35,7 +34,7 @@ fn names_sample(list: &[u8], k: usize, grid: Grid) -> bool
 
 // The second word: a place of the sheet.
 fn names_place(list: &[u8], k: usize, grid: Grid) -> bool
-    requires { ⌜ k * 3 < length (wordsOf (now list)) ⌝ }
+    requires { ⌜ k * 3 + 2 < 2 ^ 64 ⌝ }
     ensures { λ r. ⌜ r ≡ placeNamed (wordsOf (now (list .entry))) grid k ⌝ }
 {
     let at = k * 3 + 1;
@@ -47,7 +46,7 @@ fn names_place(list: &[u8], k: usize, grid: Grid) -> bool
 }
 
 fn check_correction(list: &[u8], k: usize, grid: Grid) -> Found
-    requires { ⌜ k * 3 < length (wordsOf (now list)) ⌝ }
+    requires { ⌜ k * 3 + 2 < 2 ^ 64 ⌝ }
     ensures { λ r. ⌜ foundSaid 19 r ≡ wellFormed (wordsOf (now (list .entry))) grid k ⌝ }
 {
     if !names_sample(list, k, grid) {

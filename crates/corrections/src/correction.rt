@@ -21,25 +21,33 @@ pub enum Found {
     At(usize),
 }
 
+// One of its three words.
+fn part_at(list: &[u8], k: usize, part: usize) -> u32
+    requires { ⌜ k * 3 + part < length (wordsOf (now list)) ⌝ }
+    ensures { λ r. ⌜ r ≡ wordAt (wordsOf (now (list .entry))) (k * 3 + part) ⌝ }
+{
+    words::word_at(list, k * 3 + part)
+}
+
 pub(crate) fn first_at(list: &[u8], k: usize) -> u32
     requires { ⌜ k * 3 + 2 < length (wordsOf (now list)) ⌝ }
     ensures { λ r. ⌜ r ≡ wordAt (wordsOf (now (list .entry))) (k * 3) ⌝ }
 {
-    words::word_at(list, k * 3)
+    part_at(list, k, 0)
 }
 
 pub(crate) fn second_at(list: &[u8], k: usize) -> u32
     requires { ⌜ k * 3 + 2 < length (wordsOf (now list)) ⌝ }
     ensures { λ r. ⌜ r ≡ wordAt (wordsOf (now (list .entry))) (k * 3 + 1) ⌝ }
 {
-    words::word_at(list, k * 3 + 1)
+    part_at(list, k, 1)
 }
 
 pub fn value_at(list: &[u8], k: usize) -> u32
     requires { ⌜ k * 3 + 2 < length (wordsOf (now list)) ⌝ }
     ensures { λ r. ⌜ r ≡ value (wordsOf (now (list .entry))) k ⌝ }
 {
-    words::word_at(list, k * 3 + 2)
+    part_at(list, k, 2)
 }
 
 pub fn revision_at(list: &[u8], k: usize) -> u32
