@@ -1,30 +1,27 @@
 -- What the tool's code decides, step by step: what is known of a valid sheet and of a list that has passed, and what is left in each case.
-use mathlib.Core.Path.{_≡_, refl, ap, subst, _∙_}
+use mathlib.Core.Path.{_≡_, ap, subst, _∙_}
 use mathlib.Core.List.{List}
 use Prim.Native.Nat.{ℕ, _*_, _<_, _≤_}
-use native.Mathlib.Nat.{mul-comm, mul-assoc}
 use native.Mathlib.Omega.{arith}
 use lib.ListN.{length}
 use Rattle.words.specs.Bytes.{wordsOf}
-use Rattle.words.proofs.Rows.{length-row, in-table}
+use Rattle.words.proofs.Rows.{length-row}
 use Rattle.checks.specs.Limits.{mostPlaces}
-use Rattle.checks.specs.Checked.{Checked, accepted, refused, _>>=_, mapped, wordAt}
-use Rattle.checks.specs.Heads.{isWide}
+use Rattle.checks.specs.Checked.{accepted, refused, _>>=_, mapped}
 use Rattle.checks.proofs.Checks.{mapped-accepted, mapped-refused}
-use Rattle.roads.specs.Roads.{roadAt}
 use Rattle.sheet.specs.declared.check.Layout as Code
-use Rattle.sheet.specs.Layout.{Layout, sampleCount, validated}
+use Rattle.sheet.specs.Layout.{Layout, validated}
 use Rattle.sheet.specs.Checking.{layoutOf}
-use Rattle.sheet.specs.Alike.{IsSample}
 use Rattle.sheet.proofs.Whole.{AcceptedSheet, accepted-sheet, few-words}
-use Rattle.sheet.proofs.Samples.{samples-told}
 use Rattle.tool.specs.Tool.{refusal, whole, left}
 use Rattle.tool.proofs.Leaving.{room-for, no-room-for}
 use Rattle.corrections.specs.declared.correction.Grid.{Grid}
-use Rattle.corrections.specs.Corrections.{count, signal, time, place, target, wellFormed, agrees, inTurn, listChecked}
-use Rattle.corrections.specs.Aimed.{GridFits, Aimed, AllAimed}
-use Rattle.correcting.specs.Corrected.{gridOf, correctedWords, corrected}
-use Rattle.correcting.specs.Lent.{correctedIn, appliedIn, gridIn, afterRevisions, Targets, NoRevisions}
+use Rattle.corrections.specs.Corrections.{count, wellFormed, agrees, inTurn, listChecked}
+use Rattle.corrections.specs.Aimed.{AllAimed}
+use Rattle.corrections.proofs.Aiming.{all-aimed}
+use Rattle.correcting.specs.Corrected.{correctedWords, corrected}
+use Rattle.correcting.specs.Lent.{correctedIn, appliedIn, gridIn, Targets, NoRevisions}
+use Rattle.correcting.proofs.Targets.{target-inside, target-sample}
 
 module _ (sheet list output : List ℕ) where
   abbrev s : List ℕ
@@ -71,15 +68,32 @@ module _ (sheet list output : List ℕ) where
     unfolding listChecked left
     faulty told = decided ∙ simp told
 
+    valid : AcceptedSheet s (mostPlaces * mostPlaces) (found .0)
+    unfolding validated
+    valid = accepted-sheet s (mostPlaces * mostPlaces) (found .0) (found .1)
+
+    abbrev Lists : Code.Layout → Type 0
+    Lists l = AllAimed c (gridIn l) (count c) → Targets c (gridIn l) s × NoRevisions c (gridIn l) s
+
+    -- the samples stand where the grid says
+    aimed-targets : Lists (layoutOf s (found .0))
+    aimed-targets aimed = (
+      record {
+        aimed = aimed;
+        fits = record {
+          begins = omega (arith, valid .table-there, few-words s (mostPlaces * mostPlaces) (found .0) valid);
+          few-places = valid .sizes .places-most;
+          few-signals = valid .sizes .signals-most;
+        };
+        inside = λ k h. target-inside s (mostPlaces * mostPlaces) (found .0) valid c k (aimed k h);
+      },
+      λ k h. omega (arith, target-sample s (mostPlaces * mostPlaces) (found .0) valid c k (aimed k h) .kind),
+    )
+
     module _ (passed : inTurn (wellFormed c (gridIn layout)) (count c) ≡ accepted tt) where
       pub list-passed : correctedIn sheet list output ≡ appliedIn sheet list output (gridIn layout)
       unfolding listChecked
       list-passed = decided ∙ simp passed
 
-    -- ---- the samples
-    valid : AcceptedSheet s (mostPlaces * mostPlaces) (found .0)
-    unfolding validated
-    valid = accepted-sheet s (mostPlaces * mostPlaces) (found .0) (found .1)
-
-    known : GridFits (gridIn layout)
-    known = ?
+      pub list-targets : Targets c (gridIn layout) s × NoRevisions c (gridIn layout) s
+      list-targets = subst Lists (found .2) aimed-targets (all-aimed c (gridIn layout) (count c) passed)

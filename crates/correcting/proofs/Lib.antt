@@ -1,3 +1,4 @@
+pub mod Targets
 pub mod Raising
 pub mod Settling
 pub mod Writing

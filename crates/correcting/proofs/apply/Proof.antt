@@ -1,95 +1,92 @@
+-- `correcting::apply` meets its contract: a clash decides first, then the room; what is left in each case stands in `Applying`.
+use mathlib.Core.Path.{_≡_, sym, ap, _∙_}
+use Prim.Native.Nat.{ℕ, _<_, _≤_}
+use native.Mathlib.Omega.{arith}
+use lib.ListN.{length, take}
 use borrow.Author.Needs.{needs}
+use Rattle.words.specs.Bytes.{wordsOf}
+use Rattle.tool.specs.declared.Told.{Told}
+use Rattle.tool.proofs.Leaving.{same-words, refused-leaves, finished-leaves}
+use Rattle.corrections.specs.Corrections.{count, agrees, inTurn}
+use Rattle.corrections.specs.Aimed.{foundSaid}
+use Rattle.correcting.specs.Corrected.{correctedWords}
+use Rattle.correcting.proofs.Applying.{clashes, corrected-length, too-short, enough}
 use Rattle.correcting.proofs.apply.Statement.{statement}
 use Rattle.correcting.proofs.apply.Tie as tie
-use Rattle.correcting.proofs.apply.Reads as reads
-use Rattle.correcting.proofs.apply.Lts as lts
-use Rattle.correcting.proofs.write_corrected.Reads as write-corrected-reads
-use Rattle.corrections.proofs.check.correction_count.Reads as correction-count-reads
-use Rattle.corrections.proofs.clashes.find_clash.Reads as find-clash-reads
-use Rattle.tool.proofs.finish.Reads as finish-reads
-use Rattle.tool.proofs.refuse.Reads as refuse-reads
-use Rattle.words.proofs.word_count.Reads as word-count-reads
 
--- src/lib.rt:124:34
-correction-count-requires : tie.Need-correction-count-requires
-correction-count-requires c κs = search needs
-
--- src/lib.rt:124:11
 find-clash-requires : tie.Need-find-clash-requires
-find-clash-requires c κs = search needs
+find-clash-requires c κs =
+    let start = c .before .before .before .before .before in
+    (λ k h. start .pre .0 .aimed k (omega (arith, h, c .before .correction-count .ensures)), start .pre .0 .fits)
 
--- src/lib.rt:125:19
-enum-known-index : tie.Need-enum-known-index
-enum-known-index c = search needs
+-- what the search said, of all corrections
+said : (c : tie.After-find-clash) → let g = c .before .before .before .before .before .before .args in foundSaid 20 (c .find-clash .result) ≡ inTurn (agrees (wordsOf (g .list .now)) (g .grid)) (count (wordsOf (g .list .now)))
+said c = let g = c .before .before .before .before .before .before .args in c .find-clash .ensures .0 ∙ ap (inTurn (agrees (wordsOf (g .list .now)) (g .grid))) (c .before .before .correction-count .ensures)
 
--- src/lib.rt:125:29
-refuse-requires : tie.Need-refuse-requires
-refuse-requires c κs = search needs
+-- it leaves as many words
+room : (c : tie.After-find-clash) → length (wordsOf (c .find-clash .last .1 .1 .1 .0)) ≡ length (wordsOf (c .before .before .before .before .before .before .args .output .now))
+room c = same-words (c .find-clash .last .1 .1 .1 .0) (c .before .before .before .before .before .before .args .output .now) (c .find-clash .kept .1 .1 .1 .0)
 
--- src/lib.rt:125:29
-same-length : tie.Need-same-length
-same-length c = search needs
-
--- src/lib.rt:125:29
 returns : tie.Need-returns
-returns c = search needs
+returns c =
+    let searched = c .before .before .before .before .before .before .before .before .before in
+    let g = searched .before .before .before .before .before .before .args in
+    refused-leaves (g .output .now) (searched .find-clash .kept .1 .1 .1 .0) (c .before .before .refuse .ensures .0) (c .before .before .refuse .ensures .1)
+    (clashes (g .sheet .now) (g .list .now) (g .output .now) (g .grid) (sym (said searched) ∙ ap (foundSaid 20) (c .before .before .before .before .before .index .given .1)))
 
-enum-told : tie.Need-enum-told
-enum-told c = search needs
-
--- src/lib.rt:128:9
-word-count-requires : tie.Need-word-count-requires
-word-count-requires c κs = search needs
-
--- src/lib.rt:129:8
-word-count-requires-2 : tie.Need-word-count-requires-2
-word-count-requires-2 c κs = search needs
-
--- src/lib.rt:130:9
-refuse-requires-2 : tie.Need-refuse-requires-2
-refuse-requires-2 c κs = search needs
-
--- src/lib.rt:130:9
-same-length-2 : tie.Need-same-length-2
-same-length-2 c = search needs
-
--- src/lib.rt:130:9
 returns-2 : tie.Need-returns-2
-returns-2 c = search needs
+returns-2 c =
+    let searched = c .before .before .before .before .before .before .before .before .before .before .before .before in
+    let g = searched .before .before .before .before .before .before .args in
+    let agree = sym (said searched) ∙ ap (foundSaid 20) (c .before .before .before .before .before .before .before .before .enum-told .given .1) in
+    let counted = c .before .before .before .before .before .before .before .word-count .ensures in
+    let short : length (wordsOf (g .output .now)) < length (wordsOf (g .sheet .now)) = omega (arith, room searched, counted, c .before .before .before .before .before .word-count2 .ensures, c .before .before .before .before .if1 .taken) in
+    let told : ℕ → Told = λ n. record { number = 15; place = n; words = 0 } in
+    refused-leaves (g .output .now) (searched .find-clash .kept .1 .1 .1 .0) (c .before .before .refuse2 .ensures .0 ∙ ap told counted) (c .before .before .refuse2 .ensures .1)
+    (too-short (g .sheet .now) (g .list .now) (g .output .now) (g .grid) agree short)
 
--- src/lib.rt:132:5
-write-corrected-requires : tie.Need-write-corrected-requires
-write-corrected-requires c κs = search needs
-
--- src/lib.rt:133:5
 finish-requires : tie.Need-finish-requires
-finish-requires c κs = search needs
+finish-requires c κs =
+    let searched = c .before .before .before .before .before .before .before .before .before .before .before .before .before in
+    let written = c .before .before .before .write-corrected in
+    let kept = same-words (written .last .1 .1 .1 .0) (searched .find-clash .last .1 .1 .1 .0) (written .kept .1 .1 .1 .0) in
+    let fits : c .before .before .before .before .before .before .before .before .word-count .result ≤ length (wordsOf (written .last .1 .1 .1 .0)) = omega (arith, kept, c .before .before .before .before .before .before .word-count2 .ensures, c .before .before .before .before .before .if1 .left) in
+    fits
 
--- src/lib.rt:118:1
-same-length-3 : tie.Need-same-length-3
-same-length-3 c = search needs
-
--- src/lib.rt:118:1
 returns-3 : tie.Need-returns-3
-returns-3 c = search needs
+returns-3 c =
+    let searched = c .before .before .before .before .before .before .before .before .before .before .before .before .before .before .before .before in
+    let g = searched .before .before .before .before .before .before .args in
+    let agree = sym (said searched) ∙ ap (foundSaid 20) (c .before .before .before .before .before .before .before .before .before .before .before .before .enum-told .given .1) in
+    let counted = c .before .before .before .before .before .before .before .before .before .before .before .word-count .ensures in
+    let written = c .before .before .before .before .before .before .write-corrected in
+    let bytes = written .last .1 .1 .1 .0 in
+    let fits : length (wordsOf (g .sheet .now)) ≤ length (wordsOf (g .output .now)) = omega (arith, room searched, counted, c .before .before .before .before .before .before .before .before .before .word-count2 .ensures, c .before .before .before .before .before .before .before .before .if1 .left) in
+    let ends = c .before .before .finish in
+    finished-leaves (g .output .now) bytes (correctedWords (wordsOf (g .sheet .now)) (wordsOf (g .list .now)) (g .grid)) (ends .last .0)
+    (written .kept .1 .1 .1 .0 ∙ searched .find-clash .kept .1 .1 .1 .0)
+    (counted ∙ sym (corrected-length (g .sheet .now) (g .list .now) (g .output .now) (g .grid)))
+    (ap (λ n. take n (wordsOf bytes)) counted ∙ written .ensures)
+    (ends .ensures .0) (ends .ensures .1 .0) (ends .ensures .1 .1)
+    (enough (g .sheet .now) (g .list .now) (g .output .now) (g .grid) agree fits)
 
 pub apply-spec : {M : Type 1} → statement M
 apply-spec =
     tie.close
     (tie.spec
-    correction-count-requires
+    (λ c κs. search needs)
     find-clash-requires
-    enum-known-index
-    refuse-requires
-    same-length
+    (λ c. search needs)
+    (λ c κs. search needs)
+    (λ c. search needs)
     returns
-    enum-told
-    word-count-requires
-    word-count-requires-2
-    refuse-requires-2
-    same-length-2
+    (λ c. search needs)
+    (λ c κs. search needs)
+    (λ c κs. search needs)
+    (λ c κs. search needs)
+    (λ c. search needs)
     returns-2
-    write-corrected-requires
+    (λ c κs. search needs)
     finish-requires
-    same-length-3
+    (λ c. search needs)
     returns-3)

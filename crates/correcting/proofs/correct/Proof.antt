@@ -1,101 +1,81 @@
+-- `correcting::correct` meets its contract: the sheet's check decides first, then 19, then the rest; what is left in each case stands in `Applying`.
+use mathlib.Core.Path.{_≡_, refl, sym, ap, subst, _∙_}
+use Prim.Native.Nat.{ℕ}
 use borrow.Author.Needs.{needs}
+use Rattle.words.specs.Bytes.{wordsOf}
+use Rattle.checks.specs.Checked.{accepted, mapped}
+use Rattle.sheet.specs.Layout.{validated}
+use Rattle.sheet.specs.Checking.{layoutOf, checkSaid}
+use Rattle.tool.specs.declared.Told.{Told}
+use Rattle.tool.specs.Tool.{Left}
+use Rattle.tool.proofs.Leaving.{refused-leaves}
+use Rattle.corrections.specs.declared.correction.Grid.{Grid}
+use Rattle.corrections.specs.Corrections.{count, wellFormed, inTurn}
+use Rattle.corrections.specs.Aimed.{foundSaid}
+use Rattle.correcting.specs.Lent.{appliedIn, gridIn, Targets, NoRevisions}
+use Rattle.correcting.proofs.Applying.{turned-back, faulty, list-passed, list-targets}
 use Rattle.correcting.proofs.correct.Statement.{statement}
 use Rattle.correcting.proofs.correct.Tie as tie
-use Rattle.correcting.proofs.correct.Reads as reads
-use Rattle.correcting.proofs.correct.Lts as lts
-use Rattle.checks.proofs.fault.number.Reads as number-reads
-use Rattle.correcting.proofs.apply.Reads as apply-reads
-use Rattle.correcting.proofs.grid_of.Reads as grid-of-reads
-use Rattle.corrections.proofs.check.check_corrections.Reads as check-corrections-reads
-use Rattle.sheet.proofs.check.check_words.Reads as check-words-reads
-use Rattle.tool.proofs.refuse.Reads as refuse-reads
 
--- src/lib.rt:142:11
-check-words-requires : tie.Need-check-words-requires
-check-words-requires c κs = search needs
+-- the sheet is valid, and what the check of the list said, of the grid that the sheet has
+accepts : (c : tie.After-check-corrections) → let s = wordsOf (c .before .before .before .before .before .before .before .before .before .args .sheet .now) in mapped (layoutOf s) (validated s) ≡ accepted (c .before .before .before .layout .given .0 .0)
+accepts c = sym (c .before .before .before .before .before .check-words .ensures) ∙ ap checkSaid (c .before .before .before .layout .given .1)
 
--- src/lib.rt:143:24
-enum-known-fault : tie.Need-enum-known-fault
-enum-known-fault c = search needs
+said : (c : tie.After-check-corrections) → let list = wordsOf (c .before .before .before .before .before .before .before .before .before .args .list .now) in foundSaid 19 (c .check-corrections .result) ≡ inTurn (wellFormed list (gridIn (c .before .before .before .layout .given .0 .0))) (count list)
+said c = let list = wordsOf (c .before .before .before .before .before .before .before .before .before .args .list .now) in c .check-corrections .ensures ∙ ap (λ (g : Grid). inTurn (wellFormed list g) (count list)) (c .before .grid-of .ensures)
 
--- src/lib.rt:143:56
-number-requires : tie.Need-number-requires
-number-requires c κs = search needs
-
--- src/lib.rt:143:41
-refuse-requires : tie.Need-refuse-requires
-refuse-requires c κs = search needs
-
--- src/lib.rt:144:25
-enum-known-layout : tie.Need-enum-known-layout
-enum-known-layout c = search needs
-
--- src/lib.rt:145:17
-grid-of-requires : tie.Need-grid-of-requires
-grid-of-requires c κs = search needs
-
--- src/lib.rt:146:19
-check-corrections-requires : tie.Need-check-corrections-requires
-check-corrections-requires c κs = search needs
-
--- src/lib.rt:147:27
-enum-known-index : tie.Need-enum-known-index
-enum-known-index c = search needs
-
--- src/lib.rt:147:37
-refuse-requires-2 : tie.Need-refuse-requires-2
-refuse-requires-2 c κs = search needs
-
--- src/lib.rt:148:60
-enum-told : tie.Need-enum-told
-enum-told c = search needs
-
--- src/lib.rt:148:35
 apply-requires : tie.Need-apply-requires
-apply-requires c κs = search needs
+apply-requires c κs =
+    let checked = c .before .before .before in
+    let g = checked .before .before .before .before .before .before .before .before .before .args in
+    let list = wordsOf (g .list .now) in
+    let passed = sym (said checked) ∙ ap (foundSaid 19) (c .before .enum-told .given .1) in
+    subst (λ (grid : Grid). Targets list grid (wordsOf (g .sheet .now)) × NoRevisions list grid (wordsOf (g .sheet .now))) (sym (checked .before .grid-of .ensures))
+    (list-targets (g .sheet .now) (g .list .now) (g .output .now) _ (accepts checked) passed)
 
--- src/lib.rt:137:1
-same-length : tie.Need-same-length
-same-length c = search needs
-
--- src/lib.rt:137:1
 returns : tie.Need-returns
-returns c = search needs
+returns c =
+    let g = c .before .before .before .before .before .before .before .before .before .before .before .before .args in
+    let fault = c .before .before .before .before .before .before .fault .given in
+    let told : ℕ → Told = λ n. record { number = n; place = fault .0 .1 .0; words = 0 } in
+    refused-leaves (g .output .now) refl (c .before .before .refuse .ensures .0 ∙ ap told (c .before .before .before .number .ensures)) (c .before .before .refuse .ensures .1)
+    (turned-back (g .sheet .now) (g .list .now) (g .output .now) (sym (c .before .before .before .before .before .before .before .before .check-words .ensures) ∙ ap checkSaid (fault .1)))
 
--- src/lib.rt:137:1
-same-length-2 : tie.Need-same-length-2
-same-length-2 c = search needs
-
--- src/lib.rt:137:1
 returns-2 : tie.Need-returns-2
-returns-2 c = search needs
+returns-2 c =
+    let checked = c .before .before .before .before .before .before .before in
+    let g = checked .before .before .before .before .before .before .before .before .before .args in
+    refused-leaves (g .output .now) refl (c .before .before .refuse2 .ensures .0) (c .before .before .refuse2 .ensures .1)
+    (faulty (g .sheet .now) (g .list .now) (g .output .now) _ (accepts checked) (sym (said checked) ∙ ap (foundSaid 19) (c .before .before .before .before .before .index .given .1)))
 
--- src/lib.rt:137:1
-same-length-3 : tie.Need-same-length-3
-same-length-3 c = search needs
-
--- src/lib.rt:137:1
 returns-3 : tie.Need-returns-3
-returns-3 c = search needs
+returns-3 c =
+    let checked = c .before .before .before .before .before .before in
+    let g = checked .before .before .before .before .before .before .before .before .before .args in
+    let passed = sym (said checked) ∙ ap (foundSaid 19) (c .before .before .before .before .enum-told .given .1) in
+    let same = ap (appliedIn (g .sheet .now) (g .list .now) (g .output .now)) (checked .before .grid-of .ensures)
+    ∙ sym (list-passed (g .sheet .now) (g .list .now) (g .output .now) _ (accepts checked) passed) in
+    let applied = c .before .before .apply .ensures in
+    (applied .0 ∙ ap (λ (l : Left). l .told) same, (applied .1 .0 ∙ ap (λ (l : Left). l .output) same, applied .1 .1))
 
 pub correct-spec : {M : Type 1} → statement M
 correct-spec =
     tie.close
     (tie.spec
-    check-words-requires
-    enum-known-fault
-    number-requires
-    refuse-requires
-    enum-known-layout
-    grid-of-requires
-    check-corrections-requires
-    enum-known-index
-    refuse-requires-2
-    enum-told
+    (λ c κs. search needs)
+    (λ c. search needs)
+    (λ c κs. search needs)
+    (λ c κs. search needs)
+    (λ c. search needs)
+    (λ c κs. search needs)
+    (λ c κs. search needs)
+    (λ c. search needs)
+    (λ c κs. search needs)
+    (λ c. search needs)
     apply-requires
-    same-length
+    (λ c. search needs)
     returns
-    same-length-2
+    (λ c. search needs)
     returns-2
-    same-length-3
+    (λ c. search needs)
     returns-3)
