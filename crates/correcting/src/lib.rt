@@ -94,7 +94,7 @@ fn raise_all(list: &[u8], grid: Grid, output: &mut [u8])
 // Puts the value in place of each highest revision, from the last correction on, so that the last of equal ones is taken.
 fn settle_all(list: &[u8], grid: Grid, output: &mut [u8])
     requires { ⌜ Targets (wordsOf (now list)) grid (wordsOf (now output)) ⌝ }
-    ensures { λ _. ⌜ ((before : List ℕ) → NoRevisions (wordsOf (now (list .entry))) grid before → AllRaised (wordsOf (now (list .entry))) grid before (wordsOf (now (output .entry))) → AllCorrected (wordsOf (now (list .entry))) grid before (wordsOf (now (output .exit)))) ⌝ }
+    ensures { λ _. ⌜ ((before : List ℕ) → AllRaised (wordsOf (now (list .entry))) grid before (wordsOf (now (output .entry))) → AllCorrected (wordsOf (now (list .entry))) grid before (wordsOf (now (output .exit)))) ⌝ }
 {
     let mut left = correction_count(list);
     while 0 < left {
