@@ -1,2 +1,8 @@
 pub mod Turns
 pub mod Aiming
+pub mod Disagreeing
+pub mod LastBelow
+pub mod Chaining
+pub mod Walking
+pub mod OneSample
+pub mod Searching

@@ -1,6 +1,6 @@
 -- The sum and the greatest of f below n: one number more, the same numbers, bounds, parts, and how many verdicts can be a yes.
 use mathlib.Core.Path.{_≡_, refl, ap₂}
-use mathlib.Core.Logic.{⊎-elim}
+use mathlib.Core.Logic.{_⊎_, inl, inr, ⊎-elim}
 use mathlib.Core.Bool.{Bool, true, false, cond}
 use Prim.Native.Nat.{ℕ, zero, suc, _+_, _*_, _<_, _≤_, zero-le, max}
 use native.Mathlib.Nat.{not-suc-le-zero, suc-mul, add-zero, add-suc, le-trans, le-antisymm}
@@ -88,12 +88,32 @@ unfolding mostBelow
 le-most f zero i l = absurd (not-suc-le-zero l)
 le-most f (suc n) i l = ⊎-elim (λ e. rw e (omega arith)) (λ k. omega (arith, le-most f n i k)) (below l)
 
+-- it is reached, unless it is 0
+abbrev pub Reached : (ℕ → ℕ) → (n most : ℕ) → Type 0
+Reached f n most = (most ≡ 0) ⊎ ((i : ℕ) × (i < n) × (f i ≡ most))
+
+pub most-reached : (f : ℕ → ℕ) (n : ℕ) → Reached f n (mostBelow f n)
+unfolding mostBelow
+most-reached f zero = inl refl
+most-reached f (suc n) = by-last (decLt (mostBelow f n) (f n)) (most-reached f n)
+  where
+    by-last : Dec (mostBelow f n < f n) → Reached f n (mostBelow f n) → Reached f (suc n) (max (mostBelow f n) (f n))
+    by-last (yes h) before = inr (n, omega arith, omega arith)
+    by-last (no h) (inl none) = inl (omega arith)
+    by-last (no h) (inr (i, l, e)) = inr (i, omega arith, omega arith)
+
 -- where a test passes
 pub over-le : (test : ℕ → Bool) (f : ℕ → ℕ) (n b : ℕ) → ((i : ℕ) → i < n → T (test i) → f i ≤ b) → mostOver test f n ≤ b
 over-le test f n b h = most-le _ n b (λ i l. by-test (test i) (λ t. cond t (f i) 0 ≤ b) (h i l) (λ _. zero-le))
 
 pub le-over : (test : ℕ → Bool) (f : ℕ → ℕ) (n i : ℕ) → i < n → T (test i) → f i ≤ mostOver test f n
 le-over test f n i l t = let h : cond (test i) (f i) 0 ≤ mostOver test f n = le-most (λ k. cond (test k) (f k) 0) n i l in rw (holds (test i) t) at h
+
+pub over-reached : (test : ℕ → Bool) (f : ℕ → ℕ) (n : ℕ) → (mostOver test f n ≡ 0) ⊎ ((i : ℕ) × (i < n) × T (test i) × (f i ≡ mostOver test f n))
+over-reached test f n = ⊎-elim inl
+    (λ r. by-test (test (r .0)) (λ t. cond t (f (r .0)) 0 ≡ mostOver test f n → (mostOver test f n ≡ 0) ⊎ ((i : ℕ) × (i < n) × T (test i) × (f i ≡ mostOver test f n)))
+    (λ passes e. inr (r .0, r .1, passes, e)) (λ _ e. inl (omega arith)) (r .2))
+    (most-reached (λ k. cond (test k) (f k) 0) n)
 
 -- numbers from k on that are no greater than one before them
 pub most-front : (f : ℕ → ℕ) (k n j : ℕ) → k ≤ n → j < k → ((i : ℕ) → k ≤ i → i < n → f i ≤ f j) → mostBelow f n ≡ mostBelow f k
