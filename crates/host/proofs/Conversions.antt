@@ -19,14 +19,13 @@ use Rattle.lookup.specs.Lookup.{saidAt}
 use Rattle.conversion.specs.Relaid.{converted}
 use Rattle.conversion.proofs.Conversion.{there-and-back, same-said, same-rounds, same-yes}
 use Rattle.conversion.proofs.Fitting.{made-fits, made-short, never-0}
-use Rattle.host.specs.Host.{multiple}
-use Rattle.host.specs.Tools.{HostTool, hostConverted}
-use Rattle.host.proofs.ToolsMade.{madeBy, tool-made}
+use Rattle.tools.specs.Tools.{multiple, HostTool, hostConverted}
+use Rattle.tools.proofs.ToolsMade.{madeBy, tool-made}
 use Rattle.host.proofs.Calls as judge
-use Rattle.host.proofs.tools.sheet_to_wide.Reads as wide
-use Rattle.host.proofs.tools.sheet_to_wide.Kinds as wide-kinds
-use Rattle.host.proofs.tools.sheet_to_narrow.Reads as narrow
-use Rattle.host.proofs.tools.sheet_to_narrow.Kinds as narrow-kinds
+use Rattle.host.proofs.tool_calls.sheet_to_wide.Reads as wide
+use Rattle.host.proofs.tool_calls.sheet_to_wide.Kinds as wide-kinds
+use Rattle.host.proofs.tool_calls.sheet_to_narrow.Reads as narrow
+use Rattle.host.proofs.tool_calls.sheet_to_narrow.Kinds as narrow-kinds
 
 -- a call of either: the bytes that it was given, and what it returned and left, so far as its contract tells
 pub record Call (to : Bool) : Type 0 where

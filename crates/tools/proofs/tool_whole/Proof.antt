@@ -1,8 +1,8 @@
 -- One test after the other, in the order of the definition.
 use borrow.Author.Tests.{not-true, not-false, eq-eqb, ne-eqb}
-use Rattle.host.specs.Tools.{toolWhole}
-use Rattle.host.proofs.tools.tool_whole.Statement.{statement}
-use Rattle.host.proofs.tools.tool_whole.Tie as tie
+use Rattle.tools.specs.Tools.{toolWhole}
+use Rattle.tools.proofs.tool_whole.Statement.{statement}
+use Rattle.tools.proofs.tool_whole.Tie as tie
 
 returns : tie.Need-returns
 unfolding toolWhole

@@ -13,7 +13,7 @@ use Rattle.words.proofs.RoundTrips.{words-bytes}
 use Rattle.checks.proofs.Tests.{and-true}
 use Rattle.tool.specs.declared.Told.{Told}
 use Rattle.tool.specs.Tool.{Left}
-use Rattle.host.specs.Tools.{toolResultSize, toldBytes, toolWhole, leftInBytes, toolNotWhole, hostTool}
+use Rattle.tools.specs.Tools.{toolResultSize, toldBytes, toolWhole, leftInBytes, toolNotWhole, hostTool}
 
 pub tool-lengths : (inputs : Bool) (output result : ℕ) → toolWhole inputs output result ≡ true → (inputs ≡ true) × (output % 4 ≡ 0) × (result ≡ toolResultSize)
 unfolding toolWhole

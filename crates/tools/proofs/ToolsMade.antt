@@ -13,8 +13,8 @@ use Rattle.checks.specs.Checked.{Checked, accepted, refused}
 use Rattle.tool.specs.declared.Told.{Told}
 use Rattle.tool.specs.Tool.{toldNumbers, whole, left}
 use Rattle.tool.proofs.Whole.{Whole, whole-told}
-use Rattle.host.specs.Tools.{toolWhole, HostTool, leftInBytes, hostTool}
-use Rattle.host.proofs.LentTools.{tool-whole, tool-refused}
+use Rattle.tools.specs.Tools.{toolWhole, HostTool, leftInBytes, hostTool}
+use Rattle.tools.proofs.LentTools.{tool-whole, tool-refused}
 
 -- the words are number 2 of the result: they stand at bytes 16 to 23
 abbrev pub madeBy : HostTool → List ℕ
