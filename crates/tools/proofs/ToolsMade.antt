@@ -1,4 +1,5 @@
--- Where a tool returned 0, whatever tool it is, the words of the output that it left, as many as it tells, are what it was to make of its inputs.
+-- Calls of tools, whatever tool it is: where one returned 0, the words of the output that it left, as many as it tells, are what it was to make of its
+-- inputs.
 use mathlib.Core.Path.{_≡_, refl, sym, ap, _∙_}
 use mathlib.Core.Bool.{Bool, true, false}
 use mathlib.Core.List.{List}
@@ -11,13 +12,13 @@ use Rattle.words.proofs.Below.{Below, below-padded}
 use Rattle.words.proofs.RoundTrips.{bytes-words, bytes-numbers}
 use Rattle.checks.specs.Checked.{Checked, accepted, refused}
 use Rattle.tool.specs.declared.Told.{Told}
-use Rattle.tool.specs.Tool.{toldNumbers, whole, left}
+use Rattle.tool.specs.Tool.{toldNumbers, Left, whole, left}
 use Rattle.tool.proofs.Whole.{Whole, whole-told}
 use Rattle.tools.specs.Tools.{toolWhole, HostTool, leftInBytes, hostTool}
 use Rattle.tools.proofs.LentTools.{tool-whole, tool-refused}
 
 -- the words are number 2 of the result: they stand at bytes 16 to 23
-abbrev pub madeBy : HostTool → List ℕ
+abbrev madeBy : HostTool → List ℕ
 madeBy host = take (getD (numbersOf (wordsOf (host .result))) 2 0) (wordsOf (host .output))
 
 told-below : (told : Told) → (told .number < 2 ^ 64) × (told .place < 2 ^ 64) × (told .words < 2 ^ 64) → Below (2 ^ 64) (toldNumbers told)
@@ -33,22 +34,44 @@ read-back room words fits short =
     ∙ ap (take (length words)) (bytes-words _ (below-padded (omega arith) words room fits))
     ∙ take-append-seam words _
 
-module _ (inputs : Bool) (made : Checked (List ℕ)) (first : ℕ) (output result : List ℕ) where
-  abbrev room : ℕ
-  room = length (wordsOf output)
+-- a call of a tool: the bytes that it was lent to write in, and what it returned and left, so far as its contract tells
+pub record ToolCall (tool : (output result : List ℕ) → HostTool) : Type 0 where
+  pub output : List ℕ
+  pub result : List ℕ
+  pub left : HostTool
+  pub learnt : left ≡ tool output result
 
-  abbrev host : HostTool
-  host = hostTool inputs (left made first room) output result
+module _ {tool : (output result : List ℕ) → HostTool} where
+  -- by the three clauses of the contract
+  pub tool-call : (output result : List ℕ) (left : HostTool) →
+      let host = tool output result in
+      (left .number ≡ host .number) × ((left .output ≡ host .output) × (left .result ≡ host .result)) → ToolCall tool
+  tool-call output result left same = record {
+    output = output;
+    result = result;
+    left = left;
+    learnt = λ i. record { number = same .0 i; output = same .1 .0 i; result = same .1 .1 i };
+  }
+
+  abbrev pub returned : ToolCall tool → ℕ
+  returned c = c .left .number
+
+  abbrev pub madeOf : ToolCall tool → List ℕ
+  madeOf c = madeBy (c .left)
+
+module _ (inputs : Bool) (made : Checked (List ℕ)) (first : ℕ) where
+  abbrev lefts : (output : List ℕ) → Left
+  lefts output = left made first (length (wordsOf output))
 
   pub tool-made : ((place : ℕ) → made ≡ refused 0 place → ⊥) → ((words : List ℕ) → made ≡ accepted words → Below (2 ^ 32) words × (length words < 2 ^ 64))
-      → host .number ≡ 0 → made ≡ accepted (madeBy host)
-  tool-made never fits returned = by-lengths (toolWhole inputs (length output) (length result)) refl
+      → (c : ToolCall (λ output. hostTool inputs (lefts output) output)) → returned c ≡ 0 → made ≡ accepted (madeOf c)
+  tool-made never fits c z = by-lengths (toolWhole inputs (length (c .output)) (length (c .result))) refl
     where
-      by-lengths : (t : Bool) → toolWhole inputs (length output) (length result) ≡ t → made ≡ accepted (madeBy host)
+      by-lengths : (t : Bool) → toolWhole inputs (length (c .output)) (length (c .result)) ≡ t → made ≡ accepted (madeOf c)
       by-lengths true e =
-          let left-bytes : host ≡ leftInBytes (left made first room) = tool-whole inputs (left made first room) output result e in
-          let w : Whole made first room = whole-told made first room never (sym (ap (λ (h : HostTool). h .number) left-bytes) ∙ returned) in
+          let bytes : c .left ≡ leftInBytes (lefts (c .output)) = c .learnt ∙ tool-whole inputs (lefts (c .output)) (c .output) (c .result) e in
+          let w : Whole made first (length (wordsOf (c .output))) = whole-told made first _ never (sym (ap (λ (h : HostTool). h .number) bytes) ∙ z) in
           let fit = fits (w .words) (w .accepts) in
-          w .accepts ∙ ap accepted (sym (ap madeBy (left-bytes ∙ ap leftInBytes (w .leaves)) ∙ read-back room (w .words) (fit .0) (fit .1)))
+          w .accepts ∙ ap accepted (sym (ap madeBy (bytes ∙ ap leftInBytes (w .leaves)) ∙ read-back _ (w .words) (fit .0) (fit .1)))
       by-lengths false e =
-          absurd (let sixteen : _≡_ {A = ℕ} 16 0 = sym (ap (λ (h : HostTool). h .number) (tool-refused inputs (left made first room) output result e)) ∙ returned in omega arith)
+          absurd (let sixteen : _≡_ {A = ℕ} 16 0 = sym (ap (λ (h : HostTool). h .number) (c .learnt ∙ tool-refused inputs (lefts (c .output)) (c .output) (c .result) e)) ∙ z in omega arith)

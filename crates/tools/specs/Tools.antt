@@ -30,7 +30,7 @@ toldBytes told = bytesOf (halvesOf (toldNumbers told))
 
 -- of whether the inputs have whole words, and of the lengths: whole words in the output, and a result
 unfoldable pub toolWhole : Bool → ℕ → ℕ → Bool
-toolWhole inputs output result = inputs && (multiple 4 output && eqb result toolResultSize)
+toolWhole inputs output result = (inputs && multiple 4 output) && eqb result toolResultSize
 
 -- what a tool returns and every byte that it leaves
 pub record HostTool : Type 0 where

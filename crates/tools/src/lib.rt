@@ -1,8 +1,9 @@
 // The tools over bytes, for hosts, and what they have in common: the test of the lengths, the refusal of bytes, and the numbers that are told.
 use tool::Told;
 ghost use mathlib.Core.Path.{_≡_};
+ghost use mathlib.Core.Bool.{_&&_};
 ghost use lib.ListN.{length};
-ghost use Rattle.tools.specs.Tools.{toolResultSize, toldBytes, toolWhole, toolNotWhole, hostConverted};
+ghost use Rattle.tools.specs.Tools.{multiple, toolResultSize, toldBytes, toolWhole, toolNotWhole, hostConverted};
 
 // Told of bytes, before all else: their lengths are not whole, or the program's input is too long.
 pub const BYTES_REFUSED: u64 = 16;
@@ -10,14 +11,21 @@ pub const BYTES_REFUSED: u64 = 16;
 // Three numbers of eight bytes.
 const TOLD_BYTES: usize = 24;
 
+// Whether a length has whole words, and others, of which it is told, had them.
+pub fn also_whole(others: bool, length: usize) -> bool
+    ensures { λ r. ⌜ r ≡ (others && multiple 4 length) ⌝ }
+{
+    if !others {
+        return false;
+    }
+    length % 4 == 0
+}
+
 // Whether the lengths have whole words and a result; of the inputs it is told.
 pub fn tool_whole(inputs: bool, output: usize, result: usize) -> bool
     ensures { λ r. ⌜ r ≡ toolWhole inputs output result ⌝ }
 {
-    if !inputs {
-        return false;
-    }
-    if output % 4 != 0 {
+    if !also_whole(inputs, output) {
         return false;
     }
     result == TOLD_BYTES
