@@ -19,7 +19,8 @@ use Rattle.sheet.proofs.Accepted.{SizesWithin}
 use Rattle.sheet.proofs.Whole.{AcceptedSheet, accepted-sheet}
 use Rattle.lines.proofs.AcceptedLines.{good-end, table-good, good-constants}
 use Rattle.sheet.proofs.Samples.{recording-bits}
-use Rattle.sheet.proofs.RefusalNumbers.{anyNumber, Numbered, refuses, check-numbered}
+use Rattle.checks.proofs.Numbered.{Numbered, refuses}
+use Rattle.sheet.proofs.RefusalNumbers.{anyNumber, check-numbered}
 use Rattle.answers.specs.Meant.{meantAt}
 use Rattle.answers.specs.Answer.{wordsNeeded}
 use Rattle.answers.specs.Judged.{Judged, refusal, answered, judgedBy, judged}

@@ -3,3 +3,4 @@ pub mod Checks
 pub mod Heads
 pub mod Tests
 pub mod ReadBack
+pub mod Numbered

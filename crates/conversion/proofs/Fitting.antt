@@ -1,23 +1,24 @@
 -- What is made of a sheet fits the bytes that it stands in: each word has 32 bits, where those of the sheet have, and there are fewer than 2^28. So a host can
 -- read it back. And no refusal of the converter has the number 0.
-use mathlib.Core.Path.{_≡_, ap, subst, sym}
+use mathlib.Core.Path.{_≡_, subst, sym}
 use mathlib.Core.Bool.{Bool, true, false}
 use mathlib.Core.List.{List, [], _∷_, _++_}
 use Prim.Native.Nat.{ℕ, _+_, _*_, _-_, _<_, _≤_, _^_}
 use native.Mathlib.Omega.{arith}
-use lib.Dec.{T, leb}
+use lib.Dec.{leb}
 use lib.ListN.{length, drop}
 use Rattle.words.specs.Word.{wordOf}
 use Rattle.words.specs.Rows.{concat}
 use Rattle.words.proofs.Below.{Below, below-none, below-more, below-append, below-take, below-drop, below-concat}
-use Rattle.checks.specs.Checked.{Checked, accepted, refused, _>>=_, require, wordAt}
+use Rattle.checks.specs.Checked.{accepted, refused, wordAt}
 use Rattle.checks.specs.Heads.{mostOf, isWide, headFor}
 use Rattle.checks.proofs.Heads.{few-head-words}
+use Rattle.checks.proofs.Numbered.{accepts, required, bound, number-told}
 use Rattle.roads.specs.Roads.{roadAt, weightAt}
-use Rattle.sheet.specs.Layout.{Sizes, Layout, checked, validated}
+use Rattle.sheet.specs.Layout.{Sizes, Layout, validated}
 use Rattle.sheet.proofs.Accepted.{SizesWithin}
 use Rattle.sheet.proofs.Whole.{AcceptedSheet, accepted-sheet, few-words}
-use Rattle.sheet.proofs.RefusalNumbers.{anyNumber, Numbered, refuses, check-numbered}
+use Rattle.sheet.proofs.RefusalNumbers.{validated-numbered}
 use Rattle.conversion.specs.Relaid.{laidOut, roadRelaid, unmoved, beforeEnd, relaid, converted}
 use Rattle.conversion.proofs.Words.{before-length, relaid-length}
 use Rattle.conversion.proofs.Accepted.{inside}
@@ -88,21 +89,6 @@ module _ (to : Bool) (s made : List ℕ) (e : converted to s ≡ accepted made) 
   made-fits below = subst (Below (2 ^ 32)) (sym (of .made-of)) (relaid-below to s most (of .layout) valid (of .few) below)
 
 -- ---- the refusals
-abbrev number : {A : Type 0} → Checked A → ℕ
-number (accepted a) = 1
-number (refused k place) = k
-
-some-number : (k : ℕ) → T (anyNumber k) → k ≡ 0 → ⊥
-some-number k n e = subst (λ (x : ℕ). T (anyNumber x)) e n
-
 pub never-0 : (to : Bool) (s : List ℕ) (place : ℕ) → converted to s ≡ refused 0 place → ⊥
-unfolding converted validated
-never-0 to s place e = go (checked s most) (check-numbered s most) (ap number e)
-  where
-    by-places : (L : Layout) (t : Bool) → number (require t 18 0 (accepted (relaid to s L))) ≡ 0 → ⊥
-    by-places L true z = let one : _≡_ {A = ℕ} 1 0 = z in omega arith
-    by-places L false z = let eighteen : _≡_ {A = ℕ} 18 0 = z in omega arith
-
-    go : (c : Checked Layout) → Numbered anyNumber c → number (c >>= λ L. require (leb (L.sizes.places) (mostOf to)) 18 0 (accepted (relaid to s L))) ≡ 0 → ⊥
-    go (accepted L) n z = by-places L (leb (L.sizes.places) (mostOf to)) z
-    go (refused k p) (refuses n) z = some-number k n z
+unfolding converted
+never-0 to s place e = number-told (bound (validated s) _ (validated-numbered s) (λ L. required (leb (L.sizes.places) (mostOf to)) 18 0 _ tt accepts)) e

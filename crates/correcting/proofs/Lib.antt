@@ -5,4 +5,5 @@ pub mod Writing
 pub mod Applying
 pub mod Counting
 pub mod Correction
+pub mod Fitting
 pub mod Examples

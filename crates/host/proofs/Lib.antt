@@ -2,4 +2,5 @@ pub mod Lent
 pub mod Exactly
 pub mod Calls
 pub mod Conversions
+pub mod Corrections
 pub mod Examples

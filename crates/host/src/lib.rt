@@ -8,6 +8,8 @@
 //         size_t result_length);
 //     uint64_t sheet_to_narrow(const uint8_t *sheet, size_t sheet_length, uint8_t *output, size_t output_length, uint8_t *result,
 //         size_t result_length);
+//     uint64_t correct_sheet(const uint8_t *sheet, size_t sheet_length, const uint8_t *corrections, size_t corrections_length,
+//         uint8_t *output, size_t output_length, uint8_t *result, size_t result_length);
 use engine::Result;
 use tools::BYTES_REFUSED;
 ghost use mathlib.Core.Path.{_≡_};

@@ -1,7 +1,7 @@
 // The tools for a host written in C.
 ghost use mathlib.Core.Path.{_≡_};
 ghost use mathlib.Core.Bool.{true, false};
-ghost use Rattle.tools.specs.Tools.{hostConverted};
+ghost use Rattle.tools.specs.Tools.{hostConverted, hostCorrected};
 
 // Lays a sheet out wide.
 #[no_mangle]
@@ -21,4 +21,19 @@ pub extern "C" fn sheet_to_narrow(sheet: &[u8], output: &mut [u8], result: &mut 
     ensures held { λ _. ⌜ now (result .exit) ≡ hostConverted false (now (sheet .entry)) (now (output .entry)) (now (result .entry)) .result ⌝ }
 {
     tools::convert_sheet(sheet, false, output, result)
+}
+
+// Replaces samples by late corrections; for one sample the highest revision counts.
+#[no_mangle]
+pub extern "C" fn correct_sheet(
+    sheet: &[u8],
+    list: &[u8],
+    output: &mut [u8],
+    result: &mut [u8],
+) -> u64
+    ensures told { λ r. ⌜ r ≡ hostCorrected (now (sheet .entry)) (now (list .entry)) (now (output .entry)) (now (result .entry)) .number ⌝ }
+    ensures said { λ _. ⌜ now (output .exit) ≡ hostCorrected (now (sheet .entry)) (now (list .entry)) (now (output .entry)) (now (result .entry)) .output ⌝ }
+    ensures held { λ _. ⌜ now (result .exit) ≡ hostCorrected (now (sheet .entry)) (now (list .entry)) (now (output .entry)) (now (result .entry)) .result ⌝ }
+{
+    tools::correct_sheet(sheet, list, output, result)
 }

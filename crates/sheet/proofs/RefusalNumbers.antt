@@ -1,13 +1,13 @@
 -- Every refusal of the check of a sheet has a number from 1 to 14 or 17, so the number 0 says that the sheet was accepted; and the check for those that ask for no
--- distance never refuses with 1.
-use mathlib.Core.Path.{_≡_, refl, subst}
+-- distance never refuses with 1. Which number a refusal can have is told by the laws of `Numbered`.
+use mathlib.Core.Path.{_≡_}
 use mathlib.Core.Logic.{⊎-elim}
-use mathlib.Core.Bool.{Bool, true, false, cond, _||_}
+use mathlib.Core.Bool.{Bool, true, _||_}
 use mathlib.Core.List.{List, [], _∷_, _++_}
 use Prim.Native.Nat.{ℕ, zero, suc, _+_, _*_, _≤_}
 use native.Mathlib.Nat.{mul-le-mul}
 use native.Mathlib.Omega.{arith}
-use lib.Dec.{T, leb, eqb, leb→le, le→leb}
+use lib.Dec.{T, leb, eqb, leb→le, le→leb, lt→ltb}
 use lib.ListN.{length}
 use Rattle.words.specs.Word.{bits}
 use Rattle.counting.proofs.Tests.{and-l, and-r, or-l, or-r, or-e}
@@ -15,6 +15,7 @@ use Rattle.formulas.specs.Formulas.{Extent, Line, lineIn}
 use Rattle.checks.specs.Limits.{mostPlaces, mostLines, leastDistances}
 use Rattle.checks.specs.Checked.{Checked, accepted, refused, _>>=_, require, between, wordAt, isKind}
 use Rattle.checks.proofs.Tests.{in-limits}
+use Rattle.checks.proofs.Numbered.{Numbered, accepts, refuses, someNumber, required, passed, onward, chosen, either, bound, weakened, number-told}
 use Rattle.lines.specs.Codes.{Code, constant, atom, unary, binary, unaryBounded, binaryBounded, unknown}
 use Rattle.lines.specs.Lines.{constantAt, boundsAt, operatorBy, operatorAt, lineAt, linesFrom}
 use Rattle.checks.specs.Heads.{isWide, placesOf, wideCounted}
@@ -28,45 +29,15 @@ anyNumber k = between 1 14 k || eqb k 17
 abbrev notOne : ℕ → Bool
 notOne k = between 2 14 k || eqb k 17
 
-pub data Numbered (allowed : ℕ → Bool) {A : Type 0} : Checked A → Type 0 where
-  accepts : {a : A} → Numbered allowed (accepted a)
-  refuses : {number place : ℕ} → T (allowed number) → Numbered allowed (refused number place)
-
-module _ {allowed : ℕ → Bool} {A : Type 0} where
-  required : (t : Bool) (number place : ℕ) (next : Checked A) → T (allowed number) → Numbered allowed next → Numbered allowed (require t number place next)
-  required true number place next n h = h
-  required false number place next n h = refuses n
-
-  -- a test that holds refuses nothing, and what follows a test may rest on it
-  passed : (t : Bool) (number place : ℕ) (next : Checked A) → T t → Numbered allowed next → Numbered allowed (require t number place next)
-  passed true number place next p h = h
-  passed false number place next p h = absurd p
-
-  onward : (t : Bool) (number place : ℕ) (next : Checked A) → T (allowed number) → (T t → Numbered allowed next) → Numbered allowed (require t number place next)
-  onward true number place next n h = h tt
-  onward false number place next n h = refuses n
-
-  chosen : (t : Bool) (a b : Checked A) → Numbered allowed a → Numbered allowed b → Numbered allowed {A = A} (elim t as (λ _. Checked A) [ true ↦ a | false ↦ b ])
-  chosen true a b h k = h
-  chosen false a b h k = k
-
-  either : (t : Bool) (a b : Checked A) → (t ≡ true → Numbered allowed a) → (t ≡ false → Numbered allowed b) → Numbered allowed (cond t a b)
-  either true a b h k = h refl
-  either false a b h k = k refl
-
-  number-told : {number place : ℕ} → Numbered allowed {A = A} (refused number place) → T (allowed number)
-  number-told (refuses h) = h
-
-bound : {allowed : ℕ → Bool} {A B : Type 0} (c : Checked A) (f : A → Checked B) → Numbered allowed c → ((a : A) → Numbered allowed (f a)) → Numbered allowed (c >>= f)
-bound (accepted a) f h k = k a
-bound (refused number place) f (refuses n) k = refuses n
-
-any : {A : Type 0} {c : Checked A} → Numbered notOne c → Numbered anyNumber c
-any accepts = accepts
-any (refuses {number = k} h) = refuses (⊎-elim
+not-one-any : (k : ℕ) → T (notOne k) → T (anyNumber k)
+not-one-any k h = ⊎-elim
     (λ b. or-l (between 1 14 k) (eqb k 17) (in-limits 1 14 k (omega (arith, leb→le 2 k (and-l (leb 2 k) (leb k 14) b))) (leb→le k 14 (and-r (leb 2 k) (leb k 14) b))))
     (or-r (between 1 14 k) (eqb k 17))
-    (or-e (between 2 14 k) (eqb k 17) h))
+    (or-e (between 2 14 k) (eqb k 17) h)
+
+not-zero : (k : ℕ) → T (anyNumber k) → T (someNumber k)
+not-zero zero h = h
+not-zero (suc k) h = lt→ltb 0 (suc k) (omega arith)
 
 module _ (s : List ℕ) where
   head-numbered : (distances : ℕ) → Numbered anyNumber (headChecked s distances)
@@ -147,12 +118,16 @@ module _ (s : List ℕ) where
 
   pub check-numbered : (distances : ℕ) → Numbered anyNumber (checked s distances)
   unfolding checked
-  check-numbered distances = bound (headChecked s distances) afterHead (head-numbered distances) (λ sizes. any (after-numbered sizes))
+  check-numbered distances = bound (headChecked s distances) afterHead (head-numbered distances) (λ sizes. weakened not-one-any (after-numbered sizes))
 
-  validated-numbered : Numbered notOne (validated s)
+  validated-not-1 : Numbered notOne (validated s)
   unfolding checked validated
-  validated-numbered = bound (headChecked s (mostPlaces * mostPlaces)) afterHead head-validated after-numbered
+  validated-not-1 = bound (headChecked s (mostPlaces * mostPlaces)) afterHead head-validated after-numbered
 
   -- those who ask for no distance are never told of too few
   pub never-refused-1 : (place : ℕ) → validated s ≡ refused 1 place → ⊥
-  never-refused-1 place e = number-told (subst (Numbered notOne) e validated-numbered)
+  never-refused-1 place e = number-told validated-not-1 e
+
+  -- so a tool that begins with this check has told no 0 there
+  pub validated-numbered : Numbered someNumber (validated s)
+  validated-numbered = weakened (λ k h. not-zero k (not-one-any k h)) validated-not-1

@@ -8,6 +8,7 @@ use Rattle.words.specs.Bytes.{bytesOf, halvesOf}
 use Rattle.tool.specs.declared.Told.{Told}
 use Rattle.tool.specs.Tool.{toldNumbers, Left}
 use Rattle.conversion.specs.Lent.{convertedIn}
+use Rattle.correcting.specs.Lent.{correctedIn}
 
 -- ---- bytes, of tools and of the engine
 abbrev pub multiple : ℕ → ℕ → Bool
@@ -62,3 +63,8 @@ hostTool inputs left output result = cond (toolWhole inputs (length output) (len
 -- a sheet laid out wide or narrow
 abbrev pub hostConverted : Bool → (sheet output result : List ℕ) → HostTool
 hostConverted to sheet output result = hostTool (multiple 4 (length sheet)) (convertedIn to sheet output) output result
+
+-- a sheet with late corrections (M-107)
+abbrev pub hostCorrected : (sheet list output result : List ℕ) → HostTool
+hostCorrected sheet list output result =
+    hostTool (multiple 4 (length sheet) && multiple 4 (length list)) (correctedIn sheet list output) output result

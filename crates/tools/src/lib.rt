@@ -3,7 +3,7 @@ use tool::Told;
 ghost use mathlib.Core.Path.{_≡_};
 ghost use mathlib.Core.Bool.{_&&_};
 ghost use lib.ListN.{length};
-ghost use Rattle.tools.specs.Tools.{multiple, toolResultSize, toldBytes, toolWhole, toolNotWhole, hostConverted};
+ghost use Rattle.tools.specs.Tools.{multiple, toolResultSize, toldBytes, toolWhole, toolNotWhole, hostConverted, hostCorrected};
 
 // Told of bytes, before all else: their lengths are not whole, or the program's input is too long.
 pub const BYTES_REFUSED: u64 = 16;
@@ -65,6 +65,21 @@ pub fn convert_sheet(sheet: &[u8], to: bool, output: &mut [u8], result: &mut [u8
         return refuse_tool(output, result);
     }
     let told = conversion::convert(sheet, to, output);
+    put_told(result, told);
+    told.number
+}
+
+// Corrects a sheet by a list of corrections, in the same way.
+pub fn correct_sheet(sheet: &[u8], list: &[u8], output: &mut [u8], result: &mut [u8]) -> u64
+    ensures told { λ r. ⌜ r ≡ hostCorrected (now (sheet .entry)) (now (list .entry)) (now (output .entry)) (now (result .entry)) .number ⌝ }
+    ensures said { λ _. ⌜ now (output .exit) ≡ hostCorrected (now (sheet .entry)) (now (list .entry)) (now (output .entry)) (now (result .entry)) .output ⌝ }
+    ensures held { λ _. ⌜ now (result .exit) ≡ hostCorrected (now (sheet .entry)) (now (list .entry)) (now (output .entry)) (now (result .entry)) .result ⌝ }
+{
+    let inputs = also_whole(sheet.len() % 4 == 0, list.len());
+    if !tool_whole(inputs, output.len(), result.len()) {
+        return refuse_tool(output, result);
+    }
+    let told = correcting::correct(sheet, list, output);
     put_told(result, told);
     told.number
 }
