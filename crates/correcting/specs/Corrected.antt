@@ -1,10 +1,12 @@
 -- Request M-107: a valid sheet with each corrected sample replaced. For one sample the highest revision counts; all other words are the sheet's.
-use Prim.Native.Nat.{ℕ, zero, suc}
+use Prim.Native.Nat.{ℕ, zero, suc, _<_}
 use mathlib.Core.Bool.{Bool, cond, _&&_}
 use mathlib.Core.List.{List}
-use lib.Dec.{eqb}
+use lib.Dec.{T, eqb}
+use lib.IntN.{ℤ}
 use lib.ListN.{length}
 use Rattle.counting.specs.Totals.{mostOver}
+use Rattle.words.specs.Word.{sampleOf}
 use Rattle.words.specs.Rows.{row}
 use Rattle.checks.specs.Checked.{Checked, accepted, _>>=_, wordAt}
 use Rattle.checks.specs.Heads.{isWide}
@@ -39,6 +41,10 @@ module _ (c : List ℕ) (g : Grid) (index : ℕ) where
   unfoldable pub wordAfter : (word : ℕ) → ℕ → ℕ
   wordAfter word zero = word
   wordAfter word (suc k) = cond (counts k) (value c k) (wordAfter word k)
+
+-- each correction that counts stands so to the sample that it replaces: for what is known of both sheets' answers
+abbrev pub Corrects : (ℤ → ℤ → Type 0) → (s c : List ℕ) → Grid → Type 0
+Corrects Related s c g = (k : ℕ) → k < count c → T (counts c g (target c g k) k) → Related (sampleOf (wordAt s (target c g k))) (sampleOf (value c k))
 
 unfoldable pub correctedWords : (s c : List ℕ) → Grid → List ℕ
 correctedWords s c g = row (λ index. wordAfter c g index (wordAt s index) (count c)) (length s)

@@ -33,7 +33,7 @@ module _ (c : List ℕ) (g : Grid) where
       (λ r. (n, lt-suc-self n, r))
       (or-e (disagreesWith c g k n) (disagree c g n k) h)
 
-  disagrees-by : (k n i : ℕ) → i < n → T (disagree c g i k) → T (disagreesWith c g k n)
+  pub disagrees-by : (k n i : ℕ) → i < n → T (disagree c g i k) → T (disagreesWith c g k n)
   unfolding disagreesWith
   disagrees-by k zero i l h = absurd (omega arith)
   disagrees-by k (suc n) i l h = ⊎-elim

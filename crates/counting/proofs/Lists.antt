@@ -20,10 +20,15 @@ module _ {A B : Type 0} {Rel : A → B → Type 0} where
   each-length none = refl
   each-length (more h t) = ap suc (each-length t)
 
--- what holds at every index holds of all; beyond the end stands d
+  -- what holds at every index holds of all; beyond the ends stand a and b
+  pub each-from : (a : A) (b : B) (l : List A) (m : List B) → length l ≡ length m → ((i : ℕ) → i < length l → Rel (getD l i a) (getD m i b)) → Each Rel l m
+  each-from a b [] [] e h = none
+  each-from a b [] (y ∷ m) e h = absurd (omega (arith, e))
+  each-from a b (x ∷ l) [] e h = absurd (omega (arith, e))
+  each-from a b (x ∷ l) (y ∷ m) e h = more (h 0 (omega arith)) (each-from a b l m (omega (arith, e)) (λ i k. h (suc i) (suc-le-suc k)))
+
 pub all-from : {A : Type 0} (P : A → Type 0) (d : A) (l : List A) → ((i : ℕ) → i < length l → P (getD l i d)) → All P l
-all-from P d [] h = none
-all-from P d (a ∷ l) h = more (h 0 (omega arith)) (all-from P d l (λ i b. h (suc i) (suc-le-suc b)))
+all-from P d l = each-from d d l l refl
 
 pub all-any : {A : Type 0} (l : List A) → All (λ _. Unit {0}) l
 all-any [] = none

@@ -19,72 +19,54 @@ use Rattle.lookup.specs.Lookup.{saidAt}
 use Rattle.conversion.specs.Relaid.{converted}
 use Rattle.conversion.proofs.Conversion.{there-and-back, same-said, same-rounds, same-yes}
 use Rattle.conversion.proofs.Fitting.{made-fits, made-short, never-0}
-use Rattle.host.specs.Host.{multiple}
-use Rattle.host.specs.Tools.{HostTool, hostConverted}
-use Rattle.host.proofs.ToolsMade.{madeBy, tool-made}
+use Rattle.tools.specs.Tools.{multiple, hostConverted}
+use Rattle.tools.proofs.ToolsMade.{ToolCall, tool-call, returned, madeOf, tool-made}
 use Rattle.host.proofs.Calls as judge
-use Rattle.host.proofs.tools.sheet_to_wide.Reads as wide
-use Rattle.host.proofs.tools.sheet_to_wide.Kinds as wide-kinds
-use Rattle.host.proofs.tools.sheet_to_narrow.Reads as narrow
-use Rattle.host.proofs.tools.sheet_to_narrow.Kinds as narrow-kinds
+use Rattle.host.proofs.tool_calls.sheet_to_wide.Reads as wide
+use Rattle.host.proofs.tool_calls.sheet_to_wide.Kinds as wide-kinds
+use Rattle.host.proofs.tool_calls.sheet_to_narrow.Reads as narrow
+use Rattle.host.proofs.tool_calls.sheet_to_narrow.Kinds as narrow-kinds
 
--- a call of either: the bytes that it was given, and what it returned and left, so far as its contract tells
+-- a call of either: the sheet that it was given, whose bytes are bytes, and what its contract tells
 pub record Call (to : Bool) : Type 0 where
   pub sheet : List ℕ
-  pub output : List ℕ
-  pub result : List ℕ
-  pub left : HostTool
-  pub learnt : left ≡ hostConverted to sheet output result
   pub bytes : Below (2 ^ 8) sheet
-
-same-parts : {host : HostTool} (number : ℕ) (output result : List ℕ) → number ≡ host .number → output ≡ host .output → result ≡ host .result
-    → record { number = number; output = output; result = result } ≡ host
-same-parts number output result n o r i = record { number = n i; output = o i; result = r i }
+  pub call : ToolCall (hostConverted to sheet)
 
 pub wide-call : (κ : Lifetimes.Lfts 3) (given : Dens κ wide-kinds.ps) (number : ℕ) (left : AtExit (endedOf 3 wide-kinds.ps wide-kinds.r) κ)
     → wide.Learnt κ given number left → Below (2 ^ 8) (given .0 .now) → Call true
 wide-call κ given number left learnt bytes = record {
   sheet = given .0 .now;
-  output = given .1 .0 .now;
-  result = given .1 .1 .0 .now;
-  left = record { number = number; output = left .1 .0 .now; result = left .1 .1 .0 .now };
-  learnt = same-parts _ _ _ (learnt .0) (learnt .1 .0) (learnt .1 .1);
   bytes = bytes;
+  call = tool-call (given .1 .0 .now) (given .1 .1 .0 .now) (record { number = number; output = left .1 .0 .now; result = left .1 .1 .0 .now }) learnt;
 }
 
 pub narrow-call : (κ : Lifetimes.Lfts 3) (given : Dens κ narrow-kinds.ps) (number : ℕ) (left : AtExit (endedOf 3 narrow-kinds.ps narrow-kinds.r) κ)
     → narrow.Learnt κ given number left → Below (2 ^ 8) (given .0 .now) → Call false
 narrow-call κ given number left learnt bytes = record {
   sheet = given .0 .now;
-  output = given .1 .0 .now;
-  result = given .1 .1 .0 .now;
-  left = record { number = number; output = left .1 .0 .now; result = left .1 .1 .0 .now };
-  learnt = same-parts _ _ _ (learnt .0) (learnt .1 .0) (learnt .1 .1);
   bytes = bytes;
+  call = tool-call (given .1 .0 .now) (given .1 .1 .0 .now) (record { number = number; output = left .1 .0 .now; result = left .1 .1 .0 .now }) learnt;
 }
 
 module _ {to : Bool} (c : Call to) where
   abbrev pub sheetOf : List ℕ
   sheetOf = wordsOf (c .sheet)
 
-  abbrev pub madeOf : List ℕ
-  madeOf = madeBy (c .left)
-
-  pub call-made : c .left .number ≡ 0 → converted to sheetOf ≡ accepted madeOf
-  call-made zero =
-      tool-made (multiple 4 (length (c .sheet))) (converted to sheetOf) (length sheetOf) (c .output) (c .result) (never-0 to sheetOf)
+  pub call-made : returned (c .call) ≡ 0 → converted to sheetOf ≡ accepted (madeOf (c .call))
+  call-made =
+      tool-made (multiple 4 (length (c .sheet))) (converted to sheetOf) (length sheetOf) (never-0 to sheetOf)
       (λ made e. (made-fits to sheetOf made e (words-below (c .sheet) (c .bytes)), omega (arith, made-short to sheetOf made e)))
-      (sym (ap (λ (h : HostTool). h .number) (c .learnt)) ∙ zero)
-      ∙ ap (λ (h : HostTool). accepted (madeBy h)) (sym (c .learnt))
+      (c .call)
 
 -- there and back: the words of the first sheet
-pub calls-back : {to back : Bool} (there : Call to) (again : Call back) → back ≡ isWide (sheetOf there) → sheetOf again ≡ madeOf there
-    → there .left .number ≡ 0 → again .left .number ≡ 0 → madeOf again ≡ sheetOf there
+pub calls-back : {to back : Bool} (there : Call to) (again : Call back) → back ≡ isWide (sheetOf there) → sheetOf again ≡ madeOf (there .call)
+    → returned (there .call) ≡ 0 → returned (again .call) ≡ 0 → madeOf (again .call) ≡ sheetOf there
 calls-back {to} there again layout same zero zero-again =
-    same-accepted (sym (call-made again zero-again) ∙ (λ i. converted (layout i) (same i)) ∙ there-and-back to (sheetOf there) (madeOf there) (call-made there zero))
+    same-accepted (sym (call-made again zero-again) ∙ (λ i. converted (layout i) (same i)) ∙ there-and-back to (sheetOf there) (madeOf (there .call)) (call-made there zero))
 
 -- calls of judge on a sheet and on what was made of it, whatever was lent to either
-module _ {to : Bool} (c : Call to) (zero : c .left .number ≡ 0) (x y : judge.Call) (given : judge.sheetOf x ≡ sheetOf c) (made : judge.sheetOf y ≡ madeOf c)
+module _ {to : Bool} (c : Call to) (zero : returned (c .call) ≡ 0) (x y : judge.Call) (given : judge.sheetOf x ≡ sheetOf c) (made : judge.sheetOf y ≡ madeOf (c .call))
     (zx : x .result ≡ 0) (zy : y .result ≡ 0) where
   second-made : converted to (judge.sheetOf x) ≡ accepted (judge.sheetOf y)
   second-made = ap (converted to) given ∙ call-made c zero ∙ ap accepted (sym made)

@@ -1,21 +1,15 @@
 -- Document 01, "The answer" and, for the refusal 16 before all else, "Where a sheet is turned back": what a host written in C and the printing
 -- program are given, in bytes, lowest first.
-use Prim.Native.Nat.{ℕ, _%_}
+use Prim.Native.Nat.{ℕ}
 use mathlib.Core.Bool.{Bool, cond, _&&_}
 use mathlib.Core.List.{List}
 use lib.Dec.{leb, eqb}
-use lib.ListN.{length, replicate}
+use lib.ListN.{length}
 use Rattle.words.specs.Bytes.{wordsOf, bytesOf, halvesOf}
 use Rattle.answers.specs.Judged.{Result, resultNumbers, Judged, refusal, judged}
 use Rattle.lookup.specs.Lookup.{lookedUp}
 use Rattle.engine.specs.Lent.{judgedIn}
-
-abbrev pub multiple : ℕ → ℕ → Bool
-multiple size bytes = eqb (bytes % size) 0
-
--- the refusal of bytes: of lengths that are not whole words, whole distances or a result, and of an input of the program above 32,768 bytes
-abbrev pub bytesRefused : ℕ
-bytesRefused = 16
+use Rattle.tools.specs.Tools.{multiple, bytesRefused, zeros}
 
 -- ---- the host
 
@@ -36,9 +30,6 @@ pub record HostJudged : Type 0 where
   pub answer : List ℕ
   pub distances : List ℕ
   pub result : List ℕ
-
-abbrev pub zeros : List ℕ → List ℕ
-zeros lent = replicate (length lent) 0
 
 -- lengths that are not whole leave zeros, but for the number in a result of the right size
 abbrev pub notWhole : List ℕ → List ℕ → List ℕ → HostJudged

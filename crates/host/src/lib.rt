@@ -9,20 +9,16 @@
 //     uint64_t sheet_to_narrow(const uint8_t *sheet, size_t sheet_length, uint8_t *output, size_t output_length, uint8_t *result,
 //         size_t result_length);
 use engine::Result;
+use tools::BYTES_REFUSED;
 ghost use mathlib.Core.Path.{_≡_};
-ghost use Prim.Native.Nat.{_*_};
 ghost use lib.ListN.{length};
-ghost use Rattle.words.specs.Bytes.{bytesOf, halvesOf};
 ghost use Rattle.engine.specs.Result.{resultSaid};
 ghost use Rattle.host.specs.Host.{resultSize, resultBytes, lentWhole, notWhole, hostJudged, hostLookedUp};
 
-mod tools;
+mod tool_calls;
 
 // Five numbers of eight bytes.
 const RESULT_BYTES: usize = 40;
-
-// Told of bytes, before all else: their lengths are not whole, or the program's input is too long.
-pub const BYTES_REFUSED: u64 = 16;
 
 // Whether these lengths have whole words, whole distances and a result.
 fn lent_whole(sheet: usize, distances: usize, answer: usize, result: usize) -> bool
@@ -40,22 +36,12 @@ fn lent_whole(sheet: usize, distances: usize, answer: usize, result: usize) -> b
     result == RESULT_BYTES
 }
 
-// Stores numbers one after the other in bytes that have room for just them.
-fn put_numbers(s: &mut [u8], numbers: &[u64])
-    requires { ⌜ length (now s) ≡ length (now numbers) * 8 ⌝ }
-    ensures { λ _. ⌜ now (s .exit) ≡ bytesOf (halvesOf (now (numbers .entry))) ⌝ }
-{
-    for i in 0..numbers.len() {
-        words::put_number(s, i, numbers[i]);
-    }
-}
-
 fn put_result(result: &mut [u8], told: Result)
     requires { ⌜ length (now result) ≡ resultSize ⌝ }
     ensures { λ _. ⌜ now (result .exit) ≡ resultBytes (resultSaid told) ⌝ }
 {
     let numbers = [told.number, told.place, told.words, told.rounds, told.yes];
-    put_numbers(result, &numbers);
+    words::put_numbers(result, &numbers);
 }
 
 // Refuses lengths that are not whole: zeros in all that is lent, but for the number in a result of the right size.

@@ -8,15 +8,16 @@ use native.Mathlib.Nat.{not-suc-le-zero}
 use native.Mathlib.Decide.{ℕ-discrete}
 use native.Mathlib.Numerals.{add-one}
 use native.Mathlib.Omega.{arith}
-use lib.Dec.{T, eqb, eqb→eq, eqb-refl}
+use lib.Dec.{T, eqb, eqb-refl}
 use lib.ListN.{length}
 use Rattle.logic.specs.Lattice.{leastOver}
 use Rattle.network.specs.Distance.{Distance, dist}
 use Rattle.network.specs.Network.{isRoad}
 use Rattle.logic.proofs.Keeps.{same-kept, least-kept}
-use Rattle.counting.proofs.Tests.{below, and-i, and-l, and-r, or-l, or-r, or-e}
+use Rattle.counting.proofs.Tests.{below, and-i, or-l, or-r, or-e}
 use Rattle.roads.specs.declared.road.Way.{Way}
 use Rattle.roads.specs.Roads.{leadsBy, firstOf, secondOf, forthOf, backOf, weightOf, leads, weightAmong}
+use Rattle.roads.proofs.Ways.{leads-ends}
 use Rattle.values.specs.Chain.{chainLattice, highest}
 use Rattle.values.proofs.Naturals.{meet-min}
 use Rattle.lanes.specs.Lanes.{lanes, rowCount, Numbers, rowIn}
@@ -75,11 +76,6 @@ least-more y x b t u f to new from w = rw meet-min (record {
 })
 
 -- ---- one more way, and one more road
-leads-ends : (way : Way) (a b : ℕ) → T (leadsBy way a b) → T (way .runs) × (way .from ≡ a) × (way .to ≡ b)
-leads-ends way a b h =
-    let ends = and-r (way .runs) _ h in
-    (and-l (way .runs) _ h, eqb→eq (way .from) a (and-l (eqb (way .from) a) _ ends), eqb→eq (way .to) b (and-r (eqb (way .from) a) _ ends))
-
 -- what is taken over along a way is the least over the place to which it leads as well
 module _ (way : Way) (joined : ℕ → ℕ → Bool) (both x x′ : Numbers) where
   abbrev more : ℕ → ℕ → Bool

@@ -10,9 +10,9 @@
 // where it is refused:
 //     refused NUMBER PLACE
 use engine::Result;
-use host::BYTES_REFUSED;
 use libc::STDIN_FILENO;
 use libc::STDOUT_FILENO;
+use tools::BYTES_REFUSED;
 ghost use mathlib.Core.Path.{_≡_};
 ghost use Prim.Native.Nat.{_+_, _*_, _^_, _<_, _≤_};
 ghost use lib.ListN.{length};

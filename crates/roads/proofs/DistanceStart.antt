@@ -8,16 +8,17 @@ use mathlib.Core.List.{List}
 use native.Mathlib.Decide.{decLt, ℕ-discrete}
 use native.Mathlib.Numerals.{add-one}
 use native.Mathlib.Omega.{arith}
-use lib.Dec.{T, ltb, eqb, eqb→eq}
+use lib.Dec.{T, ltb, eqb}
 use lib.ListN.{set, replicate, length-replicate, getD-replicate}
 use borrow.Author.Tests.{lt-ltb, le-ltb, eq-eqb, ne-eqb}
 use Rattle.words.specs.Rows.{rows}
 use Rattle.words.proofs.Rows.{in-table, list-rows, rows-ext, rows-set}
 use Rattle.network.specs.Distance.{dist, none, direct, distance}
-use Rattle.counting.proofs.Tests.{holds, and-l, and-r, or-l, or-r, or-e}
+use Rattle.counting.proofs.Tests.{holds, or-l, or-r, or-e}
 use Rattle.roads.specs.declared.road.Way.{Way}
 use Rattle.roads.specs.Roads.{GoodRoad, leadsBy, firstOf, forthOf, backOf, weightOf, leads, weightAmong}
 use Rattle.roads.specs.DistanceStages.{saturated, stage, wayPut}
+use Rattle.roads.proofs.Ways.{leads-ends}
 
 -- ---- the diagonal
 abbrev diagonal : ℕ → ℕ → ℕ → ℕ
@@ -91,9 +92,7 @@ module _ (n : ℕ) (way : Way) (w : ℕ) (f : ℕ → ℕ → ℕ) where
 
 -- a way does not lead from a place to itself where its ends are two
 way-apart : (way : Way) (p q : ℕ) → (way .from ≡ way .to → ⊥) → T (leadsBy way p q) → p ≡ q → ⊥
-way-apart way p q apart h e =
-    let ends = and-r (way .runs) _ h in
-    apart (eqb→eq (way .from) p (and-l (eqb (way .from) p) _ ends) ∙ e ∙ sym (eqb→eq (way .to) q (and-r (eqb (way .from) p) _ ends)))
+way-apart way p q apart h e = let ends = leads-ends way p q h in apart (ends .1 ∙ e ∙ sym (ends .2))
 
 module _ (s : List ℕ) (n r : ℕ) (good : GoodRoad s n r) where
   abbrev weight : ℕ

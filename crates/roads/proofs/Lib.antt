@@ -1,5 +1,6 @@
 pub mod Passing
 pub mod AcceptedRoads
+pub mod Ways
 pub mod DistanceStages
 pub mod DistanceStart
 pub mod SameRoads

@@ -105,6 +105,16 @@ pub fn put_number(s: &mut [u8], i: usize, x: u64)
     put_word(s, at + 1, (x / 4294967296) as u32);
 }
 
+// Stores numbers one after the other in bytes that have room for just them.
+pub fn put_numbers(s: &mut [u8], numbers: &[u64])
+    requires { ⌜ length (now s) ≡ length (now numbers) * 8 ⌝ }
+    ensures { λ _. ⌜ now (s .exit) ≡ bytesOf (halvesOf (now (numbers .entry))) ⌝ }
+{
+    for i in 0..numbers.len() {
+        put_number(s, i, numbers[i]);
+    }
+}
+
 // Sets every byte to zero: lent a part of a slice, it clears that part.
 pub fn fill_zero(s: &mut [u8])
     ensures { λ _. ⌜ now (s .exit) ≡ replicate (length (now (s .entry))) 0 ⌝ }

@@ -1,5 +1,5 @@
 -- It stands where the correction begins.
-use mathlib.Core.Path.{_≡_, _∙_}
+use mathlib.Core.Path.{_∙_}
 use native.Mathlib.Nat.{add-zero}
 use borrow.Author.Needs.{needs}
 use Rattle.corrections.proofs.correction.first_at.Statement.{statement}

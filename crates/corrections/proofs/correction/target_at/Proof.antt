@@ -1,5 +1,4 @@
 -- Fields of a word and the limits of a sheet are small, and so are their products.
-use mathlib.Core.Path.{_≡_, sym}
 use Prim.Native.Nat.{ℕ, _+_, _*_, _%_, _<_, _≤_, _^_}
 use native.Mathlib.Nat.{div-one, mul-le-mul}
 use native.Mathlib.Omega.{arith}

@@ -6,13 +6,13 @@ use native.Mathlib.Numerals.{add-one}
 use native.Mathlib.Omega.{arith}
 use lib.ListN.{length, getD, take, set}
 use lib.Seq.{take-all, take-suc, take-suc-set}
 use Rattle.words.specs.Bytes.{wordsOf, numbersOf, bytesOf, halvesOf}
 use Rattle.words.proofs.Numbers.{length-numbers}
 use Rattle.words.proofs.Below.{Below}
 use Rattle.words.proofs.RoundTrips.{numbers-bytes}
 use borrow.Author.Needs.{needs}
-use Rattle.host.proofs.put_numbers.Statement.{statement}
-use Rattle.host.proofs.put_numbers.Tie as tie
+use Rattle.words.proofs.put_numbers.Statement.{statement}
+use Rattle.words.proofs.put_numbers.Tie as tie
 
 one-more : (stored numbers : List ℕ) (i : ℕ) → i < length stored → i < length numbers → take i stored ≡ take i numbers
     → take (i + 1) (set stored i (getD numbers i 0)) ≡ take (i + 1) numbers

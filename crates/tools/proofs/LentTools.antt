@@ -1,11 +1,10 @@
 -- What the test of a tool's lengths tells: where they are whole the host is left what the tool leaves, in bytes; where not, 16.
 use Prim.Native.Nat.{ℕ, _/_, _%_, _^_}
 use mathlib.Core.Path.{_≡_, refl, sym, ap, _∙_}
-use mathlib.Core.Bool.{Bool, true, false}
+use mathlib.Core.Bool.{Bool, true, false, _&&_}
 use mathlib.Core.List.{List}
 use native.Mathlib.Omega.{arith}
 use lib.ListN.{length}
-use lib.Dec.{eqb}
 use borrow.Author.Tests.{eqb-true}
 use Rattle.words.specs.Bytes.{wordsOf, bytesOf}
 use Rattle.words.proofs.Below.{Below}
@@ -13,14 +12,14 @@ use Rattle.words.proofs.RoundTrips.{words-bytes}
 use Rattle.checks.proofs.Tests.{and-true}
 use Rattle.tool.specs.declared.Told.{Told}
 use Rattle.tool.specs.Tool.{Left}
-use Rattle.host.specs.Tools.{toolResultSize, toldBytes, toolWhole, leftInBytes, toolNotWhole, hostTool}
+use Rattle.tools.specs.Tools.{multiple, toolResultSize, toldBytes, toolWhole, leftInBytes, toolNotWhole, hostTool}
 
 pub tool-lengths : (inputs : Bool) (output result : ℕ) → toolWhole inputs output result ≡ true → (inputs ≡ true) × (output % 4 ≡ 0) × (result ≡ toolResultSize)
 unfolding toolWhole
 tool-lengths inputs output result e =
-    let lent = and-true inputs _ e in
-    let others = and-true (eqb (output % 4) 0) _ (lent .1) in
-    (lent .0, eqb-true _ _ (others .0), eqb-true _ _ (others .1))
+    let lent = and-true (inputs && multiple 4 output) _ e in
+    let words = and-true inputs _ (lent .0) in
+    (words .0, eqb-true _ _ (words .1), eqb-true _ _ (lent .1))
 
 module _ (inputs : Bool) (left : Left) (output result : List ℕ) where
   pub tool-refused : toolWhole inputs (length output) (length result) ≡ false → hostTool inputs left output result ≡ toolNotWhole output result

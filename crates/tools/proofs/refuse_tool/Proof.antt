@@ -2,9 +2,9 @@
 use mathlib.Core.Path.{refl, sym, ap, _∙_}
 use borrow.Author.Tests.{eq-eqb, ne-eqb}
 use borrow.Author.Needs.{needs}
-use Rattle.host.specs.Tools.{toldBytes}
-use Rattle.host.proofs.tools.refuse_tool.Statement.{statement}
-use Rattle.host.proofs.tools.refuse_tool.Tie as tie
+use Rattle.tools.specs.Tools.{toldBytes}
+use Rattle.tools.proofs.refuse_tool.Statement.{statement}
+use Rattle.tools.proofs.refuse_tool.Tie as tie
 
 returns : tie.Need-returns
 returns c =

@@ -4,12 +4,11 @@ use mathlib.Core.Bool.{true}
 use lib.ListN.{length}
 use borrow.Author.Tests.{not-true, not-false}
 use Rattle.conversion.specs.Lent.{convertedIn}
-use Rattle.host.specs.Host.{multiple}
-use Rattle.host.specs.Tools.{toolWhole}
-use Rattle.host.proofs.LentTools.{tool-lengths, tool-refused, tool-left}
+use Rattle.tools.specs.Tools.{multiple, toolWhole}
+use Rattle.tools.proofs.LentTools.{tool-lengths, tool-refused, tool-left}
 use borrow.Author.Needs.{needs}
-use Rattle.host.proofs.tools.convert_sheet.Statement.{statement}
-use Rattle.host.proofs.tools.convert_sheet.Tie as tie
+use Rattle.tools.proofs.convert_sheet.Statement.{statement}
+use Rattle.tools.proofs.convert_sheet.Tie as tie
 
 -- the lengths have passed the test
 passed : (c : tie.Else1) →

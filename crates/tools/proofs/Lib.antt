@@ -1,0 +1,2 @@
+pub mod LentTools
+pub mod ToolsMade
