@@ -2,7 +2,7 @@
 use mathlib.Core.Path.{_≡_, refl, ap, subst, _∙_}
 use mathlib.Core.Bool.{Bool}
 use mathlib.Core.List.{List}
-use Prim.Native.Nat.{ℕ, _-_, _*_, _<_, _≤_, _^_}
+use Prim.Native.Nat.{ℕ, _*_, _<_, _≤_, _^_}
 use native.Mathlib.Omega.{arith}
 use lib.ListN.{length}
 use lib.Dec.{leb}
@@ -19,6 +19,7 @@ use Rattle.sheet.specs.Checking.{layoutOf}
 use Rattle.sheet.proofs.Whole.{AcceptedSheet, accepted-sheet, few-words}
 use Rattle.sheet.proofs.HeadWords.{sizes-fit}
 use Rattle.tool.specs.Tool.{refusal, whole, left}
+use Rattle.tool.proofs.Leaving.{room-for, no-room-for}
 use Rattle.conversion.specs.Relaid.{relaid, converted}
 use Rattle.conversion.specs.Lent.{convertedIn, spelled, relaidIn, wordsIn, Ready}
 use Rattle.conversion.proofs.Words.{relaid-length}
@@ -61,12 +62,10 @@ module _ (to : Bool) (sheet output : List ℕ) where
 
     module _ (few : layout .places ≤ mostOf to) where
       pub too-short : room < wordsIn to sheet layout → convertedIn to sheet output ≡ refusal room 15 (length s)
-      unfolding left
-      too-short short = decided ∙ simp (le-leb (layout .places) (mostOf to) few, lt-leb (length (relaidIn to sheet layout)) room (omega (arith, made-length)))
+      too-short short = decided ∙ simp (le-leb (layout .places) (mostOf to) few) (no-room-for (relaidIn to sheet layout) (length s) room (omega (arith, made-length)))
 
       pub enough : wordsIn to sheet layout ≤ room → convertedIn to sheet output ≡ whole room (relaidIn to sheet layout)
-      unfolding left
-      enough fits = decided ∙ simp (le-leb (layout .places) (mostOf to) few, le-leb (length (relaidIn to sheet layout)) room (omega (arith, made-length)))
+      enough fits = decided ∙ simp (le-leb (layout .places) (mostOf to) few) (room-for (relaidIn to sheet layout) (length s) room (omega (arith, made-length)))
 
       pub ready : wordsIn to sheet layout ≤ room → Ready to sheet layout output
       ready fits = record {

@@ -19,7 +19,7 @@ use Rattle.corrections.specs.declared.correction.Grid.{Grid}
 use Rattle.corrections.specs.Corrections.{count, wellFormed, agrees, inTurn, listChecked}
 use Rattle.corrections.specs.Aimed.{AllAimed}
 use Rattle.corrections.proofs.Aiming.{all-aimed}
-use Rattle.correcting.specs.Corrected.{correctedWords, corrected}
+use Rattle.correcting.specs.Corrected.{gridOf, correctedWords, corrected}
 use Rattle.correcting.specs.Lent.{correctedIn, appliedIn, gridIn, Targets, NoRevisions}
 use Rattle.correcting.proofs.Targets.{target-inside, target-sample}
 
@@ -62,7 +62,9 @@ module _ (sheet list output : List ℕ) where
 
     decided : correctedIn sheet list output ≡ left (listChecked c (gridIn layout) >>= λ _. accepted (correctedWords s c (gridIn layout))) (length s) room
     unfolding corrected
-    decided = simp (found .1) (ap (λ (l : Code.Layout). left (listChecked c (gridIn l) >>= λ _. accepted (correctedWords s c (gridIn l))) (length s) room) (found .2))
+    decided =
+        ap (λ checked. left (checked >>= λ L. listChecked c (gridOf s L) >>= λ _. accepted (correctedWords s c (gridOf s L))) (length s) room) (found .1)
+        ∙ ap (λ (l : Code.Layout). left (listChecked c (gridIn l) >>= λ _. accepted (correctedWords s c (gridIn l))) (length s) room) (found .2)
 
     pub faulty : {index : ℕ} → inTurn (wellFormed c (gridIn layout)) (count c) ≡ refused 19 index → correctedIn sheet list output ≡ refusal room 19 index
     unfolding listChecked left

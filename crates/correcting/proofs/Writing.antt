@@ -14,7 +14,7 @@ use Rattle.checks.specs.Checked.{wordAt}
 use Rattle.corrections.specs.declared.correction.Grid.{Grid}
 use Rattle.corrections.specs.Corrections.{count, target}
 use Rattle.correcting.specs.Corrected.{wordAfter, correctedWords}
-use Rattle.correcting.specs.Lent.{afterRevisions, Targets, NoRevisions, AllCorrected}
+use Rattle.correcting.specs.Lent.{Targets, NoRevisions, AllCorrected}
 use Rattle.correcting.proofs.Raising.{targets-kept}
 
 -- the words that were copied stand at the front

@@ -23,7 +23,7 @@ module _ (words : List ℕ) (first room : ℕ) where
   unfolding left
   no-room-for h = simp (lt-leb (length words) room h)
 
-abbrev told : (number place words : ℕ) → Told
+abbrev pub told : (number place words : ℕ) → Told
 told number place words = record { number = number; place = place; words = words }
 
 -- as many bytes hold as many words

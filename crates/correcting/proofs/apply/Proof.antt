@@ -1,12 +1,11 @@
 -- `correcting::apply` meets its contract: a clash decides first, then the room; what is left in each case stands in `Applying`.
 use mathlib.Core.Path.{_≡_, sym, ap, _∙_}
-use Prim.Native.Nat.{ℕ, _<_, _≤_}
+use Prim.Native.Nat.{_<_, _≤_}
 use native.Mathlib.Omega.{arith}
 use lib.ListN.{length, take}
 use borrow.Author.Needs.{needs}
 use Rattle.words.specs.Bytes.{wordsOf}
-use Rattle.tool.specs.declared.Told.{Told}
-use Rattle.tool.proofs.Leaving.{same-words, refused-leaves, finished-leaves}
+use Rattle.tool.proofs.Leaving.{told, same-words, refused-leaves, finished-leaves}
 use Rattle.corrections.specs.Corrections.{count, agrees, inTurn}
 use Rattle.corrections.specs.Aimed.{foundSaid}
 use Rattle.correcting.specs.Corrected.{correctedWords}
@@ -41,8 +40,7 @@ returns-2 c =
     let agree = sym (said searched) ∙ ap (foundSaid 20) (c .before .before .before .before .before .before .before .before .enum-told .given .1) in
     let counted = c .before .before .before .before .before .before .before .word-count .ensures in
     let short : length (wordsOf (g .output .now)) < length (wordsOf (g .sheet .now)) = omega (arith, room searched, counted, c .before .before .before .before .before .word-count2 .ensures, c .before .before .before .before .if1 .taken) in
-    let told : ℕ → Told = λ n. record { number = 15; place = n; words = 0 } in
-    refused-leaves (g .output .now) (searched .find-clash .kept .1 .1 .1 .0) (c .before .before .refuse2 .ensures .0 ∙ ap told counted) (c .before .before .refuse2 .ensures .1)
+    refused-leaves (g .output .now) (searched .find-clash .kept .1 .1 .1 .0) (c .before .before .refuse2 .ensures .0 ∙ ap (λ n. told 15 n 0) counted) (c .before .before .refuse2 .ensures .1)
     (too-short (g .sheet .now) (g .list .now) (g .output .now) (g .grid) agree short)
 
 finish-requires : tie.Need-finish-requires

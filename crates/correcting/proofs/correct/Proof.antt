@@ -1,14 +1,12 @@
 -- `correcting::correct` meets its contract: the sheet's check decides first, then 19, then the rest; what is left in each case stands in `Applying`.
 use mathlib.Core.Path.{_≡_, refl, sym, ap, subst, _∙_}
-use Prim.Native.Nat.{ℕ}
 use borrow.Author.Needs.{needs}
 use Rattle.words.specs.Bytes.{wordsOf}
 use Rattle.checks.specs.Checked.{accepted, mapped}
 use Rattle.sheet.specs.Layout.{validated}
 use Rattle.sheet.specs.Checking.{layoutOf, checkSaid}
-use Rattle.tool.specs.declared.Told.{Told}
 use Rattle.tool.specs.Tool.{Left}
-use Rattle.tool.proofs.Leaving.{refused-leaves}
+use Rattle.tool.proofs.Leaving.{told, refused-leaves}
 use Rattle.corrections.specs.declared.correction.Grid.{Grid}
 use Rattle.corrections.specs.Corrections.{count, wellFormed, inTurn}
 use Rattle.corrections.specs.Aimed.{foundSaid}
@@ -37,8 +35,7 @@ returns : tie.Need-returns
 returns c =
     let g = c .before .before .before .before .before .before .before .before .before .before .before .before .args in
     let fault = c .before .before .before .before .before .before .fault .given in
-    let told : ℕ → Told = λ n. record { number = n; place = fault .0 .1 .0; words = 0 } in
-    refused-leaves (g .output .now) refl (c .before .before .refuse .ensures .0 ∙ ap told (c .before .before .before .number .ensures)) (c .before .before .refuse .ensures .1)
+    refused-leaves (g .output .now) refl (c .before .before .refuse .ensures .0 ∙ ap (λ n. told n (fault .0 .1 .0) 0) (c .before .before .before .number .ensures)) (c .before .before .refuse .ensures .1)
     (turned-back (g .sheet .now) (g .list .now) (g .output .now) (sym (c .before .before .before .before .before .before .before .before .check-words .ensures) ∙ ap checkSaid (fault .1)))
 
 returns-2 : tie.Need-returns-2

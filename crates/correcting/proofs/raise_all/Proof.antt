@@ -22,11 +22,17 @@ abbrev μ-loop : tie.MeasureT-loop
 loop-holds : tie.Need-loop-holds Inv-loop μ-loop
 loop-holds c = let g = c .before .before .before .args in (search needs, refl, raised-none (wordsOf (g .list .now)) (g .grid) (wordsOf (g .output .now)))
 
+-- the next correction, and the words that it and the others are aimed at
+next : (c : tie.In-loop Inv-loop μ-loop) → let g = c .before .before .before .before .before .args in Targets (wordsOf (g .list .now)) (g .grid) (wordsOf (c .before .loop .output)) × (c .before .loop .k < count (wordsOf (g .list .now)))
+next c =
+    let start = c .before .before .before .before .before in
+    let h = c .before .loop in (
+      targets-kept (wordsOf (start .args .list .now)) (start .args .grid) (start .pre .0) (le-of-eq (sym (same-words (h .output) (start .args .output .now) (h .inv .1)))),
+      omega (arith, c .before .before .correction-count .ensures),
+    )
+
 raise-requires : tie.Need-raise-requires Inv-loop μ-loop
-raise-requires c κs =
-    let start = c .before .before .before .before .before .before in
-    let h = c .before .before .loop in
-    (targets-kept (wordsOf (start .args .list .now)) (start .args .grid) (start .pre .0) (le-of-eq (sym (same-words (h .output) (start .args .output .now) (h .inv .1)))), omega (arith, c .before .before .before .correction-count .ensures, c .before .loop-test .taken))
+raise-requires c κs = next (c .before)
 
 loop-again : tie.Need-loop-again Inv-loop μ-loop
 loop-again c =
@@ -34,8 +40,7 @@ loop-again c =
     let list = wordsOf (start .args .list .now) in
     let before = wordsOf (start .args .output .now) in
     let h = c .before .before .before .before .before .loop in
-    let inside : h .k < count list = omega (arith, c .before .before .before .before .before .before .correction-count .ensures, c .before .before .before .before .loop-test .taken) in
-    let targets : Targets list (start .args .grid) (wordsOf (h .output)) = targets-kept list (start .args .grid) (start .pre .0) (le-of-eq (sym (same-words (h .output) (start .args .output .now) (h .inv .1)))) in
+    let (targets, inside) = next (c .before .before .before .before) in
     let raised = raised-more list (start .args .grid) before (wordsOf (h .output)) (h .k) (targets .aimed (h .k) inside .revised) (targets .inside (h .k) inside) (start .pre .1 (h .k) inside) (h .inv .2) in
     (search needs, search needs, subst (λ words. Raised list (start .args .grid) before words (h .k + 1)) (sym (c .before .before .raise .ensures)) raised)
 

@@ -30,25 +30,30 @@ loop-holds c =
     let list = wordsOf (g .list .now) in
     (search needs, refl, λ before raised. subst (Settled list (g .grid) before (wordsOf (g .output .now))) (sym (c .correction-count .ensures)) (settled-none list (g .grid) before (wordsOf (g .output .now)) raised))
 
+-- the next correction, and the words that it and the others are aimed at
+next : (c : tie.In-loop Inv-loop μ-loop) → let g = c .before .before .before .before .before .args in Targets (wordsOf (g .list .now)) (g .grid) (wordsOf (c .before .loop .output)) × (c .before .loop .left - 1 < count (wordsOf (g .list .now)))
+next c =
+    let start = c .before .before .before .before .before in
+    let h = c .before .loop in (
+      targets-kept (wordsOf (start .args .list .now)) (start .args .grid) (start .pre) (le-of-eq (sym (same-words (h .output) (start .args .output .now) (h .inv .1)))),
+      omega (arith, c .loop-test .taken),
+    )
+
 settle-requires : tie.Need-settle-requires Inv-loop μ-loop
-settle-requires c κs =
-    let start = c .before .before .before .before .before .before in
-    let h = c .before .before .loop in
-    (targets-kept (wordsOf (start .args .list .now)) (start .args .grid) (start .pre) (le-of-eq (sym (same-words (h .output) (start .args .output .now) (h .inv .1)))), omega (arith, c .before .loop-test .taken))
+settle-requires c κs = next (c .before)
 
 loop-again : tie.Need-loop-again Inv-loop μ-loop
 loop-again c =
-    let start = c .before .before .before .before .before .before .before .before .before in
-    let list = wordsOf (start .args .list .now) in
+    let g = c .before .before .before .before .before .before .before .before .before .args in
+    let list = wordsOf (g .list .now) in
     let h = c .before .before .before .before .before .loop in
     let k : ℕ = h .left - 1 in
-    let inside : k < count list = omega (arith, c .before .before .before .before .loop-test .taken) in
-    let targets : Targets list (start .args .grid) (wordsOf (h .output)) = targets-kept list (start .args .grid) (start .pre) (le-of-eq (sym (same-words (h .output) (start .args .output .now) (h .inv .1)))) in
+    let (targets, inside) = next (c .before .before .before .before) in
     let one-more : h .left ≡ suc k = omega (arith, c .before .before .before .before .loop-test .taken) in (
       search needs,
       search needs,
-      λ before raised. subst (λ words. Settled list (start .args .grid) before words k) (sym (c .before .before .settle .ensures))
-          (settled-less list (start .args .grid) before (wordsOf (h .output)) k one-more inside (targets .aimed k inside) (targets .inside k inside) (h .inv .2 before raised)),
+      λ before raised. subst (λ words. Settled list (g .grid) before words k) (sym (c .before .before .settle .ensures))
+          (settled-less list (g .grid) before (wordsOf (h .output)) k one-more inside (targets .aimed k inside) (targets .inside k inside) (h .inv .2 before raised)),
     )
 
 returns : tie.Need-returns Inv-loop μ-loop
