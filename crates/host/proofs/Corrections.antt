@@ -71,6 +71,13 @@ module _ (c : Call) (zero : returned (c .call) ≡ 0) where
     calls-moved d near = judge.calls-steady d x y (subst₂ (SamplesApart d) (sym given) (sym made) (alike sheetOf listOf sheetMade call-made (λ v w. natAbs (v -ℤ w) ≤ d) near)) zx zy
 
     -- upward corrections take no yes away
-    pub calls-kept : Corrects (λ v w. T (leZ v w)) sheetOf listOf (grid sheetOf listOf sheetMade call-made) → hasCode 2 (judge.sheetOf x) ≡ false → hasCode 3 (judge.sheetOf x) ≡ false
-        → (i t l : ℕ) → Raised (saidAt (judge.leftBy x .answer) i t l) (saidAt (judge.leftBy y .answer) i t l)
-    calls-kept raised = judge.calls-raised x y (subst₂ SamplesRaised (sym given) (sym made) (alike sheetOf listOf sheetMade call-made (λ v w. T (leZ v w)) raised)) zx zy
+    module _ (raised : Corrects (λ v w. T (leZ v w)) sheetOf listOf (grid sheetOf listOf sheetMade call-made)) (without-2 : hasCode 2 (judge.sheetOf x) ≡ false)
+        (without-3 : hasCode 3 (judge.sheetOf x) ≡ false) where
+      abbrev risen : SamplesRaised (judge.sheetOf x) (judge.sheetOf y)
+      risen = subst₂ SamplesRaised (sym given) (sym made) (alike sheetOf listOf sheetMade call-made (λ v w. T (leZ v w)) raised)
+
+      pub calls-kept : (i t l : ℕ) → Raised (saidAt (judge.leftBy x .answer) i t l) (saidAt (judge.leftBy y .answer) i t l)
+      calls-kept = judge.calls-raised x y risen without-2 without-3 zx zy
+
+      pub calls-no-fewer : judge.leftBy x .result .yes ≤ judge.leftBy y .result .yes
+      calls-no-fewer = judge.calls-yes x y risen without-2 without-3 zx zy
