@@ -3,7 +3,7 @@
 
 use crate::difference::{demand, Checked, Difference};
 use crate::judging::{answered, Answered};
-use crate::reached::{one_way, with_one_way, Converted, Reached};
+use crate::reached::{one_way, with_one_way, Reached};
 use crate::tools::{compared, left_by, Tool, Tools};
 use crate::Engine;
 use reference::convert::laid_out;
@@ -49,9 +49,7 @@ fn compare_given(
     reached: &mut Reached,
 ) -> Checked {
     let left = compared(tools, random, Tool::Convert(to), given)?;
-    for label in Converted::new(to, given, &left).shown() {
-        reached.count(&label);
-    }
+    reached.count_converted(to, given, &left);
     Ok(())
 }
 

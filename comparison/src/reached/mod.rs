@@ -3,6 +3,7 @@
 //! compared what it should.
 
 mod accepted;
+mod called;
 mod converted;
 mod extents;
 mod layouts;
@@ -18,16 +19,17 @@ mod surrounds;
 mod wide_looked_up;
 mod wide_refused;
 
-pub use converted::Converted;
 pub use layouts::with_one_way;
 pub use looked_up::LookedUp;
 
 use crate::laws::LAWS;
 use crate::{converting, deciding, mirror, raising, steadiness};
+use reference::generate::tools::Given;
 use reference::generate::Case;
+use reference::layout::Layout;
 use reference::left::Left;
 use reference::sheet::Sheet;
-use reference::words;
+use reference::{tool, words};
 use std::collections::HashMap;
 
 /// Counts by label. All labels are known from the start, in the order they are
@@ -91,6 +93,11 @@ impl Reached {
         for label in labels {
             self.count(&label);
         }
+    }
+
+    /// Counts all that a call of the converter shows.
+    pub fn count_converted(&mut self, to: Layout, given: &Given, left: &tool::Left) {
+        converted::shown(to, given, left).iter().for_each(|label| self.count(label));
     }
 
     /// Counts the layout of a sheet that a check beside judging was tried on, and
