@@ -32,6 +32,9 @@ const LARGEST_EVERY: u64 = 1 << 13;
 /// One seed in so many also judges sheets of 1,024 places.
 const CITY_EVERY: u64 = 1 << 12;
 
+/// By so many lists a sheet of 1,024 places is corrected.
+const LISTS_OF_CITY: usize = 6;
+
 /// The refusals that are aimed at the table of a sheet of a million words.
 const OF_TABLE: [u64; 5] = [10, 11, 12, 13, 14];
 
@@ -64,8 +67,7 @@ impl<'a> Comparison<'a> {
         // Another stream than the one that made the case.
         let mut random = Random::new(!seed);
         self.judge(&mut random, &case)?;
-        self.convert(seed, &case)?;
-        self.correct(seed, &case)?;
+        self.tools(seed, &case)?;
         if seed.is_multiple_of(PAIRS_EVERY) {
             steadiness::check(self.engine, &mut random, &mut self.reached)?;
             raising::check(self.engine, &mut random, &mut self.reached)?;
@@ -117,6 +119,16 @@ impl<'a> Comparison<'a> {
         }
     }
 
+    /// What a seed determines of tools alone.
+    pub fn tools_of(&mut self, seed: u64) -> Checked {
+        self.tools(seed, &case(seed, MOST_PLACES))
+    }
+
+    fn tools(&mut self, seed: u64, case: &Case) -> Checked {
+        self.convert(seed, case)?;
+        self.correct(seed, case)
+    }
+
     /// The case's sheet to both layouts, and sometimes another there and back.
     fn convert(&mut self, seed: u64, case: &Case) -> Checked {
         // A stream of its own: what is judged does not depend on what is converted.
@@ -160,7 +172,10 @@ impl<'a> Comparison<'a> {
         self.whole_and_struck(random, &words)?;
         let sheet = words::to_bytes(&words);
         converting::compare(self.tools, random, &sheet, &mut self.reached)?;
-        correcting::compare(self.tools, random, &sheet, &mut self.reached)
+        for _ in 0..LISTS_OF_CITY {
+            correcting::compare(self.tools, random, &sheet, &mut self.reached)?;
+        }
+        Ok(())
     }
 
     /// A valid sheet, the same with a short answer, and with faults in its table.

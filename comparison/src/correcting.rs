@@ -16,8 +16,9 @@ use reference::layout::Front;
 use reference::page;
 use reference::worked::{CORRECTIONS_OF_A, WIDE_A};
 
-/// So many corrections, about, has a list for a sheet of a million words.
-const MANY: usize = 10_000;
+/// So many corrections, about, has a list for a sheet of a million words. Two bytes do
+/// not hold the number of its words.
+const MANY: usize = 24_000;
 
 /// Corrects a sheet's bytes, right or wrong, by a list that is right or wrong as well,
 /// with enough lent or not; engine and implementation must agree.
@@ -69,7 +70,7 @@ pub fn compare_long_lists(
     reached: &mut Reached,
 ) -> Checked {
     let front = Front::told(words);
-    let count = random.count(MANY - MANY / 8, MANY + MANY / 8);
+    let count = random.count(MANY - MANY / 16, MANY + MANY / 16);
     let mut corrections = all_over(random, &front, count);
     let right = correct::list(&corrections);
     clash_of_ends(random, &mut corrections);

@@ -288,3 +288,6 @@ impl Corrected {
         Clash { first: 0, later: self.sent().corrections.len() - 1 }
     }
 }
+
+#[cfg(test)]
+mod tests;

@@ -5,9 +5,13 @@ use crate::correct::Correction;
 use crate::generate::random::Random;
 use crate::generate::valid::Numbers;
 use crate::layout::Front;
+use crate::words;
 
 /// The greatest revision.
 const GREATEST: u32 = 255;
+
+/// The bits of a value, 26..0.
+const VALUE_BITS: usize = 27;
 
 /// Adds a correction that clashes with an earlier one: right behind it, at the end of
 /// the list, or anywhere between. Often the sample has a higher revision as well, of
@@ -35,9 +39,10 @@ pub fn clash_of_ends(random: &mut Random, corrections: &mut [Correction]) {
     }
 }
 
-/// The same sample and revision with another value, often next to it.
+/// The same sample and revision with another value, often one that differs in a bit.
 fn unlike(random: &mut Random, correction: Correction) -> Correction {
-    let flipped = correction.value ^ 1;
+    let bit = 1 << random.below(VALUE_BITS);
+    let flipped = words::signed27(words::sample_payload(correction.value) ^ bit);
     let drawn = Numbers::Any.draw(random);
     let value = if drawn == correction.value || random.chance(50) { flipped } else { drawn };
     Correction { value, ..correction }

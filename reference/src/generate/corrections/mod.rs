@@ -152,7 +152,7 @@ fn aim(random: &mut Random, front: &Front) -> Aim {
 }
 
 /// Gives corrections of one sample and revision the value of the first of them.
-fn settle(corrections: &mut [Correction]) {
+pub fn settle(corrections: &mut [Correction]) {
     let mut values = HashMap::new();
     for Correction { revision, aim, value } in corrections {
         let key = (aim.signal, aim.time, aim.place, *revision);
