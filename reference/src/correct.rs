@@ -40,6 +40,11 @@ impl Aim {
     pub fn index(&self, head: &Head) -> usize {
         head.reading_index(self.time as usize, self.place as usize, self.signal as usize)
     }
+
+    /// Where it stands among the words of a sheet.
+    pub fn word_index(&self, sheet: &Sheet) -> usize {
+        sheet.first_sample() + self.index(&sheet.head)
+    }
 }
 
 impl Correction {
@@ -150,10 +155,9 @@ fn values(list: &[u32]) -> Result<Values, Refusal> {
 /// Every revision is written, each over those below it.
 fn replaced(words: &[u32], sheet: &Sheet, values: &Values) -> Vec<u32> {
     let mut words = words.to_vec();
-    let first_sample = sheet.first_sample();
     for ((aim, _), &value) in values {
         let sample = words::word(kinds::SAMPLE, words::sample_payload(value));
-        words[first_sample + aim.index(&sheet.head)] = sample;
+        words[aim.word_index(sheet)] = sample;
     }
     words
 }

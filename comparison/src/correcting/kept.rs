@@ -16,7 +16,6 @@ use reference::generate::tools::Given;
 use reference::generate::valid::{self, MOST};
 use reference::generate::Case;
 use reference::layout::Front;
-use reference::sheet::Sheet;
 use reference::{tool, words};
 use std::collections::BTreeSet;
 
@@ -187,7 +186,7 @@ fn written_as_sent(words: &[u32], corrected: &[u32], corrections: &[Correction])
     demand(counts.0 == counts.1, || format!("unlike counts of words: {counts:?}"))?;
     let sheet = tool::valid(words).expect("a valid sheet");
     let sent: BTreeSet<(usize, u32)> =
-        corrections.iter().map(|one| (word_of(&sheet, one), one.words()[2])).collect();
+        corrections.iter().map(|one| (one.aim.word_index(&sheet), one.words()[2])).collect();
     let aimed_at: BTreeSet<usize> = sent.iter().map(|(at, _)| *at).collect();
     let is_as_sent = |&at: &usize| {
         if aimed_at.contains(&at) {
@@ -200,11 +199,6 @@ fn written_as_sent(words: &[u32], corrected: &[u32], corrections: &[Correction])
         Some(at) => Err(Difference::new(format!("word {at} is neither the sheet's nor sent"))),
         None => Ok(()),
     }
-}
-
-/// The index of the word that a correction is aimed at.
-fn word_of(sheet: &Sheet, correction: &Correction) -> usize {
-    sheet.first_sample() + correction.aim.index(&sheet.head)
 }
 
 /// Whether both sheets are refused, and then for the same, where now and then too little

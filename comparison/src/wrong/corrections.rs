@@ -39,12 +39,12 @@ impl Asked {
             by_sample.entry(correction.aim).or_default().push(correction);
         }
         let chosen: Vec<Correction> = by_sample.values().map(|of_one| rule(of_one)).collect();
-        self.written(&chosen, |sheet, aim| sheet.first_sample() + aim.index(&sheet.head))
+        self.written(&chosen, |sheet, aim| aim.word_index(sheet))
     }
 
     /// The words of a valid sheet with these values written, each where it is aimed by
     /// some reckoning, if there is such a word.
-    fn written(&self, sent: &[Correction], aimed: impl Fn(&Sheet, Aim) -> usize) -> Vec<u32> {
+    pub fn written(&self, sent: &[Correction], aimed: impl Fn(&Sheet, Aim) -> usize) -> Vec<u32> {
         let (sheet, mut words) = (self.sheet(), self.words.clone());
         for correction in sent {
             let word = words.get_mut(aimed(&sheet, correction.aim));
@@ -71,31 +71,35 @@ pub fn assert_caught(mistake: impl Fn(&Asked, &mut Told)) {
     tools::assert_caught(&mistaken(mistake));
 }
 
-/// Caught where other words are written.
+/// Caught for the place at which a number is told.
 #[track_caller]
-pub fn assert_caught_where_written(write: impl Fn(&Asked) -> Vec<u32>) {
+pub fn assert_caught_placing(number: u64, other: impl Fn(&Asked, usize) -> usize) {
     assert_caught(|asked, told| {
+        if told.outcome.number == number {
+            told.refuse(number, other(asked, told.outcome.place as usize));
+        }
+    });
+}
+
+/// The corrector that writes other words.
+pub fn writing(write: impl Fn(&Asked) -> Vec<u32>) -> impl Tools {
+    mistaken(move |asked, told| {
         if told.outcome.number == 0 {
             told.write(write(asked));
         }
-    });
+    })
+}
+
+/// Caught where other words are written.
+#[track_caller]
+pub fn assert_caught_where_written(write: impl Fn(&Asked) -> Vec<u32>) {
+    tools::assert_caught(&writing(write));
 }
 
 /// Caught for the correction that counts of a sample's.
 #[track_caller]
 fn assert_caught_choosing(rule: impl Fn(&[Correction]) -> Correction) {
     assert_caught_where_written(|asked| asked.written_by(&rule));
-}
-
-/// Caught for where the value is written that counts: the last of those written to a
-/// sample has its highest revision.
-#[track_caller]
-fn assert_caught_aiming(aimed: impl Fn(&Sheet, Aim) -> usize) {
-    assert_caught_where_written(|asked| {
-        let mut sent = asked.corrections();
-        sent.sort_by_key(|correction| correction.revision);
-        asked.written(&sent, &aimed)
-    });
 }
 
 /// The correction of a sample that counts.
@@ -110,12 +114,8 @@ fn by_key<K: Ord>(of_sample: &[Correction], key: impl Fn(&Correction) -> K) -> C
 
 #[test]
 fn without_a_fault_nothing_is_found() {
-    let unaltered = mistaken(|asked, told| {
-        if told.outcome.number == 0 {
-            told.write(asked.written_by(highest));
-        }
-    });
-    assert_eq!(tools::caught_within(&unaltered, SEEDS_OF_RIGHT), None);
+    let right = writing(|asked| asked.written_by(highest));
+    assert_eq!(tools::caught_within(&right, SEEDS_OF_RIGHT), None);
 }
 
 #[test]
@@ -164,7 +164,7 @@ fn the_highest_revision_of_the_list_alone_counts() {
         let mut sent = asked.corrections();
         let highest = sent.iter().map(|correction| correction.revision).max();
         sent.retain(|correction| Some(correction.revision) == highest);
-        asked.written(&sent, |sheet, aim| sheet.first_sample() + aim.index(&sheet.head))
+        asked.written(&sent, |sheet, aim| aim.word_index(sheet))
     });
 }
 
@@ -211,81 +211,5 @@ fn values_that_are_no_samples() {
         let changed = words.iter_mut().zip(&asked.words).filter(|(word, before)| word != before);
         changed.for_each(|(word, _)| *word |= BIT_27);
         words
-    });
-}
-
-#[test]
-fn time_and_place_exchanged() {
-    assert_caught_aiming(|sheet, aim| {
-        let exchanged = Aim { time: aim.place, place: aim.time, ..aim };
-        sheet.first_sample() + exchanged.index(&sheet.head)
-    });
-}
-
-#[test]
-fn place_and_signal_exchanged() {
-    assert_caught_aiming(|sheet, aim| {
-        let exchanged = Aim { signal: aim.place, place: aim.signal, ..aim };
-        sheet.first_sample() + exchanged.index(&sheet.head)
-    });
-}
-
-/// As if places were outermost, or signals.
-#[test]
-fn samples_in_another_order() {
-    assert_caught_aiming(|sheet, aim| {
-        let of_place = aim.place as usize * sheet.head.samples + aim.time as usize;
-        sheet.first_sample() + of_place * sheet.head.signals + aim.signal as usize
-    });
-    assert_caught_aiming(|sheet, aim| {
-        let of_time = aim.time as usize * sheet.head.signals + aim.signal as usize;
-        sheet.first_sample() + of_time * sheet.head.places + aim.place as usize
-    });
-}
-
-#[test]
-fn fields_of_fewer_bits() {
-    let fields: [fn(&mut Aim) -> (&mut u32, u32); 3] =
-        [|aim| (&mut aim.signal, 4), |aim| (&mut aim.time, 10), |aim| (&mut aim.place, 8)];
-    for field in fields {
-        assert_caught_aiming(|sheet, mut aim| {
-            let (number, bits) = field(&mut aim);
-            *number %= 1 << (bits - 1);
-            sheet.first_sample() + aim.index(&sheet.head)
-        });
-    }
-}
-
-#[test]
-fn one_word_too_far_or_too_near() {
-    assert_caught_aiming(|sheet, aim| sheet.first_sample() + aim.index(&sheet.head) + 1);
-    assert_caught_aiming(|sheet, aim| sheet.first_sample() + aim.index(&sheet.head) - 1);
-}
-
-/// Also the word behind the sample.
-#[test]
-fn one_word_too_many() {
-    assert_caught_where_written(|asked| {
-        let first_sample = asked.sheet().first_sample();
-        let mut words = asked.written_by(highest);
-        for correction in asked.corrections() {
-            let behind = first_sample + correction.aim.index(&asked.sheet().head) + 1;
-            words[behind] = correction.words()[2];
-        }
-        words
-    });
-}
-
-#[test]
-fn roads_passed_over() {
-    assert_caught_aiming(|sheet, aim| sheet.head.layout.front_words() + aim.index(&sheet.head));
-}
-
-/// As if every sheet were a narrow one.
-#[test]
-fn the_first_word_of_wide_sheets_passed_over() {
-    assert_caught_aiming(|sheet, aim| {
-        let first_sample = sheet.first_sample() - sheet.head.layout.head_index();
-        first_sample + aim.index(&sheet.head)
     });
 }

@@ -1,23 +1,28 @@
 //! Correctors that see clashes where there are none, or do not see some, or tell them
 //! elsewhere.
 
-use super::corrections::{assert_caught, highest, Asked};
-use super::tools::Told;
+use super::corrections::{assert_caught, assert_caught_placing, highest, mistaken, Asked};
+use super::tools::{self, Told};
+use super::SEEDS_OF_RIGHT;
+use crate::tools::Tools;
 use reference::correct::{Correction, WORDS_PER_CORRECTION};
 
-/// Caught for the correction, by its index, that is said to clash, if the sheet is valid
-/// and no word of the list is faulty.
+/// The corrector that sees a correction clash, by its index, if the sheet is valid and no
+/// word of the list is faulty.
+fn seeing(clash: impl Fn(&[Correction]) -> Option<usize>) -> impl Tools {
+    mistaken(move |asked, told| match clash(&asked.corrections()) {
+        Some(at) if matches!(told.outcome.number, 0 | 15 | 20) => {
+            told.refuse(20, at * WORDS_PER_CORRECTION);
+        }
+        None if told.outcome.number == 20 => go_on(asked, told),
+        _ => {}
+    })
+}
+
+/// Caught for the correction that is said to clash.
 #[track_caller]
 fn assert_caught_seeing(clash: impl Fn(&[Correction]) -> Option<usize>) {
-    assert_caught(|asked, told| {
-        let is_of_right_words =
-            !asked.words.is_empty() && matches!(told.outcome.number, 0 | 15 | 20);
-        match clash(&asked.corrections()) {
-            Some(at) if is_of_right_words => told.refuse(20, at * WORDS_PER_CORRECTION),
-            None if told.outcome.number == 20 => go_on(asked, told),
-            _ => {}
-        }
-    });
+    tools::assert_caught(&seeing(clash));
 }
 
 /// Does what comes after 20.
@@ -49,6 +54,12 @@ fn is_clash(one: &Correction, other: &Correction) -> bool {
 fn highest_of(sent: &[Correction], correction: &Correction) -> u32 {
     let of_sample = sent.iter().filter(|other| other.aim == correction.aim);
     of_sample.map(|other| other.revision).max().unwrap_or(0)
+}
+
+#[test]
+fn without_a_fault_nothing_is_found() {
+    let right = seeing(|sent| first_later(sent, is_clash));
+    assert_eq!(tools::caught_within(&right, SEEDS_OF_RIGHT), None);
 }
 
 #[test]
@@ -200,19 +211,10 @@ fn the_clash_of_the_first_sample_told() {
 /// The number of the correction, its last word, its second word, or the one before.
 #[test]
 fn told_at_another_word() {
-    let places: [fn(usize) -> usize; 4] = [
-        |place| place / WORDS_PER_CORRECTION,
-        |place| place + 2,
-        |place| place + 1,
-        |place| place - 1,
-    ];
-    for other in places {
-        assert_caught(|_, told| {
-            if told.outcome.number == 20 {
-                told.refuse(20, other(told.outcome.place as usize));
-            }
-        });
-    }
+    assert_caught_placing(20, |_, place| place / WORDS_PER_CORRECTION);
+    assert_caught_placing(20, |_, place| place + 2);
+    assert_caught_placing(20, |_, place| place + 1);
+    assert_caught_placing(20, |_, place| place - 1);
 }
 
 /// Of a list that has a faulty word.

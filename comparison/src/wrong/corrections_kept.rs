@@ -2,7 +2,7 @@
 //! implementation.
 
 use super::bytes::{change_outcome, change_words, Spoilt};
-use super::corrections::{highest, mistaken};
+use super::corrections::{highest, mistaken, writing};
 use super::traps::DRAWS;
 use crate::correcting;
 use crate::difference::Difference;
@@ -26,15 +26,6 @@ fn assert_found(found: Option<Difference>, what: &str) {
     assert!(!difference.found_on.is_empty());
 }
 
-/// Tools that write something else.
-fn writing(write: impl Fn(&super::corrections::Asked) -> Vec<u32>) -> impl Tools {
-    mistaken(move |asked, told| {
-        if told.outcome.number == 0 {
-            told.write(write(asked));
-        }
-    })
-}
-
 #[test]
 fn nothing_in_what_is_right() {
     assert!(found(&Implementation, &Implementation).is_none());
@@ -46,7 +37,6 @@ fn the_last_in_the_list_counts() {
     assert_found(found(&Implementation, &tools), "the order of a list matters");
 }
 
-/// What is left is another sample's value.
 #[test]
 fn values_that_were_not_sent() {
     let tools = writing(|asked| {

@@ -1,132 +1,11 @@
-//! Correctors that take lists which are at fault, or tell other numbers, places or counts
-//! of words than they should.
+//! Correctors that tell other numbers, places or counts of words than they should.
 
-use super::corrections::{assert_caught, mistaken};
+use super::corrections::{assert_caught, assert_caught_placing, mistaken, Asked};
 use super::tools;
-use crate::compare::Comparison;
-use crate::tools::{Tool, Tools, Written};
-use crate::Implementation;
 use reference::correct::WORDS_PER_CORRECTION;
-use reference::generate::random::Random;
 use reference::layout::Front;
 use reference::sheet::check;
-use reference::words::{self, kinds, BIT_27, BYTES_PER_WORD};
-
-/// Right, but for how it reads a list of whole words.
-struct Reread<F>(F);
-
-impl<F: Fn(&Front, &mut Vec<u32>)> Tools for Reread<F> {
-    fn run(&self, tool: Tool, inputs: &[&[u8]], left: Written) -> u64 {
-        let list = inputs.get(1).and_then(|bytes| words::from_bytes(bytes));
-        let Some(mut list) = list.filter(|_| tool == Tool::Correct) else {
-            return Implementation.run(tool, inputs, left);
-        };
-        (self.0)(&Front::told_by_bytes(inputs[0]), &mut list);
-        Implementation.run(tool, &[inputs[0], &words::to_bytes(&list)], left)
-    }
-}
-
-/// Caught for reading a list so.
-#[track_caller]
-fn assert_caught_reading(reread: impl Fn(&Front, &mut Vec<u32>)) {
-    tools::assert_caught(&Reread(reread));
-}
-
-/// Caught for reading the words so that stand at one place in their corrections.
-#[track_caller]
-fn assert_caught_reading_at(place: usize, reread: impl Fn(&Front, u32) -> u32) {
-    assert_caught_reading(|front, list| {
-        let words = list.iter_mut().skip(place).step_by(WORDS_PER_CORRECTION);
-        words.for_each(|word| *word = reread(front, *word));
-    });
-}
-
-#[test]
-fn revision_0_accepted() {
-    assert_caught_reading_at(0, |_, word| match words::field(word, 27, 20) {
-        0 => word | 1 << 20,
-        _ => word,
-    });
-}
-
-#[test]
-fn a_signal_too_many_accepted() {
-    assert_caught_reading_at(0, |front, word| match words::field(word, 19, 12) as usize {
-        signal if signal == front.middle => word.wrapping_sub(1 << 12),
-        _ => word,
-    });
-}
-
-#[test]
-fn a_time_too_many_accepted() {
-    assert_caught_reading_at(0, |front, word| match words::field(word, 11, 0) as usize {
-        time if time == front.samples => word.wrapping_sub(1),
-        _ => word,
-    });
-}
-
-#[test]
-fn a_place_too_many_accepted() {
-    assert_caught_reading_at(1, |front, word| match words::field(word, 15, 0) as usize {
-        place if place == front.places => word.wrapping_sub(1),
-        _ => word,
-    });
-}
-
-/// Times have up to 10 bits in a sheet, signals 4, places 10; the fields have more.
-#[test]
-fn bits_of_fields_passed_over() {
-    for bits in [10, 11] {
-        assert_caught_reading_at(0, |_, word| word & !(0xFFF >> bits << bits));
-    }
-    for bits in 4..8 {
-        assert_caught_reading_at(0, |_, word| word & !(0xFF >> bits << bits << 12));
-    }
-    for bits in [8, 10, 12, 15] {
-        assert_caught_reading_at(1, |_, word| word & !(0xFFFF >> bits << bits));
-    }
-}
-
-/// All of them, and the top one and the lowest alone.
-#[test]
-fn spare_bits_passed_over() {
-    for spare in [0xFFF_0000, BIT_27, 1 << 16] {
-        assert_caught_reading_at(1, |_, word| word & !spare);
-    }
-}
-
-#[test]
-fn bit_27_of_a_value_passed_over() {
-    assert_caught_reading_at(2, |_, word| word & !BIT_27);
-}
-
-/// At each of the three words.
-#[test]
-fn kinds_passed_over() {
-    let kinds = [kinds::CORRECTION, kinds::CORRECTED_PLACE, kinds::SAMPLE];
-    for (place, kind) in kinds.into_iter().enumerate() {
-        assert_caught_reading_at(place, |_, word| words::word(kind, words::payload(word)));
-    }
-}
-
-/// A count that never came, and a constant.
-#[test]
-fn values_of_another_kind_accepted() {
-    for other in [0, kinds::CONSTANT] {
-        assert_caught_reading_at(2, |_, word| match words::kind(word) {
-            kind if kind == other => words::word(kinds::SAMPLE, words::payload(word)),
-            _ => word,
-        });
-    }
-}
-
-/// A correction that is cut short is as good as none.
-#[test]
-fn missing_words_passed_over() {
-    assert_caught_reading(|_, list| {
-        list.truncate(list.len() / WORDS_PER_CORRECTION * WORDS_PER_CORRECTION);
-    });
-}
+use reference::words::{self, kinds, BYTES_PER_WORD};
 
 #[test]
 fn an_empty_list_refused() {
@@ -150,19 +29,10 @@ fn values_that_are_there_already_refused() {
 /// At the correction's first word, at its last, at its number, or at place 0.
 #[test]
 fn number_19_at_another_word() {
-    let places: [fn(usize) -> usize; 4] = [
-        |place| place / WORDS_PER_CORRECTION * WORDS_PER_CORRECTION,
-        |place| place / WORDS_PER_CORRECTION * WORDS_PER_CORRECTION + 2,
-        |place| place / WORDS_PER_CORRECTION,
-        |_| 0,
-    ];
-    for other in places {
-        assert_caught(|_, told| {
-            if told.outcome.number == 19 {
-                told.refuse(19, other(told.outcome.place as usize));
-            }
-        });
-    }
+    assert_caught_placing(19, |_, place| place / WORDS_PER_CORRECTION * WORDS_PER_CORRECTION);
+    assert_caught_placing(19, |_, place| place / WORDS_PER_CORRECTION * WORDS_PER_CORRECTION + 2);
+    assert_caught_placing(19, |_, place| place / WORDS_PER_CORRECTION);
+    assert_caught_placing(19, |_, _| 0);
 }
 
 /// Where the correction begins that is cut short, at the last word, in bytes, or where
@@ -176,12 +46,16 @@ fn missing_words_told_elsewhere() {
         |length| length.next_multiple_of(WORDS_PER_CORRECTION),
     ];
     for other in places {
-        assert_caught(|asked, told| {
-            let length = asked.list.len();
-            if told.outcome.number == 19 && told.outcome.place as usize == length {
-                told.refuse(19, other(length));
-            }
-        });
+        assert_caught_placing(
+            19,
+            |asked, place| {
+                if place == asked.list.len() {
+                    other(place)
+                } else {
+                    place
+                }
+            },
+        );
     }
 }
 
@@ -236,18 +110,14 @@ fn number_15_before_19_and_before_the_faults_of_the_sheet() {
 /// At the list's length, at both lengths together, at the words lent, or at place 0.
 #[test]
 fn number_15_at_another_place() {
-    let places: [fn(&super::corrections::Asked) -> usize; 4] = [
+    let places: [fn(&Asked) -> usize; 4] = [
         |asked| asked.list.len(),
         |asked| asked.words.len() + asked.list.len(),
         |asked| asked.room,
         |_| 0,
     ];
     for other in places {
-        assert_caught(|asked, told| {
-            if told.outcome.number == 15 {
-                told.refuse(15, other(asked));
-            }
-        });
+        assert_caught_placing(15, |asked, _| other(asked));
     }
 }
 
@@ -327,10 +197,6 @@ fn other_counts_of_words() {
 /// Only a sheet or a list of more than 65,536 words can tell.
 #[test]
 fn words_and_places_of_two_bytes() {
-    let of_words = mistaken(|_, told| told.outcome.words %= 65_536);
-    let of_places = mistaken(|_, told| told.outcome.place %= 65_536);
-    for tools in [&of_words as &dyn Tools, &of_places] {
-        let mut comparison = Comparison::new(&Implementation, tools, None);
-        assert!(comparison.largest(&mut Random::new(1)).is_err());
-    }
+    tools::assert_caught_on_largest(&mistaken(|_, told| told.outcome.words %= 65_536));
+    tools::assert_caught_on_largest(&mistaken(|_, told| told.outcome.place %= 65_536));
 }

@@ -5,6 +5,7 @@ use super::SEEDS;
 use crate::compare::Comparison;
 use crate::tools::{Tool, Tools, Written};
 use crate::Implementation;
+use reference::generate::random::Random;
 use reference::tool::Outcome;
 use reference::words::{self, BYTES_PER_WORD};
 
@@ -92,4 +93,11 @@ pub fn caught_within(tools: &dyn Tools, seeds: u64) -> Option<u64> {
 #[track_caller]
 pub fn assert_caught(tools: &dyn Tools) {
     assert!(caught_within(tools, SEEDS).is_some());
+}
+
+/// Demands that it finds one on a sheet of a million words.
+#[track_caller]
+pub fn assert_caught_on_largest(tools: &dyn Tools) {
+    let mut comparison = Comparison::new(&Implementation, tools, None);
+    assert!(comparison.largest(&mut Random::new(1)).is_err());
 }
