@@ -3,7 +3,7 @@
 
 mod kept;
 
-pub use kept::{check, kept, labels};
+pub use kept::{check, labels};
 
 use crate::difference::Checked;
 use crate::reached::Reached;

@@ -100,7 +100,7 @@ pub fn check(
     };
     let corrections = drawn(random, &words, moves);
     let alike = kept(engine, tools, random, &words, &corrections)?;
-    let is_refused = decided(engine, random, &alike)?;
+    let is_refused = is_refused_alike(engine, random, &alike)?;
     reached.count_layout(NAME, &words);
     chosen(&OF_BOTH, of_both(&alike, is_refused)).for_each(|text| reached.count(&label(text)));
     if moves.is_up() {
@@ -140,7 +140,7 @@ fn of_raised(alike: &Alike) -> [bool; 2] {
 
 /// Corrects a valid sheet by corrections that do not clash, and demands all that is to
 /// be kept. Engine and tools are compared with nothing but themselves.
-pub fn kept(
+fn kept(
     engine: &dyn Engine,
     tools: &dyn Tools,
     random: &mut Random,
@@ -201,9 +201,13 @@ fn written_as_sent(words: &[u32], corrected: &[u32], corrections: &[Correction])
     }
 }
 
-/// Whether both sheets are refused, and then for the same, where now and then too little
-/// is lent to either.
-fn decided(engine: &dyn Engine, random: &mut Random, alike: &Alike) -> Result<bool, Difference> {
+/// Whether both sheets are refused, where now and then too little is lent to either; they
+/// must be decided alike.
+fn is_refused_alike(
+    engine: &dyn Engine,
+    random: &mut Random,
+    alike: &Alike,
+) -> Result<bool, Difference> {
     let [words, corrected] = &alike.sheets;
     let mut case = Case::lend(random, words);
     match random.below(4) {

@@ -37,8 +37,8 @@ struct Lengths {
 }
 
 impl<A> Called<A> {
-    /// A call with what was given and what it left. Of a sheet so many words longer or
-    /// shorter than this one is a valid one written.
+    /// A call with what was given and what it left. What is written of a valid sheet is
+    /// so many words longer than the sheet.
     pub fn new(asked: A, given: &Given, left: &Left, longer: isize) -> Self {
         let words = words::from_bytes(&given.inputs[0]).unwrap_or_default();
         let inputs = given.inputs.iter().map(Vec::len).collect();
