@@ -95,13 +95,23 @@ pub fn list(random: &mut Random, sheet: &[u8]) -> Vec<u32> {
 /// many, now and then more than the sheet has words, or one sample's in many
 /// revisions.
 pub fn right(random: &mut Random, front: &Front, words: usize) -> Vec<Correction> {
+    let (source, count) = match random.below(20) {
+        0 => in_many_revisions(random, front),
+        _ => of_few_samples(random, front, words),
+    };
+    let mut corrections = source.draw_all(random, count);
+    put_in_order(random, &mut corrections);
+    corrections
+}
+
+/// As many samples as there are corrections, or fewer, and what they are drawn from.
+fn of_few_samples(random: &mut Random, front: &Front, words: usize) -> (Source, usize) {
     let count = match random.below(20) {
         0 | 1 => 0,
         2 | 3 => 1,
         4..=11 => random.count(2, 6),
-        12..=17 => random.count(7, 40),
-        18 => words.min(MOST_OUTNUMBERED) + random.count(1, 9),
-        _ => return in_many_revisions(random, front),
+        12..=18 => random.count(7, 40),
+        _ => words.min(MOST_OUTNUMBERED) + random.count(1, 9),
     };
     let aimed_at = random.pick(&[1, 2, 3, count / 2 + 1, count + 1]);
     let source = Source {
@@ -109,9 +119,17 @@ pub fn right(random: &mut Random, front: &Front, words: usize) -> Vec<Correction
         revisions: Revisions::pick(random),
         numbers: numbers(random),
     };
-    let mut corrections = source.draw_all(random, count);
-    put_in_order(random, &mut corrections);
-    corrections
+    (source, count)
+}
+
+/// One sample, most of its revisions there, some twice.
+fn in_many_revisions(random: &mut Random, front: &Front) -> (Source, usize) {
+    let source = Source {
+        aims: vec![aim(random, front)],
+        revisions: Revisions::Any,
+        numbers: numbers(random),
+    };
+    (source, random.count(20, 300))
 }
 
 /// So many corrections of samples all over a sheet, in any revision, no two of which
@@ -120,19 +138,6 @@ pub fn all_over(random: &mut Random, front: &Front, count: usize) -> Vec<Correct
     let aims = (0..count).map(|_| aim(random, front)).collect();
     let source = Source { aims, revisions: Revisions::Any, numbers: Numbers::Any };
     source.draw_all(random, count)
-}
-
-/// One sample's corrections, most of its revisions there, some twice.
-fn in_many_revisions(random: &mut Random, front: &Front) -> Vec<Correction> {
-    let source = Source {
-        aims: vec![aim(random, front)],
-        revisions: Revisions::Any,
-        numbers: numbers(random),
-    };
-    let count = random.count(20, 300);
-    let mut corrections = source.draw_all(random, count);
-    put_in_order(random, &mut corrections);
-    corrections
 }
 
 fn numbers(random: &mut Random) -> Numbers {
