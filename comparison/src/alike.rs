@@ -7,7 +7,7 @@ use crate::Engine;
 use reference::answer::{Answer, AnswerLine};
 use reference::generate::random::Random;
 use reference::generate::valid::{LEAST, MOST};
-use reference::margin::Verdict;
+use reference::margin::{Margin, Verdict};
 use reference::words::{self, kinds};
 
 /// The two sheets, X and Y, and what an engine says to them.
@@ -31,6 +31,21 @@ pub struct Point {
     pub x: Verdict,
     /// The verdict of Y.
     pub y: Verdict,
+}
+
+impl Point {
+    /// Whether a no of X is a yes of Y.
+    pub fn became_yes(&self) -> bool {
+        !self.x.yes && self.y.yes
+    }
+
+    /// By how much the margin of Y is above that of X, if both are whole numbers.
+    pub fn rise(&self) -> Option<i64> {
+        match (self.x.margin, self.y.margin) {
+            (Margin::Finite(x), Margin::Finite(y)) => Some(y - x),
+            _ => None,
+        }
+    }
 }
 
 impl Alike {
@@ -132,7 +147,6 @@ mod tests {
     use super::*;
     use crate::Implementation;
     use reference::builder::SheetBuilder;
-    use reference::margin::Margin;
 
     /// Two places, one signal, two samples; line 1 has the second sample alone.
     fn sheet(numbers: [i32; 4]) -> Vec<u32> {

@@ -4,7 +4,8 @@ use crate::difference::Checked;
 use crate::printing::{self, Printer};
 use crate::reached::Reached;
 use crate::tools::Tools;
-use crate::{converting, deciding, judging, laws, lookups, mirror, raising, steadiness, Engine};
+use crate::{converting, correcting, deciding, judging, laws, lookups, mirror, raising};
+use crate::{steadiness, Engine};
 use reference::generate::random::Random;
 use reference::generate::{aim, case, largest, Case};
 use reference::judge::BYTES_PER_DISTANCE;
@@ -18,7 +19,8 @@ use reference::{words, worked};
 const MOST_PLACES: usize = 300;
 
 /// One seed in so many also tries steadiness, raised samples, laws, time turned
-/// round, decisions that do not depend on samples, and sheets there and back.
+/// round, decisions that do not depend on samples, sheets there and back, and what
+/// correcting keeps.
 const PAIRS_EVERY: u64 = 8;
 
 /// One seed in so many is also given to the printing program.
@@ -29,6 +31,9 @@ const LARGEST_EVERY: u64 = 1 << 13;
 
 /// One seed in so many also judges sheets of 1,024 places.
 const CITY_EVERY: u64 = 1 << 12;
+
+/// By so many lists a sheet of 1,024 places is corrected.
+const LISTS_OF_CITY: usize = 6;
 
 /// The refusals that are aimed at the table of a sheet of a million words.
 const OF_TABLE: [u64; 5] = [10, 11, 12, 13, 14];
@@ -62,7 +67,7 @@ impl<'a> Comparison<'a> {
         // Another stream than the one that made the case.
         let mut random = Random::new(!seed);
         self.judge(&mut random, &case)?;
-        self.convert(seed, &case)?;
+        self.tools(seed, &case)?;
         if seed.is_multiple_of(PAIRS_EVERY) {
             steadiness::check(self.engine, &mut random, &mut self.reached)?;
             raising::check(self.engine, &mut random, &mut self.reached)?;
@@ -87,6 +92,7 @@ impl<'a> Comparison<'a> {
     /// to be the same.
     pub fn worked(&mut self) -> Checked {
         let mut random = Random::new(0);
+        correcting::compare_worked(self.tools, &mut random, &mut self.reached)?;
         let on_page = page::SHEETS.map(page::words);
         for words in on_page.iter().map(Vec::as_slice).chain(worked::SHEETS) {
             let case = Case::of(words, ANSWER_WORDS);
@@ -113,6 +119,16 @@ impl<'a> Comparison<'a> {
         }
     }
 
+    /// What a seed determines of tools alone.
+    pub fn tools_of(&mut self, seed: u64) -> Checked {
+        self.tools(seed, &case(seed, MOST_PLACES))
+    }
+
+    fn tools(&mut self, seed: u64, case: &Case) -> Checked {
+        self.convert(seed, case)?;
+        self.correct(seed, case)
+    }
+
     /// The case's sheet to both layouts, and sometimes another there and back.
     fn convert(&mut self, seed: u64, case: &Case) -> Checked {
         // A stream of its own: what is judged does not depend on what is converted.
@@ -124,24 +140,42 @@ impl<'a> Comparison<'a> {
         Ok(())
     }
 
+    /// The case's sheet by a list of corrections, and sometimes another by one that is
+    /// right.
+    fn correct(&mut self, seed: u64, case: &Case) -> Checked {
+        // A stream of its own, for the same reason.
+        let mut random = Random::new((!seed).reverse_bits());
+        correcting::compare(self.tools, &mut random, &case.sheet, &mut self.reached)?;
+        if seed.is_multiple_of(PAIRS_EVERY) {
+            correcting::check(self.engine, self.tools, &mut random, &mut self.reached)?;
+        }
+        Ok(())
+    }
+
     /// A sheet of 64 places with signals and samples at their limits, and the same
     /// sheet with faults behind its million samples and with a short answer. It is
-    /// taken to the other layout and back as well.
+    /// taken to the other layout and back as well, and corrected by long lists.
     pub fn largest(&mut self, random: &mut Random) -> Checked {
         let words = largest::sheet(random);
         self.whole_and_struck(random, &words)?;
-        converting::compare_both_ways(self.tools, random, &words, &mut self.reached)
+        converting::compare_both_ways(self.tools, random, &words, &mut self.reached)?;
+        correcting::compare_long_lists(self.tools, random, &words, &mut self.reached)
     }
 
     /// A sheet of 1,024 places, as it is, with a distance too few, with a short
-    /// answer, with faults in its table, and taken to both layouts.
+    /// answer, with faults in its table, taken to both layouts, and corrected.
     pub fn largest_city(&mut self, random: &mut Random) -> Checked {
         let words = largest::city(random);
         let case = Case::lend(random, &words);
         let needed = Front::told(&words).distances_needed() * BYTES_PER_DISTANCE;
         self.judge(random, &Case { distances: needed - BYTES_PER_DISTANCE, ..case })?;
         self.whole_and_struck(random, &words)?;
-        converting::compare(self.tools, random, &words::to_bytes(&words), &mut self.reached)
+        let sheet = words::to_bytes(&words);
+        converting::compare(self.tools, random, &sheet, &mut self.reached)?;
+        for _ in 0..LISTS_OF_CITY {
+            correcting::compare(self.tools, random, &sheet, &mut self.reached)?;
+        }
+        Ok(())
     }
 
     /// A valid sheet, the same with a short answer, and with faults in its table.

@@ -3,8 +3,8 @@
 
 use crate::difference::{demand, Checked, Difference};
 use crate::judging::{answered, Answered};
-use crate::reached::{one_way, with_one_way, Converted, Reached};
-use crate::tools::{compared, left_by, Tool, Tools};
+use crate::reached::{one_way, with_one_way, Reached};
+use crate::tools::{compared, written, Tool, Tools};
 use crate::Engine;
 use reference::convert::laid_out;
 use reference::generate::random::Random;
@@ -49,9 +49,7 @@ fn compare_given(
     reached: &mut Reached,
 ) -> Checked {
     let left = compared(tools, random, Tool::Convert(to), given)?;
-    for label in Converted::new(to, given, &left).shown() {
-        reached.count(&label);
-    }
+    reached.count_converted(to, given, &left);
     Ok(())
 }
 
@@ -117,8 +115,12 @@ pub fn there_and_back(
         return Ok(());
     }
     let layout = Layout::of(words);
-    let there = written(tools, random, words, layout.other())?;
-    let back = written(tools, random, &there, layout)?;
+    let mut taken = |words: &[u32], to: Layout| {
+        let given = Given::of(&[words], words.len() + random.count(1, 9));
+        written(tools, random, Tool::Convert(to), &given)
+    };
+    let there = taken(words, layout.other())?;
+    let back = taken(&there, layout)?;
     let one = answered(engine, random, words)?;
     let other = answered(engine, random, &there)?;
     let kept = demand(back == words, || "there and back the words are others".into());
@@ -126,22 +128,6 @@ pub fn there_and_back(
         let difference = difference.on("one sheet", &words::to_bytes(words));
         difference.on("the sheet in the other layout", &words::to_bytes(&there))
     })
-}
-
-/// The words that are written of a valid sheet, with enough room.
-fn written(
-    tools: &dyn Tools,
-    random: &mut Random,
-    words: &[u32],
-    to: Layout,
-) -> Result<Vec<u32>, Difference> {
-    let given = Given::of(&[words], words.len() + random.count(1, 9));
-    let tool = Tool::Convert(to);
-    let left = left_by(tools, random, tool, &given).and_then(|left| {
-        demand(left.number == 0, || format!("a valid sheet was refused with {}", left.number))?;
-        Ok(left)
-    });
-    left.map(|left| left.written()).map_err(|difference| difference.on_given(tool, &given))
 }
 
 /// Demands that the same is said to both sheets at every line, sample and place,

@@ -60,9 +60,9 @@ fn number_label(number: u64) -> String {
 
 /// What an engine decides of a case.
 #[derive(Clone, Copy, Debug, PartialEq, Eq)]
-struct Decision {
+pub struct Decision {
     /// The number given back.
-    given_back: u64,
+    pub given_back: u64,
     /// Number and place in the result, if 40 bytes were lent for it.
     told: Option<(u64, u64)>,
 }
@@ -78,15 +78,27 @@ impl Decision {
 pub fn check(engine: &dyn Engine, random: &mut Random, reached: &mut Reached) -> Checked {
     let x = any_case(random);
     let y = with_other_samples(random, &x);
-    let of_x = decided(engine, random, &x)?;
-    let of_y = decided(engine, random, &y)?;
-    demand(of_x == of_y, || format!("decided unlike: {of_x:?}, with other samples {of_y:?}"))
-        .map_err(|difference| difference.on_case(&x).on_case(&y))?;
-    for label in shown(&changed(&x.sheet, &y.sheet), of_x) {
+    let decision = decided_alike(engine, random, &x, &y)?;
+    for label in shown(&changed(&x.sheet, &y.sheet), decision) {
         reached.count(&label);
     }
     reached.count_layout("decided alike", &whole_words(&x.sheet).0);
     Ok(())
+}
+
+/// How two cases are decided that are alike but for samples.
+pub fn decided_alike(
+    engine: &dyn Engine,
+    random: &mut Random,
+    x: &Case,
+    y: &Case,
+) -> Result<Decision, Difference> {
+    let of_x = decided(engine, random, x)?;
+    let of_y = decided(engine, random, y)?;
+    let alike =
+        demand(of_x == of_y, || format!("decided unlike: {of_x:?}, with other samples {of_y:?}"));
+    alike.map_err(|difference| difference.on_case(x).on_case(y))?;
+    Ok(of_x)
 }
 
 /// A case as a seed's own is, now and then one that may be a city, or is.

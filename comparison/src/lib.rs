@@ -12,6 +12,7 @@ pub mod alike;
 pub mod bench;
 pub mod compare;
 pub mod converting;
+pub mod correcting;
 pub mod deciding;
 pub mod difference;
 pub mod judging;

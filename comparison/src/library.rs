@@ -3,7 +3,6 @@
 
 use comparison::tools::{Tool, Tools, Written};
 use comparison::{Engine, Filled};
-use reference::layout::Layout;
 
 unsafe extern "C" {
     fn judge(
@@ -28,6 +27,16 @@ unsafe extern "C" {
     fn sheet_to_narrow(
         sheet: *const u8,
         sheet_length: usize,
+        output: *mut u8,
+        output_length: usize,
+        result: *mut u8,
+        result_length: usize,
+    ) -> u64;
+    fn correct_sheet(
+        sheet: *const u8,
+        sheet_length: usize,
+        corrections: *const u8,
+        corrections_length: usize,
         output: *mut u8,
         output_length: usize,
         result: *mut u8,
@@ -64,22 +73,28 @@ impl Engine for Library {
 
 impl Tools for Library {
     fn run(&self, tool: Tool, inputs: &[&[u8]], left: Written) -> u64 {
-        let call = match tool {
-            Tool::Convert(Layout::Wide) => sheet_to_wide,
-            Tool::Convert(Layout::Narrow) => sheet_to_narrow,
-        };
-        let sheet = inputs[0];
+        let (output, output_length) = (start(left.output).cast_mut(), left.output.len());
+        let (result, result_length) = (start(left.result).cast_mut(), left.result.len());
+        let (sheet, sheet_length) = (start(inputs[0]), inputs[0].len());
         // SAFETY: slices are valid for their lengths, and borrows that are
         // exclusive do not overlap. No bytes may be lent as a null pointer.
         unsafe {
-            call(
-                start(sheet),
-                sheet.len(),
-                start(left.output).cast_mut(),
-                left.output.len(),
-                start(left.result).cast_mut(),
-                left.result.len(),
-            )
+            match tool {
+                Tool::Convert(to) => {
+                    let convert = if to.is_wide() { sheet_to_wide } else { sheet_to_narrow };
+                    convert(sheet, sheet_length, output, output_length, result, result_length)
+                }
+                Tool::Correct => correct_sheet(
+                    sheet,
+                    sheet_length,
+                    start(inputs[1]),
+                    inputs[1].len(),
+                    output,
+                    output_length,
+                    result,
+                    result_length,
+                ),
+            }
         }
     }
 }

@@ -8,6 +8,7 @@
 mod drawn;
 mod shown;
 
+pub use drawn::sheet_that_rises;
 pub use shown::labels;
 
 use crate::alike::Alike;
@@ -43,7 +44,7 @@ pub fn check(engine: &dyn Engine, random: &mut Random, reached: &mut Reached) ->
 
 /// Demands that nothing fell from X to Y: every yes of X is a yes of Y, no margin of
 /// Y is lower, and so the yes count is no lower either.
-fn demanded(alike: &Alike) -> Checked {
+pub fn demanded(alike: &Alike) -> Checked {
     alike.demand_at_all("a yes was lost", |point| point.y.yes || !point.x.yes)?;
     alike.demand_at_all("a margin fell", |point| point.x.margin <= point.y.margin)?;
     let [x, y] = alike.said.each_ref().map(|said| said.outcome.yes);

@@ -5,6 +5,7 @@ use crate::difference::{demand, same_bytes, same_number, Checked, Difference};
 use crate::lent::Lent;
 use crate::Implementation;
 use reference::convert::convert;
+use reference::correct_sheet;
 use reference::generate::random::Random;
 use reference::generate::tools::Given;
 use reference::layout::Layout;
@@ -17,6 +18,8 @@ use reference::words::BYTES_PER_WORD;
 pub enum Tool {
     /// Takes a sheet, its one input, to a layout.
     Convert(Layout),
+    /// Writes a sheet with samples replaced by a list of corrections, its second input.
+    Correct,
 }
 
 /// The buffers that are lent for a tool to fill.
@@ -35,8 +38,10 @@ pub trait Tools {
 
 impl Tools for Implementation {
     fn run(&self, tool: Tool, inputs: &[&[u8]], left: Written) -> u64 {
+        let Written { output, result } = left;
         match tool {
-            Tool::Convert(layout) => convert(layout, inputs[0], left.output, left.result),
+            Tool::Convert(layout) => convert(layout, inputs[0], output, result),
+            Tool::Correct => correct_sheet(inputs[0], inputs[1], output, result),
         }
     }
 }
@@ -74,6 +79,20 @@ pub fn compared(
         Ok(left)
     });
     both.map_err(|difference| difference.on_given(tool, given))
+}
+
+/// The words that a tool writes of what it must not refuse.
+pub fn written(
+    tools: &dyn Tools,
+    random: &mut Random,
+    tool: Tool,
+    given: &Given,
+) -> Result<Vec<u32>, Difference> {
+    let left = left_by(tools, random, tool, given).and_then(|left| {
+        demand(left.number == 0, || format!("a valid sheet was refused with {}", left.number))?;
+        Ok(left)
+    });
+    left.map(|left| left.written()).map_err(|difference| difference.on_given(tool, given))
 }
 
 /// Demands the same number and the same bytes.

@@ -6,9 +6,6 @@ use crate::refusal::{Fault, Refusal};
 use crate::sheet::Sheet;
 use crate::tool;
 
-/// The words of a road.
-const WORDS_PER_ROAD: usize = 2;
-
 /// Takes a sheet to the wide layout and gives the number, 0 if it is written.
 pub fn sheet_to_wide(sheet: &[u8], output: &mut [u8], result: &mut [u8]) -> u64 {
     convert(Layout::Wide, sheet, output, result)
@@ -40,9 +37,8 @@ pub fn laid_out(words: &[u32], layout: Layout) -> Result<Vec<u32>, Refusal> {
 /// "Changing head, roads and end count only": between the roads and the end every
 /// word stays what it is. A road runs the ways that it ran.
 fn laid_out_anew(words: &[u32], sheet: &Sheet, layout: Layout) -> Vec<u32> {
-    let behind_roads = sheet.head.layout.front_words() + WORDS_PER_ROAD * sheet.roads.len();
     let end = words.len() - 1;
     let front = Front { layout, ..Front::told(words) };
     let roads = sheet.roads.iter().fold(SheetBuilder::of(&front), SheetBuilder::with_road);
-    roads.copied(&words[behind_roads..end]).end()
+    roads.copied(&words[sheet.first_sample()..end]).end()
 }

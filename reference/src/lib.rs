@@ -17,7 +17,7 @@
 //!
 //! [`judge()`], [`lookup()`] and [`print()`] are what a host and the printing
 //! program see. Beside them a host has tools, which write words without judging:
-//! [`sheet_to_wide()`] and [`sheet_to_narrow()`].
+//! [`sheet_to_wide()`] and [`sheet_to_narrow()`], and [`correct_sheet()`].
 
 #![forbid(unsafe_code)]
 #![warn(missing_docs)]
@@ -25,6 +25,7 @@
 pub mod answer;
 pub mod builder;
 pub mod convert;
+pub mod correct;
 pub mod distance;
 pub mod evaluation;
 pub mod fast;
@@ -46,6 +47,7 @@ pub mod words;
 pub mod worked;
 
 pub use convert::{sheet_to_narrow, sheet_to_wide};
+pub use correct::correct_sheet;
 pub use judge::judge;
 pub use lookup::lookup;
 pub use print::print;

@@ -44,6 +44,10 @@ pub enum Fault {
     WideHead = 17,
     /// "A wide sheet of more than 64 places asked into narrow."
     NarrowPlaces = 18,
+    /// "A correction ill-formed or aimed outside the sheet."
+    Correction = 19,
+    /// "Two corrections of one sample with equal revision and unlike values."
+    Clash = 20,
 }
 
 /// "The place is the index of the faulty word, the sheet's length if it is

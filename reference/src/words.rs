@@ -39,6 +39,11 @@ pub mod kinds {
     /// The word before the head of a wide sheet or a wide answer: the places. A
     /// verdict of this kind stands in lines alone.
     pub const WIDE: u32 = 10;
+    /// A correction's first word: its revision, and the signal and the time that it is
+    /// aimed at. Like the next it stands in lists of corrections alone.
+    pub const CORRECTION: u32 = 11;
+    /// A correction's second word: the place that it is aimed at.
+    pub const CORRECTED_PLACE: u32 = 12;
     /// An answer's head.
     pub const ANSWER_HEAD: u32 = 13;
     /// The head of a line's verdicts in an answer.

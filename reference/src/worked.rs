@@ -49,6 +49,21 @@ pub const WIDE_A: [u32; 20] = [
     0x50700800, 0x60000000, 0x70000003, 0xF0000013,
 ];
 
+/// Three corrections of example A: of sample 1 at place 0 revision 1, which says 8, and
+/// revision 2, which says -8 and counts, and of sample 0 at place 1 revision 1, which
+/// says 3.
+pub const CORRECTIONS_OF_A: [u32; 9] = [
+    0xB0100001, 0xC0000000, 0x40000008, 0xB0200001, 0xC0000000, 0x47FFFFF8, 0xB0100000, 0xC0000001,
+    0x40000003,
+];
+
+/// Example A with these corrections: its words 4 and 5 are others.
+pub const A_CORRECTED: [u32; 19] = [
+    0x10201002, 0x20000001, 0x30000003, 0x40000005, 0x40000003, 0x47FFFFF8, 0x40000004, 0x50100000,
+    0x80000000, 0x50900000, 0x60000000, 0x70000001, 0x50600000, 0x60000001, 0x70000003, 0x50700800,
+    0x60000000, 0x70000003, 0xF0000012,
+];
+
 /// Two places and a road of weight 3 that runs from 0 to 1 alone. Line 0 is left, 5 and
 /// 6, line 1 is right, 3 and 4. Line 2 is somewhere left from 1 to 9, line 3 left
 /// surrounded by right from 0 to 9, and line 4 the same with islands.
@@ -69,6 +84,14 @@ pub const ONE_WAY_BACK: [u32; 21] = [
     0x70000009, 0x50F00001, 0x60000000, 0x70000009, 0xF0000014,
 ];
 
-/// All of them.
-pub const SHEETS: [&[u32]; 7] =
-    [&UNTIL, &SINCE, &BEFORE_RAISING, &AFTER_RAISING, &WIDE_A, &ONE_WAY, &ONE_WAY_BACK];
+/// All sheets of them.
+pub const SHEETS: [&[u32]; 8] = [
+    &UNTIL,
+    &SINCE,
+    &BEFORE_RAISING,
+    &AFTER_RAISING,
+    &WIDE_A,
+    &A_CORRECTED,
+    &ONE_WAY,
+    &ONE_WAY_BACK,
+];

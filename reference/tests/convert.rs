@@ -8,7 +8,7 @@ use reference::builder::SheetBuilder;
 use reference::fast::Fast;
 use reference::generate::random::Random;
 use reference::generate::tools::Given;
-use reference::generate::{aim, valid, Case};
+use reference::generate::{valid, Case};
 use reference::judge;
 use reference::layout::{Front, Layout};
 use reference::tool::Outcome;
@@ -19,10 +19,7 @@ const BOTH: [Layout; 2] = Layout::BOTH;
 
 /// The number and place that words are refused with, with so many words of room.
 fn refused_with(layout: Layout, words: &[u32], room: usize) -> (u64, u64) {
-    let left = converted(layout, &Given::of(&[words], room));
-    assert_tool_refused(&left);
-    let outcome = left.outcome().expect("24 bytes were lent");
-    (outcome.number, outcome.place)
+    tool_refused(&converted(layout, &Given::of(&[words], room)))
 }
 
 /// The words of a valid sheet in a layout, written into just as much room as they
@@ -139,16 +136,9 @@ fn number_18_above_64_places() {
 /// A sheet's own fault is told as the judge tells it, whatever room there is.
 #[test]
 fn numbers_of_the_sheet() {
-    for number in (2..=14).chain([17]) {
-        for seed in 0..60 {
-            let case = aim::aimed(&mut Random::new(seed), number, 80);
-            let words = words::from_bytes(&case.sheet).expect("whole words");
-            let judged = outcome(&judged_by::<Fast>(&Case::of(&words, 1 << 16)));
-            assert_eq!(judged.number, number);
-            for (layout, room) in BOTH.into_iter().flat_map(|layout| [(layout, 0), (layout, 5000)])
-            {
-                assert_eq!(refused_with(layout, &words, room), (number, judged.place));
-            }
+    for (words, told) in sheets_at_fault() {
+        for (layout, room) in BOTH.into_iter().flat_map(|layout| [(layout, 0), (layout, 5000)]) {
+            assert_eq!(refused_with(layout, &words, room), told);
         }
     }
 }
@@ -199,11 +189,7 @@ fn number_16_wrong_lengths() {
     given.extend([0, 1, 8, 16, 23, 25, 32, 40].map(|result| lent(&sheet, 80, result)));
     given.push(lent(&city[..5], 3, 7));
     for (given, layout) in given.iter().flat_map(|given| BOTH.map(|layout| (given, layout))) {
-        let left = converted(layout, given);
-        assert_tool_refused(&left);
-        assert_eq!(left.number, 16);
-        let told = (given.result == 24).then_some(Outcome { number: 16, ..Outcome::default() });
-        assert_eq!(left.outcome(), told);
+        assert_tool_told_16(&converted(layout, given));
     }
 }
 

@@ -1,12 +1,12 @@
-//! The worked sheets leave what was worked out by hand: until and since, and two
-//! sheets of which the second has samples raised.
+//! The worked sheets leave what was worked out by hand: until and since, two sheets of
+//! which the second has samples raised, and example A with corrections.
 
 mod common;
 
 use common::*;
 use reference::judge::Outcome;
 use reference::words::{self, kinds};
-use reference::worked::{AFTER_RAISING, BEFORE_RAISING, SINCE, UNTIL};
+use reference::worked::{AFTER_RAISING, A_CORRECTED, BEFORE_RAISING, SINCE, UNTIL};
 
 /// Line 2 begins with sample 0.
 const ANSWER_OF_UNTIL: [u32; 14] = [
@@ -31,6 +31,13 @@ const ANSWER_AFTER_RAISING: [u32; 20] = [
     0xD0204002, 0xE0000002, 0x90000001, 0x90000000, 0x90000002, 0x90000003, 0xE0000001, 0x90000001,
     0x90000000, 0xE0000002, 0x90000000, 0x90000000, 0x90000002, 0x90000002, 0xE0000002, 0x90000000,
     0x90000000, 0x90000002, 0x90000002, 0xF0000013,
+];
+
+/// Place 1 has 3 in place of -2 at sample 0, and place 0 has -8 in place of 1 at sample 1.
+const ANSWER_OF_A_CORRECTED: [u32; 20] = [
+    0xD0204002, 0xE0000002, 0x90000005, 0x90000003, 0xAFFFFFF8, 0x90000004, 0xE0000001, 0x90000005,
+    0x90000004, 0xE0000002, 0x90000003, 0x90000005, 0x90000004, 0xAFFFFFF8, 0xE0000002, 0x90000003,
+    0x90000005, 0x90000004, 0xAFFFFFF8, 0xF0000013,
 ];
 
 fn assert_leaves(sheet: &[u32], answer: &[u32], rounds: u64, yes: u64) {
@@ -84,6 +91,11 @@ fn before_raising_8_of_14_are_yes() {
 #[test]
 fn after_raising_all_14_are_yes() {
     assert_leaves(&AFTER_RAISING, &ANSWER_AFTER_RAISING, 2, 14);
+}
+
+#[test]
+fn example_a_corrected_has_11_yeses_as_before() {
+    assert_leaves(&A_CORRECTED, &ANSWER_OF_A_CORRECTED, 1, 11);
 }
 
 /// Samples alone differ, and none is lower.

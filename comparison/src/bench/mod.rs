@@ -3,9 +3,11 @@
 
 pub mod cities;
 pub mod conversions;
+pub mod corrections;
 pub mod report;
 pub mod sheets;
 mod timing;
+mod tool_timing;
 
 #[cfg(test)]
 mod tests;

@@ -1,15 +1,17 @@
 //! What is timed, and the rows that tell it.
 
 use super::sheets::{self, BothWays, Readings};
-use super::{cities, conversions, timed, Times};
+use super::{cities, conversions, corrections, timed, tool_timing, Times};
 use crate::tools::Tools;
 use crate::Engine;
+use reference::layout::Layout;
 use std::time::Duration;
 
 /// Times the three sheets of the benchmark, then how time grows with samples,
 /// places, lines, windows of time and ranges; prints a row for each. Then come
 /// windows ahead beside the same windows back, and surrounds with islands beside
-/// the same without. Last come the smallest sheet, cities, and the converter.
+/// the same without. Last come the smallest sheet, cities, and the tools: converters,
+/// and what corrects sheets.
 pub fn print(engine: &dyn Engine, tools: &dyn Tools) {
     section("The three sheets, 64 places and 1,024 samples, surrounds with islands (code 15)");
     row(engine, "8×8 grid, twelve codes", &sheets::full_grid());
@@ -25,6 +27,7 @@ pub fn print(engine: &dyn Engine, tools: &dyn Tools) {
     smallest(engine);
     by_cities(engine);
     print_converters(tools);
+    print_corrections(tools);
 }
 
 fn by_samples(engine: &dyn Engine) {
@@ -109,22 +112,38 @@ fn by_cities(engine: &dyn Engine) {
 
 /// Times the converters; prints a row for each way.
 pub fn print_converters(tools: &dyn Tools) {
-    println!("\nConverters: a million words, 64 places, 2,016 roads, 16 signals, 1,024 samples");
+    tool_section("Converters: a million words, 64 places, 2,016 roads, 16 signals, 1,024 samples");
+    for (name, words, to) in conversions::timed_sheets() {
+        tool_row(name, conversions::timed(tools, &words, to));
+    }
+}
+
+/// Times what corrects sheets; prints a row for each list.
+pub fn print_corrections(tools: &dyn Tools) {
+    tool_section("Corrections of the same sheet, narrow, by lists of so many");
+    let words = sheets::million(Layout::Narrow);
+    for (name, list) in corrections::timed_lists(&words) {
+        tool_row(name, corrections::timed(tools, &words, &list));
+    }
+}
+
+fn tool_section(title: &str) {
+    println!("\n{title}");
     let heading = ["engine", "implementation", "share", "plain copy", "engine/copy"];
     let [engine, implementation, share, copy, ratio] = heading;
     println!("{:28}{engine:>12}{implementation:>16}{share:>8}{copy:>12}{ratio:>13}", "");
-    for (name, words, to) in conversions::timed_sheets() {
-        let times = conversions::timed(tools, &words, to);
-        let [engine, implementation, copy] = [times.engine, times.implementation, times.copy];
-        println!(
-            "{name:28}{:>12}{:>16}{:>8.2}{:>12}{:>13.1}",
-            milliseconds(engine),
-            milliseconds(implementation),
-            ratio_of(engine, implementation),
-            milliseconds(copy),
-            ratio_of(engine, copy)
-        );
-    }
+}
+
+fn tool_row(name: &str, times: tool_timing::Times) {
+    let tool_timing::Times { engine, implementation, copy } = times;
+    println!(
+        "{name:28}{:>12}{:>16}{:>8.2}{:>12}{:>13.1}",
+        milliseconds(engine),
+        milliseconds(implementation),
+        ratio_of(engine, implementation),
+        milliseconds(copy),
+        ratio_of(engine, copy)
+    );
 }
 
 fn ratio_of(one: Duration, other: Duration) -> f64 {

@@ -1,9 +1,10 @@
 //! The sheets are what the benchmark says of them. Nothing is timed here.
 
-use super::cities;
 use super::sheets::{self, BothWays, Readings};
+use super::{cities, corrections};
 use reference::builder::SheetBuilder;
 use reference::convert::laid_out;
+use reference::correct::{self, Aim};
 use reference::distance::{Distances, NO_DISTANCE};
 use reference::fast::Fast;
 use reference::judge::Outcome;
@@ -103,6 +104,27 @@ fn a_million_words_in_both_layouts() {
     let sheet = checked(&wide);
     assert_eq!((sheet.head.places, sheet.head.signals, sheet.head.samples), (64, 16, 1024));
     assert_eq!((sheet.roads.len(), sheet.lines.len()), (2016, 1));
+}
+
+/// Right lists of as many corrections as they say: how many samples they have, and how
+/// many samples and revisions.
+#[test]
+fn lists_of_corrections() {
+    let words = sheets::million(Layout::Narrow);
+    let lists = corrections::timed_lists(&words);
+    let counts = lists.each_ref().map(|(_, list)| {
+        assert!(correct::corrected(&words, &correct::list(list)).is_ok());
+        let samples: BTreeSet<Aim> = list.iter().map(|one| one.aim).collect();
+        let revisions: BTreeSet<(Aim, u32)> =
+            list.iter().map(|one| (one.aim, one.revision)).collect();
+        (list.len(), samples.len(), revisions.len())
+    });
+    let [none, unlike, drawn, one, same, most] = counts;
+    assert_eq!((none, unlike), ((0, 0, 0), (10_000, 10_000, 10_000)));
+    assert_eq!((one, same), ((10_000, 1, 255), (10_000, 1, 1)));
+    assert!(drawn.0 == 10_000 && (9_900..10_000).contains(&drawn.1));
+    assert!(most.0 == 300_000 && (250_000..290_000).contains(&most.1) && most.2 < 300_000);
+    assert!(lists[1].1.iter().all(|one| one.revision == 1));
 }
 
 #[test]

@@ -32,10 +32,26 @@ enum Which {
 pub fn sheets(random: &mut Random) -> [Vec<u32>; 2] {
     let words = valid::sheet_or_city(random, 16);
     let kept = FALLING.get(random.below(KEEP_EVERY)).copied();
-    let words = keeping(random, &words, kept);
-    let x = if random.chance(60) { below_constants(random, &words) } else { words };
+    let x = about_to_turn(random, &words, kept);
     let y = raised(random, &x);
     [x, y]
+}
+
+/// A random sheet without lines of the codes that may fall.
+pub fn sheet_that_rises(random: &mut Random) -> Vec<u32> {
+    let words = valid::sheet_or_city(random, 16);
+    about_to_turn(random, &words, None)
+}
+
+/// A valid sheet without lines of the codes that may fall, but for the one that is kept,
+/// and mostly with samples that need little to turn a verdict.
+fn about_to_turn(random: &mut Random, words: &[u32], kept: Option<u32>) -> Vec<u32> {
+    let words = keeping(random, words, kept);
+    if random.chance(60) {
+        below_constants(random, &words)
+    } else {
+        words
+    }
 }
 
 /// A valid sheet without lines of the codes that may fall, but for the one that is

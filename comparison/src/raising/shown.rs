@@ -128,29 +128,21 @@ fn of_answers(alike: &Alike) -> [bool; 6] {
     let stayed = |infinity: Margin| {
         any(&|point: &Point| point.x.margin == infinity && point.y.margin == infinity)
     };
-    let by_all = |point: &Point| match (point.x.margin, point.y.margin) {
-        (Margin::Finite(x), Margin::Finite(y)) => y - x == apart,
-        _ => false,
-    };
     [
-        any(&became_yes),
+        any(&Point::became_yes),
         any(&|point| point.x.margin < point.y.margin),
-        any(&by_all),
+        any(&|point| point.rise() == Some(apart)),
         stayed(Margin::MinusInfinity),
         stayed(Margin::PlusInfinity),
         apart > 0 && alike.points().all(|point| point.x == point.y),
     ]
 }
 
-fn became_yes(point: &Point) -> bool {
-    !point.x.yes && point.y.yes
-}
-
 /// The labels of the lines of a pair, each once.
 fn of_lines(alike: &Alike) -> BTreeSet<String> {
     let sheet = check(&alike.sheets[0], ENOUGH_DISTANCES).expect("a valid sheet");
     let depths = sheet.depths();
-    let turned = alike.points().filter(became_yes).map(|point| point.line);
+    let turned = alike.points().filter(Point::became_yes).map(|point| point.line);
     let turned: BTreeSet<usize> = turned.collect();
     let code = |at: usize| sheet.lines[at].operator.code();
     let is_one_way = one_way::is_in(&alike.sheets[0]);

@@ -1,23 +1,18 @@
 //! What the converter was given, and what came of it: every number, where it is told
 //! beside others, and sheets that change or do not, both ways.
 
+use super::called::{self, Called, BEHIND_WIDE_HEAD, OF_NARROW, OF_WIDE, OWN};
 use super::layouts::MOST_OF_A_BYTE;
 use reference::generate::tools::Given;
-use reference::layout::{Front, Layout, Pair, MOST_PLACES, MOST_WIDE_PLACES};
+use reference::layout::{Layout, Pair, MOST_PLACES, MOST_WIDE_PLACES};
 use reference::road::Direction;
-use reference::tool::{self, Left, RESULT_BYTES};
-use reference::words::{self, kinds, BYTES_PER_WORD};
+use reference::tool::{self, Left};
+use reference::words::{self, kinds};
 
-/// What a call may show: its text, the numbers that a run must have seen it with, and
-/// whether it is so.
-type Shown = (&'static str, &'static [u64], fn(&Converted) -> bool);
+/// A call of the converter, asked for a layout.
+type Converted = Called<Layout>;
 
-/// The numbers of a sheet's own faults, those of narrow sheets, of wide ones, and of
-/// wide ones whose places are within their limits.
-const OWN: [u64; 14] = [2, 3, 4, 5, 6, 7, 8, 9, 10, 11, 12, 13, 14, 17];
-const OF_NARROW: [u64; 13] = [2, 3, 4, 5, 6, 7, 8, 9, 10, 11, 12, 13, 14];
-const OF_WIDE: [u64; 13] = [3, 4, 5, 6, 7, 8, 9, 10, 11, 12, 13, 14, 17];
-const BEHIND_WIDE_HEAD: [u64; 12] = [3, 4, 5, 6, 7, 8, 9, 10, 11, 12, 13, 14];
+type Shown = called::Shown<Layout>;
 
 const BOTH_WAYS: [Shown; 37] = [
     ("unaltered, without a road", &[0], |call| !call.changes() && !call.has_roads()),
@@ -59,12 +54,12 @@ const BOTH_WAYS: [Shown; 37] = [
     ("the sheet", &[16], |call| call.wrong_lengths()[0]),
     ("the output", &[16], |call| call.wrong_lengths()[1]),
     ("the result", &[16], |call| call.wrong_lengths()[2]),
-    ("the sheet alone", &[16], |call| call.wrong_lengths() == [true, false, false]),
-    ("the output alone", &[16], |call| call.wrong_lengths() == [false, true, false]),
-    ("the result alone", &[16], |call| call.wrong_lengths() == [false, false, true]),
-    ("no byte of result", &[16], |call| call.given.result == 0),
+    ("the sheet alone", &[16], |call| call.is_wrong_alone(0)),
+    ("the output alone", &[16], |call| call.is_wrong_alone(1)),
+    ("the result alone", &[16], |call| call.is_wrong_alone(2)),
+    ("no byte of result", &[16], |call| call.result() == 0),
     ("a faulty sheet besides", &[16], |call| !call.words.is_empty() && !call.is_valid()),
-    ("a short output besides", &[16], |call| call.is_valid() && call.room() < call.needed()),
+    ("a short output besides", &[16], |call| call.is_valid() && call.is_short()),
 ];
 
 const TO_NARROW: [Shown; 8] = [
@@ -72,8 +67,8 @@ const TO_NARROW: [Shown; 8] = [
     ("more than 65 places", &[18], |call| call.places() > MOST_PLACES + 1),
     ("1,024 places", &[18], |call| call.places() == MOST_WIDE_PLACES),
     ("no room", &[18], |call| call.room() == 0),
-    ("too little room", &[18], |call| call.room() < call.needed()),
-    ("enough room", &[18], |call| call.room() >= call.needed()),
+    ("too little room", &[18], |call| call.is_short()),
+    ("enough room", &[18], |call| !call.is_short()),
     ("more than 64 places besides", &BEHIND_WIDE_HEAD, |call| call.is_city()),
     ("more than 64 places besides", &[16], |call| call.is_city() && call.is_valid()),
 ];
@@ -92,74 +87,32 @@ const TO_WIDE: [Shown; 4] = [
 pub fn labels() -> impl Iterator<Item = String> {
     Layout::BOTH.into_iter().flat_map(|to| {
         let numbers = [0, 15, 16].into_iter().chain(OWN).chain((!to.is_wide()).then_some(18));
-        let texts = shown(to).flat_map(move |(text, numbers, _)| {
-            numbers.iter().map(move |&number| label(to, number, text))
-        });
-        numbers.map(move |number| number_label(to, number)).chain(texts)
+        called::labels(name(to), numbers, texts(to))
     })
 }
 
-fn shown(to: Layout) -> impl Iterator<Item = &'static Shown> {
+fn texts(to: Layout) -> impl Iterator<Item = &'static Shown> {
     let one_way: &[Shown] = if to.is_wide() { &TO_WIDE } else { &TO_NARROW };
     BOTH_WAYS.iter().chain(one_way)
 }
 
-fn number_label(to: Layout, number: u64) -> String {
-    let to = if to.is_wide() { "wide" } else { "narrow" };
-    format!("to {to}, number {number}")
+fn name(to: Layout) -> &'static str {
+    match to {
+        Layout::Narrow => "to narrow",
+        Layout::Wide => "to wide",
+    }
 }
 
-fn label(to: Layout, number: u64, text: &str) -> String {
-    format!("{}: {text}", number_label(to, number))
+/// The labels of a call to a layout with what was given and what it left.
+pub fn shown(to: Layout, given: &Given, left: &Left) -> Vec<String> {
+    let from = Layout::of(&words::first_words(&given.inputs[0], 1));
+    let longer = to.front_words() as isize - from.front_words() as isize;
+    Called::new(to, given, left, longer).shown(name(to), texts(to)).collect()
 }
 
-/// A call of the converter.
-pub struct Converted<'a> {
-    to: Layout,
-    given: &'a Given,
-    number: u64,
-    /// The sheet's words; none if its bytes are no whole words.
-    words: Vec<u32>,
-}
-
-impl<'a> Converted<'a> {
-    /// A call to a layout with what was given and what it left.
-    pub fn new(to: Layout, given: &'a Given, left: &Left) -> Self {
-        let words = words::from_bytes(&given.inputs[0]).unwrap_or_default();
-        Converted { to, given, number: left.number, words }
-    }
-
-    /// The labels of the call.
-    pub fn shown(&self) -> Vec<String> {
-        let Converted { to, number, .. } = *self;
-        let asked = shown(to).filter(|(_, numbers, _)| numbers.contains(&number));
-        let texts = asked.filter(|(_, _, is_so)| is_so(self)).map(|(text, ..)| *text);
-        let of_texts = texts.map(|text| label(to, number, text));
-        std::iter::once(number_label(to, number)).chain(of_texts).collect()
-    }
-
-    fn layout(&self) -> Layout {
-        Layout::of(&self.words)
-    }
-
+impl Converted {
     fn changes(&self) -> bool {
-        self.layout() != self.to
-    }
-
-    fn places(&self) -> usize {
-        Front::told(&self.words).places
-    }
-
-    fn is_city(&self) -> bool {
-        self.layout().is_wide() && self.places() > MOST_PLACES
-    }
-
-    fn is_valid(&self) -> bool {
-        tool::valid(&self.words).is_ok()
-    }
-
-    fn is_long(&self) -> bool {
-        self.words.len() > 65_536
+        self.layout() != self.asked
     }
 
     /// Of a valid sheet: behind its front a road begins, or the samples do.
@@ -186,35 +139,11 @@ impl<'a> Converted<'a> {
         let refusal = tool::valid(&self.words).err();
         refusal.and_then(|refusal| self.layout().pair(self.words[refusal.place]).direction)
     }
-
-    /// The words of room.
-    fn room(&self) -> usize {
-        self.given.output / BYTES_PER_WORD
-    }
-
-    /// The words that are to be written of a valid sheet.
-    fn needed(&self) -> usize {
-        self.words.len() + self.to.front_words() - self.layout().front_words()
-    }
-
-    fn is_a_word_short(&self) -> bool {
-        self.room() + 1 == self.needed()
-    }
-
-    fn has_some_room(&self) -> bool {
-        self.room() > 0 && self.room() + 1 < self.needed()
-    }
-
-    /// Whether the lengths of sheet, output and result cannot be.
-    fn wrong_lengths(&self) -> [bool; 3] {
-        let Given { inputs, output, result } = self.given;
-        let is_odd = |length: usize| !length.is_multiple_of(BYTES_PER_WORD);
-        [is_odd(inputs[0].len()), is_odd(*output), *result != RESULT_BYTES]
-    }
 }
 
 #[cfg(test)]
 mod tests {
+    use super::called::{label, number_label};
     use super::*;
     use reference::builder::SheetBuilder;
     use reference::worked::{ONE_WAY, ONE_WAY_BACK, WIDE_A};
@@ -225,13 +154,13 @@ mod tests {
     fn shown_of(to: Layout, words: &[u32], room: usize, number: u64) -> BTreeSet<String> {
         let given = Given::of(&[words], room);
         let left = Left { number, output: Vec::new(), result: Vec::new() };
-        Converted::new(to, &given, &left).shown().into_iter().collect()
+        shown(to, &given, &left).into_iter().collect()
     }
 
     #[track_caller]
     fn assert_shown(found: BTreeSet<String>, to: Layout, number: u64, texts: &[&str]) {
-        let of_texts = texts.iter().map(|text| label(to, number, text));
-        assert_eq!(found, of_texts.chain([number_label(to, number)]).collect());
+        let of_texts = texts.iter().map(|text| label(name(to), number, text));
+        assert_eq!(found, of_texts.chain([number_label(name(to), number)]).collect());
     }
 
     #[test]

@@ -16,7 +16,8 @@ const LAYOUTS: [&str; 3] =
     ["a narrow sheet", "a wide sheet of up to 64 places", "a wide sheet of more than 64 places"];
 
 /// The checks that make sheets of their own.
-const CHECKS: [&str; 5] = ["steadiness", "raising", "laws", "time turned round", "decided alike"];
+const CHECKS: [&str; 6] =
+    ["steadiness", "raising", "laws", "time turned round", "decided alike", "corrections"];
 
 /// What is looked for in wide sheets that are accepted, beside their codes.
 const IN_WIDE: [&str; 15] = [

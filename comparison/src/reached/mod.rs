@@ -3,7 +3,9 @@
 //! compared what it should.
 
 mod accepted;
+mod called;
 mod converted;
+mod corrected;
 mod extents;
 mod layouts;
 mod looked_up;
@@ -13,21 +15,23 @@ mod reading;
 mod refused;
 mod roads_refused;
 mod runs;
+mod sent;
 mod setting;
 mod surrounds;
 mod wide_looked_up;
 mod wide_refused;
 
-pub use converted::Converted;
 pub use layouts::with_one_way;
 pub use looked_up::LookedUp;
 
 use crate::laws::LAWS;
-use crate::{converting, deciding, mirror, raising, steadiness};
+use crate::{converting, correcting, deciding, mirror, raising, steadiness};
+use reference::generate::tools::Given;
 use reference::generate::Case;
+use reference::layout::Layout;
 use reference::left::Left;
 use reference::sheet::Sheet;
-use reference::words;
+use reference::{tool, words};
 use std::collections::HashMap;
 
 /// Counts by label. All labels are known from the start, in the order they are
@@ -52,7 +56,9 @@ impl Default for Reached {
             .chain(deciding::labels())
             .chain(layouts::labels_of_checks())
             .chain(converted::labels())
-            .chain(converting::labels());
+            .chain(converting::labels())
+            .chain(corrected::labels())
+            .chain(correcting::labels());
         Reached::of(labels.collect())
     }
 }
@@ -91,6 +97,16 @@ impl Reached {
         for label in labels {
             self.count(&label);
         }
+    }
+
+    /// Counts all that a call of the converter shows.
+    pub fn count_converted(&mut self, to: Layout, given: &Given, left: &tool::Left) {
+        converted::shown(to, given, left).iter().for_each(|label| self.count(label));
+    }
+
+    /// Counts all that a call shows which corrects a sheet.
+    pub fn count_corrected(&mut self, given: &Given, left: &tool::Left) {
+        corrected::shown(given, left).iter().for_each(|label| self.count(label));
     }
 
     /// Counts the layout of a sheet that a check beside judging was tried on, and

@@ -1,13 +1,13 @@
 //! Converters that write what they should not, beside an engine that is right.
 
 use super::rereads::reread_roads;
-use super::{caught_of, SEEDS, SEEDS_OF_RIGHT};
+use super::tools::{self, Call, Told};
+use super::SEEDS_OF_RIGHT;
 use crate::tools::{Tool, Tools, Written};
 use crate::Implementation;
 use reference::layout::{Front, Layout, MOST_PLACES};
 use reference::road::BOTH_MARKS;
-use reference::tool::Outcome;
-use reference::words::{self, kinds, BYTES_PER_WORD};
+use reference::words::{self, kinds};
 
 /// What a converter is given.
 pub struct Asked {
@@ -41,65 +41,20 @@ impl Asked {
     }
 }
 
-/// What a converter tells and writes: other than this all is zero.
-pub struct Told {
-    pub outcome: Outcome,
-    pub words: Vec<u32>,
-}
-
-impl Told {
-    /// Tells a refusal instead.
-    pub fn refuse(&mut self, number: u64, place: usize) {
-        self.outcome = Outcome { number, place: place as u64, words: 0 };
-        self.words.clear();
-    }
-
-    /// Writes words instead, as far as there is room, and tells how many.
-    pub fn write(&mut self, words: Vec<u32>) {
-        self.outcome = Outcome { words: words.len() as u64, ..Outcome::default() };
-        self.words = words;
-    }
-}
-
-/// Right, but for what it changes in what is told and written.
-struct Mistaken<F>(F);
-
 /// The converter of a mistake.
 pub fn mistaken(mistake: impl Fn(&Asked, &mut Told)) -> impl Tools {
-    Mistaken(mistake)
-}
-
-impl<F: Fn(&Asked, &mut Told)> Tools for Mistaken<F> {
-    fn run(&self, tool: Tool, inputs: &[&[u8]], left: Written) -> u64 {
-        let Tool::Convert(to) = tool;
-        let Written { output, result } = left;
-        let lent = Written { output: &mut *output, result: &mut *result };
-        let number = Implementation.run(tool, inputs, lent);
-        let is_lent = Outcome::from_bytes(result);
-        let outcome = is_lent.unwrap_or(Outcome { number, ..Outcome::default() });
-        let written = words::first_words(output, outcome.words as usize);
-        let words = words::from_bytes(inputs[0]).unwrap_or_default();
-        let mut told = Told { outcome, words: written };
-        (self.0)(&Asked { to, words, room: output.len() / BYTES_PER_WORD }, &mut told);
-        output.fill(0);
-        let bytes = words::to_bytes(&told.words);
-        output.iter_mut().zip(bytes).for_each(|(place, byte)| *place = byte);
-        if is_lent.is_some() {
-            result.copy_from_slice(&told.outcome.to_bytes());
+    tools::mistaken(move |call, told| {
+        let Call { tool, mut inputs, room } = call;
+        if let Tool::Convert(to) = tool {
+            mistake(&Asked { to, words: inputs.swap_remove(0), room }, told);
         }
-        told.outcome.number
-    }
-}
-
-/// The seed at which the comparison finds a difference in the tools.
-fn caught(tools: &dyn Tools) -> Option<u64> {
-    caught_of(&Implementation, tools, SEEDS)
+    })
 }
 
 /// Demands that the converter of a mistake is caught.
 #[track_caller]
 pub fn assert_caught(mistake: impl Fn(&Asked, &mut Told)) {
-    assert!(caught(&mistaken(mistake)).is_some());
+    tools::assert_caught(&mistaken(mistake));
 }
 
 /// Caught where the sheet changes, each way by itself.
@@ -125,7 +80,7 @@ fn change_roads(written: &mut [u32], change: impl Fn(Layout, usize, usize) -> u3
 
 #[test]
 fn without_a_fault_nothing_is_found() {
-    assert_eq!(caught_of(&Implementation, &mistaken(|_, _| {}), SEEDS_OF_RIGHT), None);
+    assert_eq!(tools::caught_within(&mistaken(|_, _| {}), SEEDS_OF_RIGHT), None);
 }
 
 #[test]
@@ -226,11 +181,14 @@ fn narrow_for_wide() {
     struct Exchanged;
     impl Tools for Exchanged {
         fn run(&self, tool: Tool, inputs: &[&[u8]], left: Written) -> u64 {
-            let Tool::Convert(to) = tool;
-            Implementation.run(Tool::Convert(to.other()), inputs, left)
+            let tool = match tool {
+                Tool::Convert(to) => Tool::Convert(to.other()),
+                other => other,
+            };
+            Implementation.run(tool, inputs, left)
         }
     }
-    assert!(caught(&Exchanged).is_some());
+    tools::assert_caught(&Exchanged);
 }
 
 #[test]

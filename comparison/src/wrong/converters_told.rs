@@ -1,10 +1,7 @@
 //! Converters that tell other numbers, places or counts of words than they should.
 
 use super::converters::{assert_caught, mistaken};
-use crate::compare::Comparison;
-use crate::tools::Tools;
-use crate::Implementation;
-use reference::generate::random::Random;
+use super::tools;
 use reference::layout::{Layout, MOST_PLACES};
 use reference::sheet::check;
 use reference::words::{self, kinds, BYTES_PER_WORD};
@@ -208,10 +205,6 @@ fn words_counted_that_were_not_written() {
 /// Only a sheet of more than 65,536 words can tell.
 #[test]
 fn words_and_places_of_two_bytes() {
-    let of_words = mistaken(|_, told| told.outcome.words %= 65_536);
-    let of_places = mistaken(|_, told| told.outcome.place %= 65_536);
-    for tools in [&of_words as &dyn Tools, &of_places] {
-        let mut comparison = Comparison::new(&Implementation, tools, None);
-        assert!(comparison.largest(&mut Random::new(1)).is_err());
-    }
+    tools::assert_caught_on_largest(&mistaken(|_, told| told.outcome.words %= 65_536));
+    tools::assert_caught_on_largest(&mistaken(|_, told| told.outcome.place %= 65_536));
 }

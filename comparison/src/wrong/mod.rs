@@ -4,9 +4,14 @@
 mod bytes;
 mod cities;
 mod converters;
-mod converters_bytes;
 mod converters_one_way;
 mod converters_told;
+mod corrections;
+mod corrections_aimed;
+mod corrections_clash;
+mod corrections_kept;
+mod corrections_read;
+mod corrections_told;
 mod evaluator;
 mod extents;
 mod falling;
@@ -24,6 +29,8 @@ mod sizes;
 mod surrounds;
 mod swayed;
 mod there_and_back;
+mod tools;
+mod tools_bytes;
 mod traps;
 mod wide;
 mod wide_answers;
@@ -31,7 +38,6 @@ mod wide_lookups;
 mod wide_words;
 
 use crate::compare::Comparison;
-use crate::tools::Tools;
 use crate::{Engine, Filled, Implementation};
 use reference::evaluation::Evaluation;
 use std::marker::PhantomData;
@@ -66,14 +72,9 @@ fn caught(engine: &dyn Engine) -> Option<u64> {
     caught_within(engine, SEEDS)
 }
 
+/// The seed, up to so many, at which the comparison finds a difference.
 fn caught_within(engine: &dyn Engine, seeds: u64) -> Option<u64> {
-    caught_of(engine, &Implementation, seeds)
-}
-
-/// The seed, up to so many, at which the comparison finds a difference in an engine
-/// or in tools.
-fn caught_of(engine: &dyn Engine, tools: &dyn Tools, seeds: u64) -> Option<u64> {
-    let mut comparison = Comparison::new(engine, tools, None);
+    let mut comparison = Comparison::new(engine, &Implementation, None);
     // Seed 0 would judge the largest sheet too, which takes long.
     (1..=seeds).find(|&seed| comparison.seed(seed).is_err())
 }

@@ -1,19 +1,24 @@
-//! Writes generated sheets as files, good and damaged, for hosts to be tried on.
+//! Writes generated sheets as files, good and damaged, for hosts to be tried on, and
+//! beside each a list of corrections, good or damaged as well.
 //!
 //! `sheets FOLDER FIRST_SEED COUNT`
 //!
 //! The file `expected` has a row for each sheet, in the order of the files'
 //! names: the five numbers of the result that a host gets which lends enough. The
 //! files `expected.wide` and `expected.narrow` have the three numbers that such a
-//! host gets which takes the sheet to that layout.
+//! host gets which takes the sheet to that layout, and `expected.corrected` those of
+//! one which corrects it by the list beside it.
 
 use reference::convert::convert;
+use reference::correct_sheet;
 use reference::fast::Fast;
-use reference::generate::case;
+use reference::generate::aim::lent::odd_input;
+use reference::generate::random::Random;
+use reference::generate::{case, corrections};
 use reference::judge::{judge, Outcome, BYTES_PER_DISTANCE, RESULT_BYTES};
 use reference::layout::{Front, Layout};
 use reference::tool;
-use reference::words::BYTES_PER_WORD;
+use reference::words::{self, BYTES_PER_WORD};
 use std::fs;
 use std::io;
 use std::path::PathBuf;
@@ -34,15 +39,38 @@ fn main() -> io::Result<()> {
     };
     let folder = PathBuf::from(folder);
     fs::create_dir_all(&folder)?;
-    let sheets: Vec<Vec<u8>> =
-        (first..first + count).map(|seed| case(seed, MOST_PLACES).sheet).collect();
-    for (seed, sheet) in (first..).zip(&sheets) {
+    let files: Vec<Files> = (first..first + count).map(Files::of).collect();
+    for (seed, Files { sheet, corrections }) in (first..).zip(&files) {
         fs::write(folder.join(format!("{seed:08}.sheet")), sheet)?;
+        fs::write(folder.join(format!("{seed:08}.corrections")), corrections)?;
     }
-    let rows = |row: fn(&[u8]) -> String| sheets.iter().map(|sheet| row(sheet)).collect::<String>();
-    fs::write(folder.join("expected"), rows(judged))?;
-    fs::write(folder.join("expected.wide"), rows(|sheet| converted(sheet, Layout::Wide)))?;
-    fs::write(folder.join("expected.narrow"), rows(|sheet| converted(sheet, Layout::Narrow)))
+    let expected = |of: &str, row: fn(&Files) -> String| {
+        let rows: String = files.iter().map(row).collect();
+        fs::write(folder.join(format!("expected{of}")), rows)
+    };
+    expected("", |files| judged(&files.sheet))?;
+    expected(".wide", |files| converted(&files.sheet, Layout::Wide))?;
+    expected(".narrow", |files| converted(&files.sheet, Layout::Narrow))?;
+    expected(".corrected", corrected)
+}
+
+/// What is written for a seed.
+struct Files {
+    sheet: Vec<u8>,
+    corrections: Vec<u8>,
+}
+
+impl Files {
+    /// Now and then the list is not of whole words.
+    fn of(seed: u64) -> Self {
+        let sheet = case(seed, MOST_PLACES).sheet;
+        let mut random = Random::new(!seed);
+        let mut corrections = words::to_bytes(&corrections::list(&mut random, &sheet));
+        if random.chance(4) {
+            odd_input(&mut random, &mut corrections);
+        }
+        Files { sheet, corrections }
+    }
 }
 
 fn judged(sheet: &[u8]) -> String {
@@ -57,10 +85,19 @@ fn judged(sheet: &[u8]) -> String {
 }
 
 fn converted(sheet: &[u8], layout: Layout) -> String {
+    told(sheet, |output, result| convert(layout, sheet, output, result))
+}
+
+fn corrected(Files { sheet, corrections }: &Files) -> String {
+    told(sheet, |output, result| correct_sheet(sheet, corrections, output, result))
+}
+
+/// The row of a tool that writes at most a word more than the sheet has.
+fn told(sheet: &[u8], tool: impl FnOnce(&mut [u8], &mut [u8]) -> u64) -> String {
     let most_words = sheet.len() / BYTES_PER_WORD + 1;
     let mut output = vec![0; most_words * BYTES_PER_WORD];
     let mut result = [0; tool::RESULT_BYTES];
-    convert(layout, sheet, &mut output, &mut result);
+    tool(&mut output, &mut result);
     let tool::Outcome { number, place, words } =
         tool::Outcome::from_bytes(&result).unwrap_or_default();
     format!("number {number}, place {place}, words {words}\n")

@@ -5,6 +5,7 @@
 
 pub mod aim;
 pub mod answers;
+pub mod corrections;
 pub mod damage;
 pub mod islands;
 pub mod largest;

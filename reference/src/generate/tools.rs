@@ -1,6 +1,7 @@
 //! What is given to a tool: its inputs, and what a host lends beside them.
 
 use super::aim::lent::{odd, odd_input};
+use super::corrections;
 use super::random::Random;
 use crate::layout::{Front, Layout};
 use crate::tool::RESULT_BYTES;
@@ -45,7 +46,7 @@ fn room(random: &mut Random, needed: usize) -> usize {
     let fewer = random.below(needed.max(1));
     match random.below(20) {
         0..=5 => needed,
-        6..=10 => needed + random.pick(&[1, 1, 2, 17]),
+        6..=10 => needed + random.pick(&[1, 1, 2, 17, 1000]),
         11..=14 => needed.saturating_sub(1),
         15 | 16 => 0,
         _ => fewer,
@@ -73,4 +74,11 @@ pub fn conversion(random: &mut Random, sheet: &[u8], to: Layout) -> Given {
     let from = Front::told_by_bytes(sheet).layout;
     let needed = sheet.len() / BYTES_PER_WORD + to.front_words() - from.front_words();
     Given::lend(random, vec![sheet.to_vec()], needed)
+}
+
+/// A sheet's bytes, right or wrong, with a list of corrections, right or wrong as well.
+pub fn correction(random: &mut Random, sheet: &[u8]) -> Given {
+    let list = corrections::list(random, sheet);
+    let needed = sheet.len() / BYTES_PER_WORD;
+    Given::lend(random, vec![sheet.to_vec(), words::to_bytes(&list)], needed)
 }

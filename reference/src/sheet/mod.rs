@@ -30,6 +30,9 @@ pub const MOST_LINES: usize = 64;
 /// The greatest weight of a road and the greatest bound: a full payload.
 pub const GREATEST_WEIGHT: u32 = PAYLOAD_MASK;
 
+/// The words of a road.
+const WORDS_PER_ROAD: usize = 2;
+
 /// The greatest code of a line.
 pub const LAST_CODE: u32 = 15;
 
@@ -44,6 +47,13 @@ pub struct Head {
     pub signals: usize,
     /// The number of samples in time, T.
     pub samples: usize,
+}
+
+impl Head {
+    /// Where a sample stands among all: "time outermost, then place, then signal".
+    pub fn reading_index(&self, sample: usize, place: usize, signal: usize) -> usize {
+        (sample * self.places + place) * self.signals + signal
+    }
 }
 
 /// A line of the table. It has verdicts for the samples of its extent "and no
@@ -72,7 +82,12 @@ pub struct Sheet {
 impl Sheet {
     /// The number sampled at a time and a place for a signal.
     pub fn reading(&self, sample: usize, place: usize, signal: usize) -> i32 {
-        self.readings[(sample * self.head.places + place) * self.head.signals + signal]
+        self.readings[self.head.reading_index(sample, place, signal)]
+    }
+
+    /// The index of the first sample among the sheet's words, right behind the roads.
+    pub fn first_sample(&self) -> usize {
+        self.head.layout.front_words() + WORDS_PER_ROAD * self.roads.len()
     }
 
     /// From where to where roads lead.

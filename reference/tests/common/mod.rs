@@ -5,10 +5,12 @@
 use reference::answer::AnswerLine;
 use reference::builder::SheetBuilder;
 use reference::convert::convert;
+use reference::correct_sheet;
 use reference::evaluation::Evaluation;
 use reference::fast::Fast;
+use reference::generate::random::Random;
 use reference::generate::tools::Given;
-use reference::generate::Case;
+use reference::generate::{aim, Case};
 use reference::judge::{judge, Outcome};
 use reference::layout::Layout;
 use reference::left::Left;
@@ -16,6 +18,7 @@ use reference::margin::{Margin, Verdict};
 use reference::meaning::Meaning;
 use reference::road::Road;
 use reference::tool;
+use reference::words;
 
 /// The result of a call for which 40 bytes were lent.
 pub fn outcome(left: &Left) -> Outcome {
@@ -43,10 +46,28 @@ pub fn judged_by<E: Evaluation>(case: &Case) -> Left {
 
 /// Takes a sheet to a layout, in buffers that are not clean.
 pub fn converted(layout: Layout, given: &Given) -> tool::Left {
+    left_by(given, |output, result| convert(layout, &given.inputs[0], output, result))
+}
+
+/// Corrects a sheet, in buffers that are not clean.
+pub fn corrected(given: &Given) -> tool::Left {
+    let [sheet, list] = &given.inputs[..] else { panic!("a sheet and a list") };
+    left_by(given, |output, result| correct_sheet(sheet, list, output, result))
+}
+
+/// What a tool leaves in buffers that are not clean.
+fn left_by(given: &Given, tool: impl FnOnce(&mut [u8], &mut [u8]) -> u64) -> tool::Left {
     let mut output = vec![0x5A; given.output];
     let mut result = vec![0xC3; given.result];
-    let number = convert(layout, &given.inputs[0], &mut output, &mut result);
+    let number = tool(&mut output, &mut result);
     tool::Left { number, output, result }
+}
+
+/// The number and place of a tool that refuses; all else must be zero.
+pub fn tool_refused(left: &tool::Left) -> (u64, u64) {
+    assert_tool_refused(left);
+    let outcome = left.outcome().expect("24 bytes were lent");
+    (outcome.number, outcome.place)
 }
 
 /// "On refusal the output is all zero", and no words are written. A result that is
@@ -58,6 +79,27 @@ pub fn assert_tool_refused(left: &tool::Left) {
         Some(outcome) => assert_eq!((outcome.number, outcome.words), (left.number, 0)),
         None => assert!(left.result.iter().all(|&byte| byte == 0)),
     }
+}
+
+/// A tool that is refused with 16 tells it alone, in the result if that has its length.
+pub fn assert_tool_told_16(left: &tool::Left) {
+    assert_tool_refused(left);
+    assert_eq!(left.number, 16);
+    let told = tool::Outcome { number: 16, ..tool::Outcome::default() };
+    assert_eq!(left.outcome(), (left.result.len() == 24).then_some(told));
+}
+
+/// Sheets of every fault that a sheet can have of its own, with number and place as the
+/// judge tells them.
+pub fn sheets_at_fault() -> impl Iterator<Item = (Vec<u32>, (u64, u64))> {
+    let aims = (2..=14).chain([17]).flat_map(|number| (0..60).map(move |seed| (number, seed)));
+    aims.map(|(number, seed)| {
+        let case = aim::aimed(&mut Random::new(seed), number, 80);
+        let words = words::from_bytes(&case.sheet).expect("whole words");
+        let judged = outcome(&judged_by::<Fast>(&Case::of(&words, 1 << 16)));
+        assert_eq!(judged.number, number);
+        (words, (number, judged.place))
+    })
 }
 
 /// Judges a case with both evaluators, which must leave the same bytes.

@@ -1,7 +1,7 @@
-//! Converters that tell what they should, but leave other bytes, or take lengths
-//! that cannot be.
+//! Tools that tell what they should, but leave other bytes, or take lengths that cannot
+//! be.
 
-use super::{caught_of, SEEDS};
+use super::tools::{self, Only};
 use crate::tools::{Tool, Tools, Written};
 use crate::Implementation;
 use reference::tool::{Outcome, RESULT_BYTES};
@@ -25,21 +25,37 @@ impl Tools for Spoilt {
     }
 }
 
+/// Converters, and what corrects sheets.
+const CONVERTERS: fn(Tool) -> bool = |tool| tool != Tool::Correct;
+const CORRECTORS: fn(Tool) -> bool = |tool| tool == Tool::Correct;
+
+/// Caught if converters alone are wrong, and if what corrects sheets is.
 #[track_caller]
 fn assert_caught(tools: &dyn Tools) {
-    assert!(caught_of(&Implementation, tools, SEEDS).is_some());
+    for are_wrong in [CONVERTERS, CORRECTORS] {
+        tools::assert_caught(&Only { are_wrong, tools });
+    }
+}
+
+fn left_dirty<const NUMBER: u64>(outcome: Outcome, before: &[u8], output: &mut [u8]) {
+    if outcome.number == NUMBER {
+        output.copy_from_slice(before);
+    }
 }
 
 /// Of each number alone.
 #[test]
 fn an_output_left_dirty_on_refusal() {
-    fn left_dirty<const NUMBER: u64>(outcome: Outcome, before: &[u8], output: &mut [u8]) {
-        if outcome.number == NUMBER {
-            output.copy_from_slice(before);
-        }
-    }
-    for spoil in [left_dirty::<14>, left_dirty::<15>, left_dirty::<16>, left_dirty::<18>] {
+    for spoil in [left_dirty::<14>, left_dirty::<15>, left_dirty::<16>] {
         assert_caught(&Spoilt(spoil));
+    }
+    let of_one = [
+        (CONVERTERS, left_dirty::<18> as Spoil),
+        (CORRECTORS, left_dirty::<19>),
+        (CORRECTORS, left_dirty::<20>),
+    ];
+    for (are_wrong, spoil) in of_one {
+        tools::assert_caught(&Only { are_wrong, tools: &Spoilt(spoil) });
     }
 }
 
@@ -98,6 +114,12 @@ fn whole(length: usize) -> usize {
 #[test]
 fn odd_bytes_of_the_sheet_passed_over() {
     assert_caught(&Rounded(|inputs, _| inputs[0] = &inputs[0][..whole(inputs[0].len())]));
+}
+
+#[test]
+fn odd_bytes_of_the_list_passed_over() {
+    let rounded = Rounded(|inputs, _| inputs[1] = &inputs[1][..whole(inputs[1].len())]);
+    tools::assert_caught(&Only { are_wrong: CORRECTORS, tools: &rounded });
 }
 
 #[test]
