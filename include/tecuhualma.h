@@ -304,7 +304,8 @@ uint64_t sheet_to_narrow(const uint8_t *sheet, size_t sheet_len, uint8_t *output
  *  - kind 4: the value, laid out as every sample.
  *
  * They may come in any order. Of those of one sample the one with the highest revision
- * counts. It may stand there again with the same value, but not with another.
+ * counts. It may stand there again with the same value, but not with another. The sheet
+ * that is written does not tell revisions: another list corrects it by its own alone.
  *
  * Number 19 is told of the first word of the list that is not as above, or that names
  * a signal, a time or a place which the sheet does not have; where the last correction
