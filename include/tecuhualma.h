@@ -6,8 +6,9 @@
  * conditions) and lends three buffers. judge() decides on the sheet and fills
  * them; lookup() reads one verdict out of an answer. Tools write words without
  * judging: sheet_to_wide() and sheet_to_narrow() take a sheet from one layout to
- * the other. SHEETS.md, which is installed under share/doc/tecuhualma, tells how a
- * sheet and an answer are laid out, word by word.
+ * the other, and correct_sheet() puts late corrections into it. SHEETS.md, which is
+ * installed under share/doc/tecuhualma, tells how a sheet, an answer and a list of
+ * corrections are laid out, word by word.
  *
  * Bytes. Every buffer is plain bytes at any address. A word is four bytes, a
  * distance and a number of the result eight, always lowest byte first.
@@ -30,14 +31,16 @@
  *
  * Stack. A call takes at most 64 KiB of it for a sheet or an answer of up to 64
  * places, narrow or wide, and at most 512 KiB for one of more. A tool takes at most
- * 64 KiB for every sheet.
+ * 64 KiB, whatever it reads.
  *
  * The host's duties, which the library cannot check. Each pointer is valid for
  * as many bytes as its length says, and NULL only where that is 0. The buffers of
- * a call do not overlap: not one that is read with a lent one, nor two lent ones.
+ * a call do not overlap: not one that is read with a lent one, nor two lent ones. Two
+ * that are read may.
  *
- * Threads. Calls may run side by side. They may share a sheet or an answer that
- * they read, as long as nobody writes to it; each call has lent buffers of its own.
+ * Threads. Calls may run side by side. They may share a sheet, a list or an answer
+ * that they read, as long as nobody writes to it; each call has lent buffers of its
+ * own.
  *
  * Surrounds. A line of code 7, "left surrounded by right", asks for a region with
  * left that has a boundary, and right on all of it: on every place outside to which
@@ -49,8 +52,9 @@
  *
  * Forecasts. Of two accepted sheets that differ in samples alone, none of the
  * second lower, without a line of code 2 or 3, every yes of the first is a yes of
- * the second, and no margin of the second is lower. FORECASTS.md, installed beside
- * SHEETS.md, tells what else is known of a sheet without a call.
+ * the second, and no margin of the second is lower. A sheet and what correct_sheet()
+ * makes of it are two such sheets if that lowers no sample. FORECASTS.md, installed
+ * beside SHEETS.md, tells what else is known of a sheet without a call.
  */
 #ifndef TECUHUALMA_H
 #define TECUHUALMA_H
@@ -62,9 +66,9 @@
 extern "C" {
 #endif
 
-#define TECUHUALMA_VERSION "0.6.0"
+#define TECUHUALMA_VERSION "0.7.0"
 #define TECUHUALMA_VERSION_MAJOR 0
-#define TECUHUALMA_VERSION_MINOR 6
+#define TECUHUALMA_VERSION_MINOR 7
 #define TECUHUALMA_VERSION_PATCH 0
 
 /* The limits of a sheet; places and roads of a narrow one, then of a wide one. */
@@ -87,6 +91,14 @@ extern "C" {
  * runs both ways has neither; one with both is refused with number 4. */
 #define TECUHUALMA_ROAD_FORTH_ONLY 0x08000000u
 #define TECUHUALMA_ROAD_BACK_ONLY 0x04000000u
+
+/* The words of a correction; the highest revision, of which the lowest is 1; and a
+ * correction's first word. The three numbers in it must be within their limits: one
+ * that is not runs over into its neighbour, and another sample might be corrected. */
+#define TECUHUALMA_CORRECTION_WORDS 3
+#define TECUHUALMA_MOST_REVISION 255
+#define TECUHUALMA_CORRECTION_FIRST_WORD(revision, signal, time) \
+    (0xB0000000u | (uint32_t)(revision) << 20 | (uint32_t)(signal) << 12 | (uint32_t)(time))
 
 /* What to lend. The result has just 40 bytes, that of a tool just 24.
  *
@@ -119,8 +131,8 @@ extern "C" {
                                  TECUHUALMA_MOST_LINES)
 
 /* The most bytes of the stack that a call takes, for a sheet or an answer of so
- * many places in either layout. For a tool it is that of 1 place, whatever the
- * sheet. */
+ * many places in either layout. For a tool it is that of 1 place, whatever it
+ * reads. */
 #define TECUHUALMA_STACK_BYTES(places) ((places) <= TECUHUALMA_MOST_PLACES ? 65536 : 524288)
 
 /* The distance from one place to another to which no roads lead from it, even if roads
@@ -140,13 +152,17 @@ enum tecuhualma_result {
 /*
  * The numbers. The first fault counts, front to back. Number 1 comes before every
  * fault of a narrow sheet; of a wide sheet it comes after numbers 17 and 3, before
- * the roads. A tool does not give number 1, and judge() does not give number 18.
+ * the roads. A tool does not give number 1, and judge() none of 18, 19 and 20.
  *
  * The place is the index of the faulty word, from 0. It is the sheet's length
  * in words, where no word is to be read, if the word is missing, and with
  * number 15; it is 0 with numbers 1, 16 and 18, whatever the sheet holds. With number
  * 17 it is 0 for the word of kind 10 and 1 for the word behind it, and with number
  * 3 it is 1 if the sheet is wide.
+ *
+ * With numbers 19 and 20 it is an index in the list of corrections, not in the sheet.
+ * With 19 it is that of the faulty word, or the list's length in words if the last
+ * correction is cut off; with 20 that of the first word of the later correction.
  */
 enum tecuhualma_number {
     TECUHUALMA_ACCEPTED = 0,
@@ -169,7 +185,9 @@ enum tecuhualma_number {
     TECUHUALMA_BYTE_LENGTHS = 16,     /* a length in bytes that cannot be */
     TECUHUALMA_WIDE_HEAD = 17,        /* places outside 1 to 1,024, spare bits set, or no
                                          kind 1 word with places 0 behind */
-    TECUHUALMA_MANY_PLACES = 18       /* more than 64 places, asked into the narrow layout */
+    TECUHUALMA_MANY_PLACES = 18,      /* more than 64 places, asked into the narrow layout */
+    TECUHUALMA_CORRECTION = 19,       /* ill-formed, cut off, or of a sample that is not there */
+    TECUHUALMA_CORRECTIONS_CLASH = 20 /* two of one sample and revision, with unlike values */
 };
 
 /* What lookup() gives. */
@@ -231,20 +249,22 @@ uint64_t lookup(const uint8_t *answer, size_t answer_len, uint64_t line, uint64_
                 uint64_t place);
 
 /*
- * Tools. A tool reads a sheet, writes words into `output`, and gives the number, 0
- * if they are written. It judges nothing and is lent no distances.
+ * Tools. A tool reads a sheet, and one of them a list of corrections as well. It
+ * writes words into `output` and gives the number, 0 if they are written. It judges
+ * nothing and is lent no distances.
  *
  * Written: the words stand at the front of `output`, zeros behind them; `result`
  * holds 0, 0 and how many there are.
  *
  * Refused: `output` is all zero; `result` holds the number, the place, and 0.
  *
- * In which order. Number 16 comes before all else: sheet_len or output_len is not
- * a multiple of 4, or result_len is not 24. A result of another length than 24 is
- * all zero; only the number given back tells. Then comes the sheet's own fault, by
- * the number and at the place that judge() tells where it is lent enough: a tool
- * takes no other sheets than judge() does. Then comes what a tool names below, and
- * number 15 last: `output` has fewer words than are to be written.
+ * In which order. Number 16 comes before all else: sheet_len, corrections_len where
+ * there is one, or output_len is not a multiple of 4, or result_len is not 24. A result
+ * of another length than 24 is all zero; only the number given back tells. Then comes
+ * the sheet's own fault, by the number and at the place that judge() tells where it is
+ * lent enough: a tool takes no other sheets than judge() does. Then comes what a tool
+ * names below, and number 15 last: `output` has fewer words than are to be written. Its
+ * place is the sheet's length in words, whatever else is read.
  */
 
 /*
@@ -271,6 +291,49 @@ uint64_t sheet_to_wide(const uint8_t *sheet, size_t sheet_len, uint8_t *output, 
  */
 uint64_t sheet_to_narrow(const uint8_t *sheet, size_t sheet_len, uint8_t *output,
                          size_t output_len, uint8_t *result, size_t result_len);
+
+/*
+ * Writes a sheet with late corrections: samples that a station sent anew. It has the
+ * layout and the length of the sheet, and all its words but the corrected samples.
+ *
+ * `corrections` is a list of none or more. Each is three words:
+ *
+ *  - kind 11: the revision in bits 27..20, from 1 to 255, the signal in 19..12, and
+ *    the time in 11..0, which is the sample's number from 0 to T - 1;
+ *  - kind 12: the place in bits 15..0, bits 27..16 zero;
+ *  - kind 4: the value, laid out as every sample.
+ *
+ * They may come in any order. Of those of one sample the one with the highest revision
+ * counts. It may stand there again with the same value, but not with another. The sheet
+ * that is written does not tell revisions: another list corrects it by its own alone.
+ *
+ * Number 19 is told of the first word of the list that is not as above, or that names
+ * a signal, a time or a place which the sheet does not have; where the last correction
+ * is cut off, at the list's length. Number 20 comes after that: two corrections of one
+ * sample have the same revision and unlike values, even if a higher revision makes both
+ * of no account. It is told of the first correction that has such another before it, at
+ * its first word. With both numbers the place is one of the list.
+ *
+ * sheet_len bytes of output are always enough.
+ *
+ * Time. The library has no memory but what is lent, and looks for equal revisions in
+ * `output` before it writes there. The time grows in proportion to the sheet and to the
+ * list where there is room for that: sheet_len bytes for a list of at most half as many
+ * corrections as the sheet has words, and for every list sheet_len bytes and four more
+ * for each correction. With less it grows faster, and where `output` has no more words
+ * than the list has corrections, with the square of the list: each correction is
+ * compared with all before it. Few samples that are corrected very often take longer
+ * than many that are corrected once, as each correction is compared with the earlier
+ * ones of its own sample and of up to two others: some hundred steps at the most.
+ *
+ * judge() decides on the new sheet as on the old one: it is accepted, where as much is
+ * lent. If no sample moves by more than d, no margin does, and a verdict with a margin
+ * beyond d stays. If none is lowered, in a table without codes 2 and 3, no margin is,
+ * and no yes is lost.
+ */
+uint64_t correct_sheet(const uint8_t *sheet, size_t sheet_len, const uint8_t *corrections,
+                       size_t corrections_len, uint8_t *output, size_t output_len,
+                       uint8_t *result, size_t result_len);
 
 #ifdef __cplusplus
 }

@@ -2,13 +2,7 @@
 #ifndef FILES_H
 #define FILES_H
 
-#include <stddef.h>
-#include <stdint.h>
-
-struct bytes {
-    uint8_t *at;
-    size_t length;
-};
+#include "numbers.h"
 
 /* Takes so many bytes; gives 0 if there is no memory for them. */
 int take(struct bytes *bytes, size_t length);

@@ -4,26 +4,46 @@
 #include <stdlib.h>
 #include <string.h>
 
-const struct sheet NARROW_A = {
+const struct words NARROW_A = {
     {0x10201002, 0x20000001, 0x30000003, 0x40000005, 0x47FFFFFE, 0x40000001, 0x40000004,
      0x50100000, 0x80000000, 0x50900000, 0x60000000, 0x70000001, 0x50600000, 0x60000001,
      0x70000003, 0x50700800, 0x60000000, 0x70000003, 0xF0000012},
     19};
 
-const struct sheet WIDE_A = {
+const struct words WIDE_A = {
     {0xA0000002, 0x10001002, 0x20000001, 0x30000003, 0x40000005, 0x47FFFFFE, 0x40000001,
      0x40000004, 0x50100000, 0x80000000, 0x50900000, 0x60000000, 0x70000001, 0x50600000,
      0x60000001, 0x70000003, 0x50700800, 0x60000000, 0x70000003, 0xF0000013},
     20};
 
-size_t road_at(const struct sheet *sheet)
+void add_word(struct words *words, uint32_t kind, uint32_t payload)
 {
-    return sheet->words[0] >> 28 == 10 ? 2 : 1;
+    words->at[words->count++] = kind << 28 | payload;
 }
 
-struct sheet with_road_bits(struct sheet sheet, uint32_t bits)
+struct words row_of(uint32_t places, uint32_t signals, uint32_t times, int wide)
 {
-    sheet.words[road_at(&sheet)] |= bits;
+    struct words sheet = {{0}, 0};
+    if (wide)
+        add_word(&sheet, 10, places);
+    add_word(&sheet, 1, (wide ? 0 : places << 20) | signals << 12 | times);
+    add_word(&sheet, 2, (places - 2) << (wide ? 12 : 8) | (places - 1));
+    add_word(&sheet, 3, 1);
+    for (uint32_t sample = 0; sample < places * signals * times; sample++)
+        add_word(&sheet, 4, sample);
+    add_word(&sheet, 5, 0);
+    add_word(&sheet, 15, (uint32_t)sheet.count);
+    return sheet;
+}
+
+size_t road_at(const struct words *sheet)
+{
+    return sheet->at[0] >> 28 == 10 ? 2 : 1;
+}
+
+struct words with_road_bits(struct words sheet, uint32_t bits)
+{
+    sheet.at[road_at(&sheet)] |= bits;
     return sheet;
 }
 
@@ -55,17 +75,17 @@ void give_back_dirty(uint8_t *bytes)
     free(bytes - 1);
 }
 
-uint8_t byte_of(const struct sheet *sheet, size_t index, uint8_t behind)
+uint8_t byte_of(const struct words *words, size_t index, uint8_t behind)
 {
-    if (index >= 4 * sheet->count)
+    if (index >= 4 * words->count)
         return behind;
-    return (uint8_t)(sheet->words[index / 4] >> 8 * (index % 4));
+    return (uint8_t)(words->at[index / 4] >> 8 * (index % 4));
 }
 
-void lay_out(const struct sheet *sheet, uint8_t *bytes, size_t length)
+void lay_out(const struct words *words, uint8_t *bytes, size_t length)
 {
     for (size_t index = 0; index < length; index++)
-        bytes[index] = byte_of(sheet, index, dirt);
+        bytes[index] = byte_of(words, index, dirt);
 }
 
 int is_zero(const uint8_t *bytes, size_t length)

@@ -9,21 +9,28 @@
 #include <stddef.h>
 #include <stdint.h>
 
-enum { MOST_SHEET_WORDS = 72 };
+enum { MOST_WORDS = 72 };
 
-struct sheet {
-    uint32_t words[MOST_SHEET_WORDS];
+/* Those of a sheet or of a list. */
+struct words {
+    uint32_t at[MOST_WORDS];
     size_t count;
 };
 
+void add_word(struct words *words, uint32_t kind, uint32_t payload);
+
 /* Example A, and the same laid out wide, with a word more. */
-extern const struct sheet NARROW_A, WIDE_A;
+extern const struct words NARROW_A, WIDE_A;
+
+/* Places with a count of each signal at each time, and a line that is true. A road
+ * joins the last two, so that its word differs from layout to layout. */
+struct words row_of(uint32_t places, uint32_t signals, uint32_t times, int wide);
 
 /* Where the first word of the first road stands, in either layout. */
-size_t road_at(const struct sheet *sheet);
+size_t road_at(const struct words *sheet);
 
 /* A sheet whose first road has these bits as well. */
-struct sheet with_road_bits(struct sheet sheet, uint32_t bits);
+struct words with_road_bits(struct words sheet, uint32_t bits);
 
 /* What new buffers are filled with. */
 extern uint8_t dirt;
@@ -34,11 +41,11 @@ uint8_t *take_dirty(size_t length);
 /* Gives a buffer back, and demands that the byte before it was left alone. */
 void give_back_dirty(uint8_t *bytes);
 
-/* A byte of a sheet; `behind` past its last word. */
-uint8_t byte_of(const struct sheet *sheet, size_t index, uint8_t behind);
+/* A byte of these words; `behind` past the last of them. */
+uint8_t byte_of(const struct words *words, size_t index, uint8_t behind);
 
-/* Lays out as much of a sheet as there is room for. */
-void lay_out(const struct sheet *sheet, uint8_t *bytes, size_t length);
+/* Lays out as many of these words as there is room for, with dirt behind them. */
+void lay_out(const struct words *words, uint8_t *bytes, size_t length);
 
 int is_zero(const uint8_t *bytes, size_t length);
 

@@ -13,7 +13,7 @@ enum { MOST_DISTANCES_BYTES = 2 * TECUHUALMA_DISTANCES_BYTES };
 
 /* A sheet with what it needs and the first word of its answer. */
 struct layout {
-    const struct sheet *sheet;
+    const struct words *sheet;
     size_t distances, answer_words;
     uint32_t answer_begins;
 };
@@ -62,7 +62,7 @@ static struct left judged(struct lengths lent)
                         .answer = take_dirty(lent.answer),
                         .result = take_dirty(lent.result)};
     const struct example *example = lent.example;
-    const struct sheet sheet = with_road_bits(*example->layout->sheet, example->way->bits);
+    const struct words sheet = with_road_bits(*example->layout->sheet, example->way->bits);
     lay_out(&sheet, left.sheet, lent.sheet);
     left.number = judge(left.sheet, lent.sheet, left.distances, lent.distances, left.answer,
                         lent.answer, left.result, lent.result);

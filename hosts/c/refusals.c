@@ -61,22 +61,40 @@ static const struct refusal REFUSALS[] = {
         {"fewer words lent than are to be written", "lend as many as the header says are enough"},
     [TECUHUALMA_BYTE_LENGTHS] =
         {"a length in bytes cannot be",
-         "look whether the file was cut off; a sheet has four bytes for each word"},
+         "look whether a file was cut off; sheets and lists have four bytes for each word"},
     [TECUHUALMA_WIDE_HEAD] =
         {"a wide sheet's places are outside their limits, or no head without places follows",
          "write 1 to 1,024 places into the kind 10 word, then a kind 1 word without places"},
     [TECUHUALMA_MANY_PLACES] =
         {"the sheet has more than 64 places, which a narrow one cannot",
          "leave it wide, or write a sheet of fewer places"},
+    [TECUHUALMA_CORRECTION] =
+        {"a correction is ill-formed, cut off, or of a sample that the sheet does not have",
+         "write three words of kinds 11, 12 and 4, with a revision of 1 to 255 and a signal, a "
+         "time and a place that the sheet has, counted from 0"},
+    [TECUHUALMA_CORRECTIONS_CLASH] =
+        {"a correction has the sample and the revision of an earlier one, but another value",
+         "find out which of the two is right, and leave the other out or give the right one a "
+         "higher revision"},
 };
 
 enum { AFTER_LAST = sizeof REFUSALS / sizeof REFUSALS[0] };
 
-/* Whether the place is that of a word, which is at fault or missing. */
-static int is_at_word(uint64_t number)
+/* In what the place is that of a word, at fault or missing; NULL if it is of none. */
+static const char *placed_in(uint64_t number)
 {
-    return number != TECUHUALMA_FEW_DISTANCES && number != TECUHUALMA_SHORT_ANSWER &&
-           number != TECUHUALMA_BYTE_LENGTHS && number != TECUHUALMA_MANY_PLACES;
+    switch (number) {
+    case TECUHUALMA_FEW_DISTANCES:
+    case TECUHUALMA_SHORT_ANSWER:
+    case TECUHUALMA_BYTE_LENGTHS:
+    case TECUHUALMA_MANY_PLACES:
+        return NULL;
+    case TECUHUALMA_CORRECTION:
+    case TECUHUALMA_CORRECTIONS_CLASH:
+        return "list of corrections";
+    default:
+        return "sheet";
+    }
 }
 
 /* A later library may know numbers that this program does not. */
@@ -86,9 +104,10 @@ void print_refusal(uint64_t number, uint64_t place)
         printf("refused: number %" PRIu64 ", which SHEETS.md explains\n", number);
         return;
     }
+    const char *in = placed_in(number);
     printf("refused");
-    if (is_at_word(number))
-        printf(" at word %" PRIu64 ", counted from 0", place);
+    if (in != NULL)
+        printf(" at word %" PRIu64 " of the %s, counted from 0", place, in);
     printf(": %s\n", REFUSALS[number].wrong);
     printf("to do: %s\n", REFUSALS[number].to_do);
 }

@@ -4,6 +4,7 @@
  *
  *     sheet_tools to-wide IN OUT
  *     sheet_tools to-narrow IN OUT
+ *     sheet_tools correct IN CORRECTIONS OUT
  *
  * Ends with 0 if the sheet is written, 1 if the tool refused it, 2 if a file could
  * not be read or written, or what came of it not be told. OUT is opened only when
@@ -19,60 +20,54 @@
 #include "numbers.h"
 #include "refusals.h"
 #include "tecuhualma.h"
+#include "tools.h"
 
 enum { WRITTEN = 0, REFUSED = 1, FAILED = 2 };
 
-typedef uint64_t tool_call(const uint8_t *sheet, size_t sheet_len, uint8_t *output,
-                           size_t output_len, uint8_t *result, size_t result_len);
-
-struct tool {
-    const char *word; /* by which it is asked for */
-    tool_call *call;
+/* What can be asked for. */
+struct offer {
+    const char *word;  /* by which it is asked for */
+    const char *reads; /* what the usage calls its inputs, the sheet first */
     const char *writes;
+    const struct tool *tool;
 };
 
-static const struct tool TOOLS[] = {
-    {"to-wide", sheet_to_wide, "the sheet in the wide layout"},
-    {"to-narrow", sheet_to_narrow, "the sheet in the narrow layout"},
+static const struct offer OFFERS[] = {
+    {"to-wide", "IN", "the sheet in the wide layout", &TO_WIDE},
+    {"to-narrow", "IN", "the sheet in the narrow layout", &TO_NARROW},
+    {"correct", "IN CORRECTIONS", "the sheet as corrected", &CORRECT},
 };
 
-enum { TOOL_COUNT = sizeof TOOLS / sizeof TOOLS[0] };
-
-/* A sheet with the buffers that are lent for it. */
-struct job {
-    struct bytes sheet;
-    struct bytes output;
-    uint8_t result[TECUHUALMA_TOOL_RESULT_BYTES];
-};
+enum { OFFER_COUNT = sizeof OFFERS / sizeof OFFERS[0] };
 
 /* ---- Running a tool ---- */
 
-static uint64_t result_of(const struct job *job, enum tecuhualma_result index)
+static uint64_t result_of(const struct call *call, enum tecuhualma_result index)
 {
-    return number_at(job->result + 8 * (size_t)index, 8);
+    return number_at(call->result.at + 8 * (size_t)index, 8);
 }
 
-/* Takes what is to be lent, a word more than the sheet has: no tool here writes
- * more. Gives 0 if there is no memory for it. */
-static int lend(struct job *job)
+/*
+ * Takes what is to be lent: a word more than the sheet has, as no tool here writes
+ * more, and a word for each correction, so that a long list does not take long.
+ * Gives 0 if there is no memory for it.
+ */
+static int lend(struct call *call)
 {
-    size_t words = job->sheet.length / TECUHUALMA_WORD_BYTES + 1;
-    return take(&job->output, words * TECUHUALMA_WORD_BYTES);
+    size_t sheet = call->inputs[0].length / TECUHUALMA_WORD_BYTES;
+    size_t list = call->inputs[1].length / TECUHUALMA_WORD_BYTES;
+    size_t words = sheet + 1 + list / TECUHUALMA_CORRECTION_WORDS;
+    return take(&call->output, words * TECUHUALMA_WORD_BYTES);
 }
 
-static uint64_t run(const struct tool *tool, struct job *job)
+static void give_back(struct call *call)
 {
-    return tool->call(job->sheet.at, job->sheet.length, job->output.at, job->output.length,
-                      job->result, sizeof job->result);
+    for (size_t index = 0; index < MOST_INPUTS; index++)
+        free(call->inputs[index].at);
+    free(call->output.at);
 }
 
-static void give_back(struct job *job)
-{
-    free(job->sheet.at);
-    free(job->output.at);
-}
-
-/* ---- From file to file ---- */
+/* ---- From files to a file ---- */
 
 static int failed(const char *path, const char *why)
 {
@@ -80,69 +75,78 @@ static int failed(const char *path, const char *why)
     return FAILED;
 }
 
-static void print_result(const struct job *job)
+static void print_result(const struct call *call)
 {
     printf("number %" PRIu64 ", place %" PRIu64 ", words %" PRIu64 "\n",
-           result_of(job, TECUHUALMA_NUMBER), result_of(job, TECUHUALMA_PLACE),
-           result_of(job, TECUHUALMA_WORDS));
+           result_of(call, TECUHUALMA_NUMBER), result_of(call, TECUHUALMA_PLACE),
+           result_of(call, TECUHUALMA_WORDS));
 }
 
-/* Reads, runs, writes and tells; gives what the program is to end with. */
-static int run_into(struct job *job, const struct tool *tool, const char *in, const char *out)
+/* Reads, runs, writes and tells; gives what the program is to end with. The paths are
+ * those of the inputs and of the output. */
+static int run_into(struct call *call, const struct offer *offer, char *const *paths)
 {
-    if (!read_file(in, &job->sheet))
-        return failed(in, " cannot be read");
-    if (!lend(job))
-        return failed(in, ": out of memory");
-    uint64_t number = run(tool, job);
+    size_t inputs = input_count(offer->tool);
+    for (size_t index = 0; index < inputs; index++) {
+        if (!read_file(paths[index], &call->inputs[index]))
+            return failed(paths[index], " cannot be read");
+    }
+    if (!lend(call))
+        return failed(paths[0], ": out of memory");
+    uint64_t number = call_tool(offer->tool, call);
     if (number != TECUHUALMA_ACCEPTED) {
-        print_result(job);
-        print_refusal(number, result_of(job, TECUHUALMA_PLACE));
+        print_result(call);
+        print_refusal(number, result_of(call, TECUHUALMA_PLACE));
         return REFUSED;
     }
-    size_t words = (size_t)result_of(job, TECUHUALMA_WORDS);
-    struct bytes written = {job->output.at, words * TECUHUALMA_WORD_BYTES};
-    if (!write_file(out, written))
-        return failed(out, " cannot be written");
-    print_result(job);
-    printf("written: %s\n", tool->writes);
+    size_t words = (size_t)result_of(call, TECUHUALMA_WORDS);
+    struct bytes written = {call->output.at, words * TECUHUALMA_WORD_BYTES};
+    if (!write_file(paths[inputs], written))
+        return failed(paths[inputs], " cannot be written");
+    print_result(call);
+    printf("written: %s\n", offer->writes);
     return WRITTEN;
 }
 
-/* Runs a tool on one file; whatever comes of it, what was taken is given back. */
-static int run_on_files(const struct tool *tool, const char *in, const char *out)
+/* Runs a tool on files; whatever comes of it, what was taken is given back. */
+static int run_on_files(const struct offer *offer, char *const *paths)
 {
-    struct job job = {0};
-    int ended = run_into(&job, tool, in, out);
-    give_back(&job);
+    uint8_t result[TECUHUALMA_TOOL_RESULT_BYTES];
+    struct call call = {.result = {result, sizeof result}};
+    int ended = run_into(&call, offer, paths);
+    give_back(&call);
     return ended;
 }
 
 /* ---- The command line ---- */
 
-static const struct tool *tool_of(const char *word)
+/* By its word, with as many files behind it as it reads, and one to write. */
+static const struct offer *offer_of(int count, char *const *arguments)
 {
-    for (size_t index = 0; index < TOOL_COUNT; index++) {
-        if (strcmp(TOOLS[index].word, word) == 0)
-            return &TOOLS[index];
+    for (size_t index = 0; count > 1 && index < OFFER_COUNT; index++) {
+        const struct offer *offer = &OFFERS[index];
+        size_t asked = 3 + input_count(offer->tool);
+        if (strcmp(offer->word, arguments[1]) == 0 && (size_t)count == asked)
+            return offer;
     }
     return NULL;
 }
 
 static void print_usage(const char *program)
 {
-    for (size_t index = 0; index < TOOL_COUNT; index++)
-        fprintf(stderr, "usage: %s %s IN OUT\n", program, TOOLS[index].word);
+    for (size_t index = 0; index < OFFER_COUNT; index++)
+        fprintf(stderr, "usage: %s %s %s OUT\n", program, OFFERS[index].word,
+                OFFERS[index].reads);
 }
 
 int main(int count, char **arguments)
 {
-    const struct tool *tool = count == 4 ? tool_of(arguments[1]) : NULL;
-    if (tool == NULL) {
+    const struct offer *offer = offer_of(count, arguments);
+    if (offer == NULL) {
         print_usage(arguments[0]);
         return FAILED;
     }
-    int status = run_on_files(tool, arguments[2], arguments[3]);
+    int status = run_on_files(offer, arguments + 2);
     if (!all_printed())
         return failed("what came of it", " cannot be told");
     return status;
