@@ -1,9 +1,9 @@
 -- Chains through lent words: there are none at first, one correction more goes to the front of its chain, and the links of a chain lead through all candidates.
-use mathlib.Core.Path.{_≡_, refl, sym, ap, subst, _∙_}
+use mathlib.Core.Path.{_≡_, refl, sym, ap, ap₂, subst, _∙_}
 use mathlib.Core.Logic.{_⊎_, inl, inr, ⊎-elim}
 use mathlib.Core.Bool.{Bool, true, false, cond, _||_}
 use mathlib.Core.List.{List}
-use Prim.Native.Nat.{ℕ, zero, suc, _+_, _%_, _<_, _≤_}
+use Prim.Native.Nat.{ℕ, zero, suc, _+_, _*_, _%_, _<_}
 use native.Mathlib.Nat.{mod-lt}
 use native.Mathlib.Decide.{ℕ-discrete}
 use native.Mathlib.Omega.{arith}
@@ -16,15 +16,21 @@ use Rattle.words.proofs.Zeros.{zero-at}
 use Rattle.checks.specs.Checked.{wordAt}
 use Rattle.checks.proofs.Tests.{equal}
 use Rattle.corrections.specs.declared.correction.Grid.{Grid}
-use Rattle.corrections.specs.Corrections.{target, sameRevision}
-use Rattle.corrections.specs.Chains.{lastBelow, inChain, candidate, Chained, earlier}
+use Rattle.corrections.specs.Corrections.{revision, target, sameRevision}
+use Rattle.corrections.specs.Chains.{lastBelow, spread, chainOf, inChain, candidate, Chained, earlier}
 use Rattle.corrections.proofs.LastBelow.{last-more, last-same}
 use Rattle.corrections.proofs.Disagreeing.{same-told}
 
 module _ (c : List ℕ) (g : Grid) where
+  -- there are as many chains as heads
+  pub chain-inside : (heads k : ℕ) → (heads ≡ 0 → ⊥) → chainOf c g heads k < heads
+  chain-inside heads k some = mod-lt (target c g k + revision c k * spread) (omega arith)
+
   -- ---- candidates
   pub same-candidate : (heads i k : ℕ) → T (sameRevision c g i k) → T (candidate c g heads k i)
-  same-candidate heads i k same = or-r (eqb heads 0) _ (equal (target c g i % heads) (target c g k % heads) (ap (λ (t : ℕ). t % heads) (same-told c g i k same .0)))
+  same-candidate heads i k same =
+      let told = same-told c g i k same in
+      or-r (eqb heads 0) _ (equal (chainOf c g heads i) (chainOf c g heads k) (ap₂ (λ (t r : ℕ). (t + r * spread) % heads) (told .0) (told .1)))
 
   -- without heads all are, with heads those of one chain
   all-candidates : (heads k n : ℕ) → heads ≡ 0 → lastBelow (candidate c g heads k) n ≡ n
@@ -32,13 +38,13 @@ module _ (c : List ℕ) (g : Grid) where
   all-candidates heads k zero none = refl
   all-candidates heads k (suc n) none = rw none refl
 
-  chain-candidates : (heads k n : ℕ) → (heads ≡ 0 → ⊥) → lastBelow (candidate c g heads k) n ≡ lastBelow (inChain c g heads (target c g k % heads)) n
+  chain-candidates : (heads k n : ℕ) → (heads ≡ 0 → ⊥) → lastBelow (candidate c g heads k) n ≡ lastBelow (inChain c g heads (chainOf c g heads k)) n
   chain-candidates heads k n some = last-same _ _ n (λ i l. rw (ne-eqb heads 0 some) refl)
 
   module _ (heads : ℕ) (links : List ℕ) (n : ℕ) (chained : Chained c g heads links n) where
     -- the last candidate of all, by its head, and the candidate before one, by its link
-    pub head-last : (k : ℕ) → (heads ≡ 0 → ⊥) → wordAt links (target c g k % heads) ≡ lastBelow (candidate c g heads k) n
-    head-last k some = chained .headed (target c g k % heads) (mod-lt (target c g k) (omega arith)) ∙ sym (chain-candidates heads k n some)
+    pub head-last : (k : ℕ) → (heads ≡ 0 → ⊥) → wordAt links (chainOf c g heads k) ≡ lastBelow (candidate c g heads k) n
+    head-last k some = chained .headed (chainOf c g heads k) (chain-inside heads k some) ∙ sym (chain-candidates heads k n some)
 
     pub link-earlier : (i k : ℕ) → i < n → T (candidate c g heads k i) → earlier heads links i ≡ lastBelow (candidate c g heads k) i
     link-earlier i k l h = by (ℕ-discrete heads 0)
@@ -46,8 +52,8 @@ module _ (c : List ℕ) (g : Grid) where
         by : Dec (heads ≡ 0) → earlier heads links i ≡ lastBelow (candidate c g heads k) i
         by (yes none) = rw (eq-eqb heads 0 none) (sym (all-candidates heads k i none))
         by (no some) =
-            let met : T (inChain c g heads (target c g k % heads) i) = ⊎-elim (λ z. absurd (subst T (ne-eqb heads 0 some) z)) (λ x. x) (or-e (eqb heads 0) _ h) in
-            let same : target c g i % heads ≡ target c g k % heads = eqb-true _ _ (holds _ met) in
+            let met : T (inChain c g heads (chainOf c g heads k) i) = ⊎-elim (λ z. absurd (subst T (ne-eqb heads 0 some) z)) (λ x. x) (or-e (eqb heads 0) _ h) in
+            let same : chainOf c g heads i ≡ chainOf c g heads k = eqb-true _ _ (holds _ met) in
             rw (ne-eqb heads 0 some) (chained .linked i l (omega arith) ∙ ap (λ (b : ℕ). lastBelow (inChain c g heads b) i) same ∙ sym (chain-candidates heads k i some))
 
   pub first-candidate : (heads k : ℕ) → heads ≡ 0 → k ≡ lastBelow (candidate c g heads k) k
@@ -63,13 +69,13 @@ module _ (c : List ℕ) (g : Grid) where
 
   module _ (heads : ℕ) (links : List ℕ) (k : ℕ) (chained : Chained c g heads links k) (some : heads ≡ 0 → ⊥) (room : heads + k < length links) where
     abbrev front : ℕ
-    front = target c g k % heads
+    front = chainOf c g heads k
 
     abbrev withLink : List ℕ
     withLink = set links (heads + k) (wordAt links front)
 
     front-inside : front < heads
-    front-inside = mod-lt (target c g k) (omega arith)
+    front-inside = chain-inside heads k some
 
     headed-more : (b : ℕ) → b < heads → wordAt (set withLink front (k + 1)) b ≡ lastBelow (inChain c g heads b) (k + 1)
     headed-more b l = by (ℕ-discrete front b)
@@ -84,10 +90,10 @@ module _ (c : List ℕ) (g : Grid) where
             ∙ chained .headed b l
             ∙ sym (last-more (inChain c g heads b) k ∙ rw (ne-eqb front b e) refl)
 
-    linked-more : (i : ℕ) → i < k + 1 → wordAt (set withLink front (k + 1)) (heads + i) ≡ lastBelow (inChain c g heads (target c g i % heads)) i
+    linked-more : (i : ℕ) → i < k + 1 → wordAt (set withLink front (k + 1)) (heads + i) ≡ lastBelow (inChain c g heads (chainOf c g heads i)) i
     linked-more i l = getD-set-other withLink front (heads + i) (k + 1) 0 (λ q. omega (arith, front-inside)) ∙ by (ℕ-discrete i k)
       where
-        by : Dec (i ≡ k) → wordAt withLink (heads + i) ≡ lastBelow (inChain c g heads (target c g i % heads)) i
+        by : Dec (i ≡ k) → wordAt withLink (heads + i) ≡ lastBelow (inChain c g heads (chainOf c g heads i)) i
         by (yes e) = rw e (getD-set-same links (heads + k) (wordAt links front) 0 room ∙ chained .headed front front-inside)
         by (no e) = getD-set-other links (heads + k) (heads + i) (wordAt links front) 0 (λ q. e (omega arith)) ∙ chained .linked i (omega arith) (omega arith)
 

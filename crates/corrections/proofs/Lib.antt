@@ -1,4 +1,5 @@
 pub mod Turns
+pub mod Small
 pub mod Aiming
 pub mod Disagreeing
 pub mod LastBelow

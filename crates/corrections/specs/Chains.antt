@@ -1,7 +1,7 @@
 -- For contracts alone: how earlier corrections of a sample are found without going through all of them. The lent words hold chains: first so many heads, one for
--- each remainder of a target, then a link for each correction. A head tells the last correction of its remainder, and a link the last one before its
+-- each chain, then a link for each correction. A head tells the last correction of its chain, and a link the last one before its
 -- correction, each by one more than its number, 0 for none. Without heads every earlier correction is a candidate.
-use Prim.Native.Nat.{ℕ, zero, suc, _+_, _%_, _<_, _≤_, _^_}
+use Prim.Native.Nat.{ℕ, zero, suc, _+_, _*_, _%_, _<_, _≤_, _^_}
 use mathlib.Core.Path.{_≡_}
 use mathlib.Core.Bool.{Bool, false, cond, _||_}
 use mathlib.Core.List.{List}
@@ -9,7 +9,7 @@ use lib.Dec.{eqb}
 use lib.ListN.{length}
 use Rattle.checks.specs.Checked.{wordAt}
 use Rattle.corrections.specs.declared.correction.Grid.{Grid}
-use Rattle.corrections.specs.Corrections.{target, disagreesWith}
+use Rattle.corrections.specs.Corrections.{revision, target, disagreesWith}
 use Rattle.corrections.specs.Aimed.{GridFits, AllAimed}
 
 -- one more than the last number below n that passes, 0 for none
@@ -17,19 +17,26 @@ unfoldable pub lastBelow : (ℕ → Bool) → ℕ → ℕ
 lastBelow test zero = 0
 lastBelow test (suc n) = cond (test n) (suc n) (lastBelow test n)
 
-module _ (c : List ℕ) (g : Grid) (heads : ℕ) where
-  -- correction i stands in the chain of this remainder
-  abbrev pub inChain : ℕ → ℕ → Bool
-  inChain remainder i = eqb (target c g i % heads) remainder
+-- How far the chains of one revision and of the next lie apart. Any number would do; this one keeps revisions of neighbouring samples out of one chain.
+abbrev pub spread : ℕ
+spread = 65537
 
-  -- correction i is a candidate for k: all of one sample are
+module _ (c : List ℕ) (g : Grid) (heads : ℕ) where
+  -- the chain of a correction, by its sample and its revision
+  abbrev pub chainOf : ℕ → ℕ
+  chainOf i = (target c g i + revision c i * spread) % heads
+
+  abbrev pub inChain : ℕ → ℕ → Bool
+  inChain chain i = eqb (chainOf i) chain
+
+  -- correction i is a candidate for k: all of one sample and revision are
   abbrev pub candidate : ℕ → ℕ → Bool
-  candidate k i = eqb heads 0 || inChain (target c g k % heads) i
+  candidate k i = eqb heads 0 || inChain (chainOf k) i
 
   -- the chains of the first n corrections
   pub record Chained (links : List ℕ) (n : ℕ) : Type 0 where
     pub headed : (b : ℕ) → b < heads → wordAt links b ≡ lastBelow (inChain b) n
-    pub linked : (i : ℕ) → i < n → 0 < heads → wordAt links (heads + i) ≡ lastBelow (inChain (target c g i % heads)) i
+    pub linked : (i : ℕ) → i < n → 0 < heads → wordAt links (heads + i) ≡ lastBelow (inChain (chainOf i)) i
 
 -- where there are heads, there is a link for each correction, and its number fits a word
 abbrev pub HeadsFit : (heads count room : ℕ) → Type 0

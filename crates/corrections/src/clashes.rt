@@ -1,22 +1,26 @@
 // Two corrections of one sample with equal revision and unlike values: 20. Each correction is compared with the last one before it that has its sample and
-// its revision: those before that one agree with it, or they would have been found. Chains through lent words lead from a correction to the earlier ones
-// whose targets leave the same remainder, so that few others are looked at; where there is no room for them, every earlier one is.
+// its revision: those before that one agree with it, or they would have been found. Chains through lent words lead from a correction to earlier ones, all of
+// its sample and revision among them and few others; where there is no room for chains, every earlier one is looked at.
 use crate::correction::Found;
 use crate::correction::Grid;
 use crate::correction::first_at;
+use crate::correction::revision_at;
 use crate::correction::second_at;
 use crate::correction::target_at;
 use crate::correction::value_at;
 ghost use mathlib.Core.Path.{_≡_};
-ghost use Prim.Native.Nat.{_+_, _<_};
+ghost use Prim.Native.Nat.{_+_, _*_, _<_};
 ghost use lib.ListN.{length, replicate};
 ghost use Rattle.words.specs.Bytes.{wordsOf};
 ghost use Rattle.corrections.specs.Corrections.{sameRevision, disagreesWith, agrees, inTurn};
 ghost use Rattle.corrections.specs.Aimed.{foundSaid, GridFits, AllAimed};
-ghost use Rattle.corrections.specs.Chains.{lastBelow, candidate, earlier, Chained, HeadsFit, Next};
+ghost use Rattle.corrections.specs.Chains.{lastBelow, chainOf, candidate, earlier, Chained, HeadsFit, Next};
 
 // The most corrections that words can number.
 const MOST_LINKED: usize = 4294967295;
+
+// How far the chains of one revision and of the next lie apart.
+const SPREAD: usize = 65537;
 
 // How many heads there is room for beside a link for each correction.
 fn heads_for(count: usize, room: usize) -> usize
@@ -42,6 +46,14 @@ fn same_revision(list: &[u8], grid: Grid, i: usize, k: usize) -> bool
     second_at(list, i) == second_at(list, k)
 }
 
+// The chain of a correction, by its sample and its revision.
+fn chain_of(list: &[u8], grid: Grid, heads: usize, k: usize) -> usize
+    requires { ⌜ (k * 3 + 2 < length (wordsOf (now list))) × GridFits grid × (0 < heads) ⌝ }
+    ensures { λ r. ⌜ r ≡ chainOf (wordsOf (now (list .entry))) grid heads k ⌝ }
+{
+    (target_at(list, k, grid) + revision_at(list, k) as usize * SPREAD) % heads
+}
+
 // The last candidate before a correction, by one more than its number, 0 for none.
 fn last_candidate(list: &[u8], grid: Grid, links: &[u8], heads: usize, k: usize) -> usize
     requires { ⌜ Next (wordsOf (now list)) grid heads (wordsOf (now links)) k ⌝ }
@@ -50,7 +62,7 @@ fn last_candidate(list: &[u8], grid: Grid, links: &[u8], heads: usize, k: usize)
     if heads == 0 {
         return k;
     }
-    words::word_at(links, target_at(list, k, grid) % heads) as usize
+    words::word_at(links, chain_of(list, grid, heads, k)) as usize
 }
 
 // The candidate before one, in the same way.
@@ -88,7 +100,7 @@ fn enter(list: &[u8], grid: Grid, links: &mut [u8], heads: usize, k: usize)
     if heads == 0 {
         return;
     }
-    let head = target_at(list, k, grid) % heads;
+    let head = chain_of(list, grid, heads, k);
     let last = words::word_at(links, head);
     words::put_word(links, heads + k, last);
     words::put_word(links, head, (k + 1) as u32);

@@ -1,8 +1,7 @@
 -- The link takes what the head said, and the head the correction: `entered`.
-use mathlib.Core.Path.{_≡_, sym, ap, ap₂, subst, _∙_}
+use mathlib.Core.Path.{sym, ap, ap₂, subst, _∙_}
 use mathlib.Core.List.{List}
-use Prim.Native.Nat.{ℕ, _+_, _%_, _<_, _^_}
-use native.Mathlib.Nat.{mod-lt}
+use Prim.Native.Nat.{ℕ, _+_, _<_, _^_}
 use native.Mathlib.Omega.{arith}
 use borrow.Author.Needs.{needs}
 use lib.ListN.{length, set}
@@ -10,28 +9,30 @@ use Rattle.words.specs.Bytes.{wordsOf}
 use Rattle.words.proofs.Words.{words-count}
 use Rattle.checks.specs.Checked.{wordAt}
 use Rattle.corrections.specs.Chains.{Chained}
-use Rattle.corrections.proofs.Chaining.{without-heads, entered}
+use Rattle.corrections.proofs.Chaining.{chain-inside, without-heads, entered}
 use Rattle.corrections.proofs.clashes.enter.Statement.{statement}
 use Rattle.corrections.proofs.clashes.enter.Tie as tie
 
 returns : tie.Need-returns
 returns c = let g = c .before .before .before .args in without-heads (wordsOf (g .list .now)) (g .grid) (g .heads) (wordsOf (g .links .now)) (g .k + 1) (c .if1 .taken)
 
-target-at-requires : tie.Need-target-at-requires
-target-at-requires c κs = let next = c .before .before .before .pre in (next .aimed (c .before .before .before .args .k) (omega arith) .there, next .fits)
-
-front-less : (t heads : ℕ) → (heads ≡ 0 → ⊥) → t % heads < heads
-front-less t heads some = mod-lt t (omega arith)
+chain-of-requires : tie.Need-chain-of-requires
+chain-of-requires c κs = let next = c .before .before .before .pre in (next .aimed (c .before .before .before .args .k) (omega arith) .there, next .fits, omega arith)
 
 -- ---- there are heads, and a link for each correction
 heads-room : (c : tie.Else1) → (c .before .before .before .args .heads + c .before .before .before .args .k < length (wordsOf (c .before .before .before .args .links .now))) × (c .before .before .before .args .k + 1 < 2 ^ 32)
 heads-room c = let room = c .before .before .before .pre .room (omega arith) in (omega (arith, room .0), room .1)
 
+-- the head of the chain is one of them
+head-inside : (c : tie.After-chain-of) → c .chain-of .result < c .before .before .before .before .args .heads
+head-inside c =
+    let g = c .before .before .before .before .args in
+    omega (arith, c .chain-of .ensures, chain-inside (wordsOf (g .list .now)) (g .grid) (g .heads) (g .k) (c .before .if1 .left))
+
 word-at-requires : tie.Need-word-at-requires
 word-at-requires c κs =
-    let start = c .before .before .before .before .before in
-    let inside : c .before .target-at .result % start .args .heads < length (wordsOf (start .args .links .now)) =
-    omega (arith, heads-room (c .before .before) .0, front-less (c .before .target-at .result) (start .args .heads) (c .before .before .if1 .left)) in
+    let inside : c .before .chain-of .result < length (wordsOf (c .before .before .before .before .before .args .links .now)) =
+    omega (arith, heads-room (c .before .before) .0, head-inside (c .before)) in
     inside
 
 add-put-word : tie.Need-add-put-word
@@ -49,30 +50,31 @@ cast-put-word c = omega (arith, heads-room (c .before .before .before .before .b
 put-word-requires-2 : tie.Need-put-word-requires-2
 put-word-requires-2 c κs =
     let start = c .before .before .before .before .before .before .before .before .before .before .before in
-    let at = c .before .before .before .before .before .before .before .target-at .result in
     let first = c .before .before .before .put-word in
-    let inside : at % start .args .heads < length (wordsOf (first .last .0)) =
-    omega (arith, heads-room (c .before .before .before .before .before .before .before .before) .0, front-less at (start .args .heads) (c .before .before .before .before .before .before .before .before .if1 .left), first .kept .0, words-count (first .last .0), words-count (start .args .links .now)) in
+    let head = c .before .before .before .before .before .before .before in
+    let inside : head .chain-of .result < length (wordsOf (first .last .0)) =
+    omega (arith, heads-room (head .before) .0, head-inside head, first .kept .0, words-count (first .last .0), words-count (start .args .links .now)) in
     inside
 
 returns-2 : tie.Need-returns-2
 returns-2 c =
-    let start = c .before .before .before .before .before .before .before .before .before .before .before .before .before .before in
+    let head = c .before .before .before .before .before .before .before .before .before .before in
+    let start = head .before .before .before .before in
     let list = wordsOf (start .args .list .now) in
     let links = wordsOf (start .args .links .now) in
-    let at = c .before .before .before .before .before .before .before .before .before .before .target-at .ensures in
-    let last = c .before .before .before .before .before .before .before .before .word-at .ensures ∙ ap (λ (t : ℕ). wordAt links (t % start .args .heads)) at in
-    let stored = c .before .before .put-word2 .ensures .0 ∙ ap₂ (λ w (t : ℕ). set w (t % start .args .heads) (start .args .k + 1)) (c .before .before .before .before .before .before .put-word .ensures .0 ∙ ap (set links (start .args .heads + start .args .k)) last) at in
+    let at = head .chain-of .ensures in
+    let last = c .before .before .before .before .before .before .before .before .word-at .ensures ∙ ap (wordAt links) at in
+    let stored = c .before .before .put-word2 .ensures .0
+    ∙ ap₂ (λ w (front : ℕ). set w front (start .args .k + 1)) (c .before .before .before .before .before .before .put-word .ensures .0 ∙ ap (set links (start .args .heads + start .args .k)) last) at in
     subst (λ (w : List ℕ). Chained list (start .args .grid) (start .args .heads) w (start .args .k + 1)) (sym stored)
-    (entered list (start .args .grid) (start .args .heads) links (start .args .k) (start .pre .chained) (c .before .before .before .before .before .before .before .before .before .before .before .if1 .left) (heads-room (c .before .before .before .before .before .before .before .before .before .before .before) .0))
+    (entered list (start .args .grid) (start .args .heads) links (start .args .k) (start .pre .chained) (head .before .if1 .left) (heads-room (head .before) .0))
 
 pub enter-spec : {M : Type 1} → statement M
 enter-spec =
     tie.close
     (tie.spec
     returns
-    target-at-requires
-    (λ c. search needs)
+    chain-of-requires
     word-at-requires
     add-put-word
     put-word-requires

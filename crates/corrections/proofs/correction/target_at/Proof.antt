@@ -1,9 +1,10 @@
--- Fields of a word and the limits of a sheet are small, and so are their products.
+-- What is read of a correction is small, by `Small`.
 use Prim.Native.Nat.{ℕ, _+_, _*_, _%_, _<_, _≤_, _^_}
-use native.Mathlib.Nat.{div-one, mul-le-mul}
+use native.Mathlib.Nat.{div-one}
 use native.Mathlib.Omega.{arith}
 use borrow.Author.Needs.{needs}
 use Rattle.corrections.specs.declared.correction.Grid.{Grid}
+use Rattle.corrections.proofs.Small.{row-small, cells-small}
 use Rattle.corrections.proofs.correction.target_at.Statement.{statement}
 use Rattle.corrections.proofs.correction.target_at.Tie as tie
 
@@ -15,26 +16,26 @@ module _ (c : tie.After-second-at) where
   abbrev row : ℕ
   row = c .before .first-at .result % 4096 * grid .places + c .second-at .result % 65536
 
-  row-small : row < 2 ^ 23
-  row-small = omega (arith, mul-le-mul {n₁ = c .before .first-at .result % 4096} {n₂ = 4095} (omega arith) (c .before .before .before .pre .1 .few-places))
+  row-read : row < 2 ^ 23
+  row-read = row-small grid (c .before .before .before .pre .1) (c .before .first-at .result % 4096) (c .second-at .result % 65536) (omega arith) (omega arith)
 
-  cells-small : row * grid .signals ≤ 2 ^ 27
-  cells-small = mul-le-mul {n₂ = 2 ^ 23} (omega (arith, row-small)) (c .before .before .before .pre .1 .few-signals)
+  cells-read : row * grid .signals ≤ 2 ^ 27
+  cells-read = cells-small grid (c .before .before .before .pre .1) row row-read
 
 mul-row : tie.Need-mul-row
-mul-row c = omega (arith, row-small (c .before))
+mul-row c = omega (arith, row-read (c .before))
 
 add-row : tie.Need-add-row
-add-row c = omega (arith, row-small (c .before))
+add-row c = omega (arith, row-read (c .before))
 
 mul-result : tie.Need-mul-result
-mul-result c = omega (arith, cells-small (c .before .before))
+mul-result c = omega (arith, cells-read (c .before .before))
 
 add-result : tie.Need-add-result
-add-result c = omega (arith, cells-small (c .before .before))
+add-result c = omega (arith, cells-read (c .before .before))
 
 add-result-2 : tie.Need-add-result-2
-add-result-2 c = omega (arith, cells-small (c .before .before .before))
+add-result-2 c = omega (arith, cells-read (c .before .before .before))
 
 returns : tie.Need-returns
 returns c =
