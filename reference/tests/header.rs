@@ -2,6 +2,7 @@
 
 use reference::answer;
 use reference::builder::SheetBuilder;
+use reference::correct::WORDS_PER_CORRECTION;
 use reference::judge::{BYTES_PER_DISTANCE, RESULT_BYTES};
 use reference::layout::{
     Layout, DISTANCE_ENTRIES, ENOUGH_DISTANCES, MOST_PLACES, MOST_WIDE_PLACES,
@@ -38,6 +39,7 @@ fn limits_and_lengths() {
     assert_eq!(number("DISTANCES"), DISTANCE_ENTRIES);
     assert_eq!(number("RESULT_BYTES"), RESULT_BYTES);
     assert_eq!(number("TOOL_RESULT_BYTES"), tool::RESULT_BYTES);
+    assert_eq!(number("CORRECTION_WORDS"), WORDS_PER_CORRECTION);
 }
 
 #[test]

@@ -4,6 +4,7 @@ mod common;
 
 use common::*;
 use reference::fast::Fast;
+use reference::generate::tools::Given;
 use reference::judge::{Outcome, BYTES_PER_DISTANCE};
 use reference::layout::Layout;
 use reference::page;
@@ -11,7 +12,9 @@ use reference::print::print;
 use reference::road::Direction;
 use reference::sheet::LAST_CODE;
 use reference::words;
-use reference::worked::{AFTER_RAISING, BEFORE_RAISING, ONE_WAY, WIDE_A};
+use reference::worked::{
+    AFTER_RAISING, A_CORRECTED, BEFORE_RAISING, CORRECTIONS_OF_A, ONE_WAY, WIDE_A,
+};
 
 fn printed(words: &[u32]) -> String {
     print::<Fast>(&words::to_bytes(words))
@@ -172,10 +175,38 @@ fn all_sheets_are_listed() {
     assert_eq!(sheets.collect::<Vec<_>>(), page::SHEETS);
 }
 
+/// The list, the words of example A that it changes, and what other lists are refused
+/// with, as the page's tables have it.
+#[test]
+fn late_corrections() {
+    let (sheet, list) = (page::words("words a-sheet"), page::words("words a-corrections"));
+    assert_eq!(list, CORRECTIONS_OF_A);
+    let written = corrected(&Given::of(&[&sheet, &list], sheet.len())).written();
+    assert_eq!(written, A_CORRECTED);
+    for (index, (before, after)) in sheet.iter().zip(&written).enumerate() {
+        let (time, place) = (index.wrapping_sub(3) / 2, index.wrapping_sub(3) % 2);
+        let row = format!("| {index} | {time} | {place} | `{before:08X}` | `{after:08X}` |");
+        assert_eq!(page::rows().any(|shown| shown == row), before != after, "{row}");
+    }
+    let others = [
+        ("| with `B0000001` as first word", [&[0xB0000001], &list[1..]].concat()),
+        ("| cut off after 8 words", list[..8].to_vec()),
+        (
+            "| with `B0100001` `C0000000` `40000007` behind it",
+            [&list[..], &[0xB0100001, 0xC0000000, 0x40000007]].concat(),
+        ),
+    ];
+    for (label, other) in others {
+        let (number, place) = tool_refused(&corrected(&Given::of(&[&sheet, &other], sheet.len())));
+        let shown = page::rows().find(|shown| shown.starts_with(label)).expect("a row");
+        assert!(shown.ends_with(&format!(" | {number} | {place} |")), "{shown}");
+    }
+}
+
 /// Every row of the page's table of refusals, and no other.
 #[test]
 fn every_refusal_has_its_row() {
     let rows = page::rows().skip_while(|row| !row.starts_with("| No. |")).skip(2);
     let numbers = rows.map_while(|row| row.split('|').nth(1)?.trim().parse::<u64>().ok());
-    assert_eq!(numbers.collect::<Vec<_>>(), (1..=18).collect::<Vec<_>>());
+    assert_eq!(numbers.collect::<Vec<_>>(), (1..=20).collect::<Vec<_>>());
 }
