@@ -15,8 +15,8 @@ use Rattle.checks.specs.Checked.{accepted}
 use Rattle.checks.proofs.Tests.{equal}
 use Rattle.corrections.specs.declared.correction.Grid.{Grid}
 use Rattle.corrections.specs.Corrections.{count, revision, value, target, inTurn, agrees}
-use Rattle.corrections.proofs.Disagreeing.{same-by}
-use Rattle.corrections.proofs.Searching.{values-agree}
+use Rattle.clashes.proofs.Disagreeing.{same-by}
+use Rattle.clashes.proofs.Searching.{values-agree}
 use Rattle.correcting.specs.Corrected.{aimedHere, highest, counts, wordAfter}
 
 module _ (c : List ℕ) (g : Grid) where

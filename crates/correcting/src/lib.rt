@@ -1,7 +1,7 @@
 // The tool for late corrections (M-107): a valid sheet is written with each corrected sample replaced; for one sample the highest revision counts.
+use clashes::find_clash;
 use corrections::check::check_corrections;
 use corrections::check::correction_count;
-use corrections::clashes::find_clash;
 use corrections::correction::Found;
 use corrections::correction::Grid;
 use corrections::correction::revision_at;

@@ -1,9 +1,3 @@
 pub mod Turns
 pub mod Small
 pub mod Aiming
-pub mod Disagreeing
-pub mod LastBelow
-pub mod Chaining
-pub mod Walking
-pub mod OneSample
-pub mod Searching

@@ -1,3 +1,2 @@
 pub mod Corrections
 pub mod Aimed
-pub mod Chains

@@ -29,14 +29,14 @@ fn part_at(list: &[u8], k: usize, part: usize) -> u32
     words::word_at(list, k * 3 + part)
 }
 
-pub(crate) fn first_at(list: &[u8], k: usize) -> u32
+pub fn first_at(list: &[u8], k: usize) -> u32
     requires { ⌜ k * 3 + 2 < length (wordsOf (now list)) ⌝ }
     ensures { λ r. ⌜ r ≡ wordAt (wordsOf (now (list .entry))) (k * 3) ⌝ }
 {
     part_at(list, k, 0)
 }
 
-pub(crate) fn second_at(list: &[u8], k: usize) -> u32
+pub fn second_at(list: &[u8], k: usize) -> u32
     requires { ⌜ k * 3 + 2 < length (wordsOf (now list)) ⌝ }
     ensures { λ r. ⌜ r ≡ wordAt (wordsOf (now (list .entry))) (k * 3 + 1) ⌝ }
 {

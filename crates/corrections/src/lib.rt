@@ -1,4 +1,3 @@
-// A list of corrections (M-107): what each says, the check of each for itself (19), and the search for two that disagree (20).
+// A list of corrections (M-107): what each says, and the check of each for itself, 19.
 pub mod check;
-pub mod clashes;
 pub mod correction;

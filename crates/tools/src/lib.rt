@@ -12,7 +12,7 @@ pub const BYTES_REFUSED: u64 = 16;
 const TOLD_BYTES: usize = 24;
 
 // Whether a length has whole words, and others, of which it is told, had them.
-pub fn also_whole(others: bool, length: usize) -> bool
+fn also_whole(others: bool, length: usize) -> bool
     ensures { λ r. ⌜ r ≡ (others && multiple 4 length) ⌝ }
 {
     if !others {
@@ -22,7 +22,7 @@ pub fn also_whole(others: bool, length: usize) -> bool
 }
 
 // Whether the lengths have whole words and a result; of the inputs it is told.
-pub fn tool_whole(inputs: bool, output: usize, result: usize) -> bool
+fn tool_whole(inputs: bool, output: usize, result: usize) -> bool
     ensures { λ r. ⌜ r ≡ toolWhole inputs output result ⌝ }
 {
     if !also_whole(inputs, output) {
@@ -31,7 +31,7 @@ pub fn tool_whole(inputs: bool, output: usize, result: usize) -> bool
     result == TOLD_BYTES
 }
 
-pub fn put_told(result: &mut [u8], told: Told)
+fn put_told(result: &mut [u8], told: Told)
     requires { ⌜ length (now result) ≡ toolResultSize ⌝ }
     ensures { λ _. ⌜ now (result .exit) ≡ toldBytes told ⌝ }
 {
@@ -40,7 +40,7 @@ pub fn put_told(result: &mut [u8], told: Told)
 }
 
 // Refuses lengths that are not whole: zeros in all that is lent, but for the number in a result of the right size.
-pub fn refuse_tool(output: &mut [u8], result: &mut [u8]) -> u64
+fn refuse_tool(output: &mut [u8], result: &mut [u8]) -> u64
     ensures told { λ r. ⌜ r ≡ toolNotWhole (now (output .entry)) (now (result .entry)) .number ⌝ }
     ensures said { λ _. ⌜ now (output .exit) ≡ toolNotWhole (now (output .entry)) (now (result .entry)) .output ⌝ }
     ensures held { λ _. ⌜ now (result .exit) ≡ toolNotWhole (now (output .entry)) (now (result .entry)) .result ⌝ }

@@ -7,11 +7,11 @@ use lib.ListN.{length}
 use Rattle.words.specs.Bytes.{wordsOf}
 use Rattle.words.proofs.Words.{words-count, length-words}
 use Rattle.checks.specs.Checked.{accepted}
 use Rattle.corrections.specs.Corrections.{inTurn, agrees}
-use Rattle.corrections.specs.Chains.{Chained, HeadsFit, Next}
-use Rattle.corrections.proofs.Searching.{comes-next, clash-told, agrees-on}
-use Rattle.corrections.proofs.clashes.look_through.Statement.{statement}
-use Rattle.corrections.proofs.clashes.look_through.Tie as tie
+use Rattle.clashes.specs.Chains.{Chained, HeadsFit, Next}
+use Rattle.clashes.proofs.Searching.{comes-next, clash-told, agrees-on}
+use Rattle.clashes.proofs.look_through.Statement.{statement}
+use Rattle.clashes.proofs.look_through.Tie as tie
 
 abbrev Inv-loop : tie.InvT-loop
 Inv-loop list grid count links₀ heads k₀ links k =

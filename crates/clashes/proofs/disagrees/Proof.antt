@@ -6,9 +6,9 @@ use native.Mathlib.Omega.{arith}
 use lib.Dec.{eqb}
 use borrow.Author.Needs.{needs}
 use Rattle.words.specs.Bytes.{wordsOf}
-use Rattle.corrections.proofs.Walking.{Walking, walk-start, walk-less, walk-on, walk-found, walk-over}
-use Rattle.corrections.proofs.clashes.disagrees.Statement.{statement}
-use Rattle.corrections.proofs.clashes.disagrees.Tie as tie
+use Rattle.clashes.proofs.Walking.{Walking, walk-start, walk-less, walk-on, walk-found, walk-over}
+use Rattle.clashes.proofs.disagrees.Statement.{statement}
+use Rattle.clashes.proofs.disagrees.Tie as tie
 
 abbrev Inv-loop : tie.InvT-loop
 Inv-loop list grid links heads k after₀ after = Walking (wordsOf list) grid heads k after

@@ -7,9 +7,9 @@ use borrow.Author.Tests.{ne-eqb, eq-eqb}
 use lib.Dec.{eqb}
 use Rattle.words.specs.Bytes.{wordsOf}
 use Rattle.checks.specs.Checked.{wordAt}
-use Rattle.corrections.proofs.OneSample.{same-words}
-use Rattle.corrections.proofs.clashes.same_revision.Statement.{statement}
-use Rattle.corrections.proofs.clashes.same_revision.Tie as tie
+use Rattle.clashes.proofs.OneSample.{same-words}
+use Rattle.clashes.proofs.same_revision.Statement.{statement}
+use Rattle.clashes.proofs.same_revision.Tie as tie
 
 first-at-requires : tie.Need-first-at-requires
 first-at-requires c κs = let pre = c .before .pre in pre .0 (c .before .args .i) (omega (arith, pre .1)) .there

@@ -6,10 +6,10 @@ use borrow.Author.Needs.{needs}
 use lib.ListN.{length, replicate}
 use Rattle.words.specs.Bytes.{wordsOf}
 use Rattle.words.proofs.Zeros.{zero-words}
-use Rattle.corrections.specs.Chains.{Chained, HeadsFit}
-use Rattle.corrections.proofs.Chaining.{no-chains}
-use Rattle.corrections.proofs.clashes.find_clash.Statement.{statement}
-use Rattle.corrections.proofs.clashes.find_clash.Tie as tie
+use Rattle.clashes.specs.Chains.{Chained, HeadsFit}
+use Rattle.clashes.proofs.Chaining.{no-chains}
+use Rattle.clashes.proofs.find_clash.Statement.{statement}
+use Rattle.clashes.proofs.find_clash.Tie as tie
 
 look-through-requires : tie.Need-look-through-requires
 look-through-requires c κs =

@@ -15,11 +15,11 @@ use Rattle.counting.proofs.Tests.{holds, or-r, or-e, below}
 use Rattle.words.proofs.Zeros.{zero-at}
 use Rattle.checks.specs.Checked.{wordAt}
 use Rattle.checks.proofs.Tests.{equal}
 use Rattle.corrections.specs.declared.correction.Grid.{Grid}
 use Rattle.corrections.specs.Corrections.{revision, target, sameRevision}
-use Rattle.corrections.specs.Chains.{lastBelow, spread, chainOf, inChain, candidate, Chained, earlier}
-use Rattle.corrections.proofs.LastBelow.{last-more, last-same}
-use Rattle.corrections.proofs.Disagreeing.{same-told}
+use Rattle.clashes.specs.Chains.{lastBelow, spread, chainOf, inChain, candidate, Chained, earlier}
+use Rattle.clashes.proofs.LastBelow.{last-more, last-same}
+use Rattle.clashes.proofs.Disagreeing.{same-told}
 
 module _ (c : List ℕ) (g : Grid) where
   -- there are as many chains as heads

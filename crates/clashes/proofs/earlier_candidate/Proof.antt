@@ -7,8 +7,8 @@ use borrow.Author.Tests.{eq-eqb, ne-eqb}
 use lib.ListN.{length}
 use Rattle.words.specs.Bytes.{wordsOf}
 use Rattle.words.proofs.Words.{words-count}
-use Rattle.corrections.proofs.clashes.earlier_candidate.Statement.{statement}
-use Rattle.corrections.proofs.clashes.earlier_candidate.Tie as tie
+use Rattle.clashes.proofs.earlier_candidate.Statement.{statement}
+use Rattle.clashes.proofs.earlier_candidate.Tie as tie
 
 returns : tie.Need-returns
 returns c = rw (eq-eqb _ _ (c .if1 .taken)) refl

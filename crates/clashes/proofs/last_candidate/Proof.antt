@@ -4,9 +4,9 @@ use native.Mathlib.Omega.{arith}
 use borrow.Author.Needs.{needs}
 use Rattle.words.specs.Bytes.{wordsOf}
 use Rattle.checks.specs.Checked.{wordAt}
-use Rattle.corrections.proofs.Chaining.{chain-inside, first-candidate, head-last}
-use Rattle.corrections.proofs.clashes.last_candidate.Statement.{statement}
-use Rattle.corrections.proofs.clashes.last_candidate.Tie as tie
+use Rattle.clashes.proofs.Chaining.{chain-inside, first-candidate, head-last}
+use Rattle.clashes.proofs.last_candidate.Statement.{statement}
+use Rattle.clashes.proofs.last_candidate.Tie as tie
 
 returns : tie.Need-returns
 returns c = let g = c .before .before .before .args in first-candidate (wordsOf (g .list .now)) (g .grid) (g .heads) (g .k) (c .if1 .taken)

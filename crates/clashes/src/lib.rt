@@ -1,20 +1,20 @@
 // Two corrections of one sample with equal revision and unlike values: 20. Each correction is compared with the last one before it that has its sample and
 // its revision: those before that one agree with it, or they would have been found. Chains through lent words lead from a correction to earlier ones, all of
 // its sample and revision among them and few others; where there is no room for chains, every earlier one is looked at.
-use crate::correction::Found;
-use crate::correction::Grid;
-use crate::correction::first_at;
-use crate::correction::revision_at;
-use crate::correction::second_at;
-use crate::correction::target_at;
-use crate::correction::value_at;
+use corrections::correction::Found;
+use corrections::correction::Grid;
+use corrections::correction::first_at;
+use corrections::correction::revision_at;
+use corrections::correction::second_at;
+use corrections::correction::target_at;
+use corrections::correction::value_at;
 ghost use mathlib.Core.Path.{_≡_};
 ghost use Prim.Native.Nat.{_+_, _*_, _<_};
 ghost use lib.ListN.{length, replicate};
 ghost use Rattle.words.specs.Bytes.{wordsOf};
 ghost use Rattle.corrections.specs.Corrections.{sameRevision, disagreesWith, agrees, inTurn};
 ghost use Rattle.corrections.specs.Aimed.{foundSaid, GridFits, AllAimed};
-ghost use Rattle.corrections.specs.Chains.{lastBelow, chainOf, candidate, earlier, Chained, HeadsFit, Next};
+ghost use Rattle.clashes.specs.Chains.{lastBelow, chainOf, candidate, earlier, Chained, HeadsFit, Next};
 
 // The most corrections that words can number.
 const MOST_LINKED: usize = 4294967295;

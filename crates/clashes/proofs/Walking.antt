@@ -7,12 +7,12 @@ use native.Mathlib.Decide.{ℕ-discrete, decLt}
 use native.Mathlib.Omega.{arith}
 use lib.Dec.{T, eqb}
 use Rattle.counting.proofs.Tests.{bool-ext}
 use Rattle.corrections.specs.declared.correction.Grid.{Grid}
 use Rattle.corrections.specs.Corrections.{value, sameRevision, disagreesWith}
-use Rattle.corrections.specs.Chains.{lastBelow, candidate, Next, earlier}
-use Rattle.corrections.proofs.LastBelow.{last-bound, last-passes, none-after}
-use Rattle.corrections.proofs.Chaining.{same-candidate, link-earlier}
-use Rattle.corrections.proofs.Disagreeing.{none-decides, last-decides}
+use Rattle.clashes.specs.Chains.{lastBelow, candidate, Next, earlier}
+use Rattle.clashes.proofs.LastBelow.{last-bound, last-passes, none-after}
+use Rattle.clashes.proofs.Chaining.{same-candidate, link-earlier}
+use Rattle.clashes.proofs.Disagreeing.{none-decides, last-decides}
 
 -- `after` is one more than the next to be looked at, 0 for none: a candidate, and none from there on is one of the same sample and revision
 pub record Walking (c : List ℕ) (g : Grid) (heads k after : ℕ) : Type 0 where

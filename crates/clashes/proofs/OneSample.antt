@@ -11,10 +11,10 @@ use Rattle.words.specs.Word.{kindOf, bits}
 use Rattle.words.proofs.Rows.{same-index}
 use Rattle.checks.specs.Checked.{wordAt}
 use Rattle.checks.proofs.Tests.{equal}
 use Rattle.corrections.specs.declared.correction.Grid.{Grid}
 use Rattle.corrections.specs.Corrections.{signal, time, place, revision, target, sameRevision}
 use Rattle.corrections.specs.Aimed.{Aimed}
-use Rattle.corrections.proofs.Disagreeing.{same-told, same-by}
+use Rattle.clashes.proofs.Disagreeing.{same-told, same-by}
 
 -- a word by its fields
 first-fields : (w : ℕ) → w ≡ kindOf w * 2 ^ 28 + bits 20 8 w * 2 ^ 20 + bits 12 8 w * 2 ^ 12 + bits 0 12 w

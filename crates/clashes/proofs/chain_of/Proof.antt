@@ -4,10 +4,10 @@ use Prim.Native.Nat.{ℕ, _+_, _*_, _%_}
 use native.Mathlib.Omega.{arith}
 use borrow.Author.Needs.{needs}
 use Rattle.words.specs.Bytes.{wordsOf}
-use Rattle.corrections.specs.Chains.{spread}
+use Rattle.clashes.specs.Chains.{spread}
 use Rattle.corrections.proofs.Small.{target-small}
-use Rattle.corrections.proofs.clashes.chain_of.Statement.{statement}
-use Rattle.corrections.proofs.clashes.chain_of.Tie as tie
+use Rattle.clashes.proofs.chain_of.Statement.{statement}
+use Rattle.clashes.proofs.chain_of.Tie as tie
 
 add-result : tie.Need-add-result
 add-result c =

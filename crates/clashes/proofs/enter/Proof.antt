@@ -8,10 +8,10 @@ use lib.ListN.{length, set}
 use Rattle.words.specs.Bytes.{wordsOf}
 use Rattle.words.proofs.Words.{words-count}
 use Rattle.checks.specs.Checked.{wordAt}
-use Rattle.corrections.specs.Chains.{Chained}
-use Rattle.corrections.proofs.Chaining.{chain-inside, without-heads, entered}
-use Rattle.corrections.proofs.clashes.enter.Statement.{statement}
-use Rattle.corrections.proofs.clashes.enter.Tie as tie
+use Rattle.clashes.specs.Chains.{Chained}
+use Rattle.clashes.proofs.Chaining.{chain-inside, without-heads, entered}
+use Rattle.clashes.proofs.enter.Statement.{statement}
+use Rattle.clashes.proofs.enter.Tie as tie
 
 returns : tie.Need-returns
 returns c = let g = c .before .before .before .args in without-heads (wordsOf (g .list .now)) (g .grid) (g .heads) (wordsOf (g .links .now)) (g .k + 1) (c .if1 .taken)

@@ -12,12 +12,12 @@ use lib.ListN.{length}
 use Rattle.counting.proofs.Tests.{holds, and-i, decT}
 use Rattle.checks.specs.Checked.{accepted, refused}
 use Rattle.checks.proofs.Checks.{require-accepted}
 use Rattle.corrections.specs.declared.correction.Grid.{Grid}
 use Rattle.corrections.specs.Corrections.{value, sameRevision, inTurn, disagreesWith, agrees}
 use Rattle.corrections.specs.Aimed.{GridFits, AllAimed}
-use Rattle.corrections.specs.Chains.{Chained, HeadsFit, Next}
-use Rattle.corrections.proofs.Disagreeing.{same-told, same-by, disagrees-by}
+use Rattle.clashes.specs.Chains.{Chained, HeadsFit, Next}
+use Rattle.clashes.proofs.Disagreeing.{same-told, same-by, disagrees-by}
 use Rattle.corrections.proofs.Turns.{turn-next, turn-refused, each-passed}
 
 module _ (c : List ℕ) (g : Grid) where
   agreed-told : (k : ℕ) → agrees c g k ≡ accepted tt → disagreesWith c g k k ≡ false

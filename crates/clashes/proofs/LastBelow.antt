@@ -7,7 +7,7 @@ use native.Mathlib.Numerals.{add-one}
 use native.Mathlib.Omega.{arith}
 use lib.Dec.{T}
 use Rattle.counting.proofs.Tests.{by-test, below}
-use Rattle.corrections.specs.Chains.{lastBelow}
+use Rattle.clashes.specs.Chains.{lastBelow}
 
 module _ (test : ℕ → Bool) where
   pub last-more : (n : ℕ) → lastBelow test (n + 1) ≡ cond (test n) (n + 1) (lastBelow test n)

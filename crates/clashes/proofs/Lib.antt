@@ -1,0 +1,6 @@
+pub mod Disagreeing
+pub mod LastBelow
+pub mod Chaining
+pub mod Walking
+pub mod OneSample
+pub mod Searching
