@@ -320,10 +320,10 @@ uint64_t sheet_to_narrow(const uint8_t *sheet, size_t sheet_len, uint8_t *output
  * `output` before it writes there. The time grows in proportion to the sheet and to the
  * list where there is room for that: sheet_len bytes for a list of at most half as many
  * corrections as the sheet has words, and for every list sheet_len bytes and four more
- * for each correction. Each correction is then compared with one or two others; a list
- * made to take long could ask for 510 of them. With less room it grows faster: where
- * `output` has hardly more words than the list has corrections, or no more, with the
- * square of the list, as each correction is compared with all before it.
+ * for each correction. Each correction is then compared with one or two others, and
+ * by a list made to take long with 510 on the average. With less room the time grows
+ * faster: where `output` has hardly more words than the list has corrections, or no
+ * more, with the square of the list, as each is compared with nearly all before it.
  *
  * judge() decides on the new sheet as on the old one: it is accepted, where as much is
  * lent. If no sample moves by more than d, no margin does, and a verdict with a margin
