@@ -317,13 +317,13 @@ uint64_t sheet_to_narrow(const uint8_t *sheet, size_t sheet_len, uint8_t *output
  * sheet_len bytes of output are always enough.
  *
  * Time. The library has no memory but what is lent, and looks for equal revisions in
- * `output` before it writes there. The time grows in proportion to the sheet and to the
- * list where there is room for that: sheet_len bytes for a list of at most half as many
- * corrections as the sheet has words, and for every list sheet_len bytes and four more
- * for each correction. Each correction is then compared with one or two others, and
- * by a list made to take long with 510 on the average. With less room the time grows
- * faster: where `output` has hardly more words than the list has corrections, or no
- * more, with the square of the list, as each is compared with nearly all before it.
+ * `output` before it writes there, in as many corrections at a time as half of its words.
+ * So the time grows in proportion to the sheet and to the list, up to that length; of a
+ * longer list each part is held against all that stands behind it, which for a list of
+ * one correction for each sample takes about twice as long as with room for one part. A
+ * correction is compared with one or two others in a part. By a list made to take long it
+ * is with 510 on the average, if there is one part, and with all before it if there are
+ * more. So it is too in an output of fewer than 64 words.
  *
  * judge() decides on the new sheet as on the old one: it is accepted, where as much is
  * lent. If no sample moves by more than d, no margin does, and a verdict with a margin

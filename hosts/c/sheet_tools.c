@@ -49,14 +49,11 @@ static uint64_t result_of(const struct call *call, enum tecuhualma_result index)
 
 /*
  * Takes what is to be lent: a word more than the sheet has, as no tool here writes
- * more, and a word for each correction, so that a long list does not take long.
- * Gives 0 if there is no memory for it.
+ * more. Gives 0 if there is no memory for it.
  */
 static int lend(struct call *call)
 {
-    size_t sheet = call->inputs[0].length / TECUHUALMA_WORD_BYTES;
-    size_t list = call->inputs[1].length / TECUHUALMA_WORD_BYTES;
-    size_t words = sheet + 1 + list / TECUHUALMA_CORRECTION_WORDS;
+    size_t words = call->inputs[0].length / TECUHUALMA_WORD_BYTES + 1;
     return take(&call->output, words * TECUHUALMA_WORD_BYTES);
 }
 

@@ -9,23 +9,24 @@ use reference::generate::valid::Numbers;
 use reference::layout::Front;
 use reference::words;
 
-/// The corrections of most lists, and of the longest.
+/// The corrections of most lists, and of a long one.
 const MANY: usize = 10_000;
-const MOST: usize = 300_000;
+const MORE: usize = 300_000;
 
 /// The revisions that there are.
 const REVISIONS: usize = 255;
 
 /// The lists for a valid sheet, each with a name.
-pub fn timed_lists(words: &[u32]) -> [(&'static str, Vec<Correction>); 6] {
+pub fn timed_lists(words: &[u32]) -> [(&'static str, Vec<Correction>); 7] {
     let front = Front::told(words);
     [
         ("none", Vec::new()),
-        ("10,000, unlike samples", of_unlike_samples(&front)),
+        ("10,000, unlike samples", of_unlike_samples(&front, MANY)),
         ("10,000, drawn at random", at_random(&front, MANY)),
         ("10,000, one sample", of_one_sample(&front)),
         ("10,000, all the same", vec![of_one_sample(&front)[0]; MANY]),
-        ("300,000, drawn at random", at_random(&front, MOST)),
+        ("300,000, drawn at random", at_random(&front, MORE)),
+        ("1,048,576, every sample", of_unlike_samples(&front, samples(&front))),
     ]
 }
 
@@ -54,11 +55,11 @@ fn aim(front: &Front, index: usize) -> Aim {
     Aim { signal, time, place }
 }
 
-/// All of revision 1, the samples spread over the sheet, and in no order.
-fn of_unlike_samples(front: &Front) -> Vec<Correction> {
+/// So many of revision 1, the samples spread over the sheet, and in no order.
+fn of_unlike_samples(front: &Front, count: usize) -> Vec<Correction> {
     let mut random = Random::new(107);
-    let apart = samples(front) / MANY;
-    let mut indices: Vec<usize> = (0..MANY).map(|at| at * apart).collect();
+    let apart = samples(front) / count;
+    let mut indices: Vec<usize> = (0..count).map(|at| at * apart).collect();
     random.shuffle(&mut indices);
     let value = |random: &mut Random| Numbers::Any.draw(random);
     indices

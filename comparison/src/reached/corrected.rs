@@ -28,6 +28,9 @@ const NAME: &str = "corrected";
 /// A list of more corrections is a long one: no sheet of few words has it.
 const LONG: usize = 1_000;
 
+/// Fewer words may be too few to look for clashes in.
+const SOME_WORDS: usize = 64;
+
 const OF_ALL: [Shown; 15] = [
     ("a narrow sheet", &[0, 15, 19, 20], |call| !call.layout().is_wide()),
     ("a wide sheet", &[0, 15, 19, 20], |call| call.layout().is_wide()),
@@ -46,10 +49,13 @@ const OF_ALL: [Shown; 15] = [
     ("enough room", &[19, 20], |call| !call.is_short()),
 ];
 
-const OF_WRITTEN: [Shown; 27] = [
+const OF_WRITTEN: [Shown; 28] = [
     ("no correction", &[0], |call| call.sent().corrections.is_empty()),
     ("one correction", &[0], |call| call.sent().corrections.len() == 1),
     ("more corrections than words", &[0], |call| call.outnumbers(call.words.len())),
+    ("more corrections than words lent, which are 64 or more", &[0], |call| {
+        call.has_no_word_for_each()
+    }),
     ("more than 1,000 corrections", &[0], |call| call.outnumbers(LONG)),
     ("above 65,536 words", &[0], |call| call.is_long()),
     ("room exact", &[0], |call| call.room() == call.needed()),
@@ -137,7 +143,7 @@ const OF_FAULTS: [Shown; 6] = [
     }),
 ];
 
-const OF_CLASHES: [Shown; 10] = [
+const OF_CLASHES: [Shown; 12] = [
     ("at the highest revision", &[20], |call| call.higher().next().is_none()),
     ("below the highest, which stands first", &[20], |call| {
         call.higher().any(|at| at < call.clash().first)
@@ -157,6 +163,15 @@ const OF_CLASHES: [Shown; 10] = [
     }),
     ("a revision above 127", &[20], |call| {
         call.sent().corrections[call.clash().later].revision > 127
+    }),
+    ("farther apart than words are lent, which are 64 or more", &[20], |call| {
+        let Clash { first, later } = call.clash();
+        call.has_no_word_for_each() && later - first > call.room()
+    }),
+    ("another behind it that begins before it, and no word for each correction", &[20], |call| {
+        let begins_before = |other: &Clash| other.first < call.clash().first;
+        let clashes = call.sent().clashes(call.sent().corrections.len());
+        call.has_no_word_for_each() && clashes.iter().any(begins_before)
     }),
     ("the first and the last of more than 1,000", &[20], |call| {
         call.outnumbers(LONG) && call.clash() == call.ends()
@@ -200,6 +215,11 @@ impl Corrected {
 
     fn outnumbers(&self, words: usize) -> bool {
         self.sent().corrections.len() > words
+    }
+
+    /// Whether some words are lent, but fewer than there are corrections.
+    fn has_no_word_for_each(&self) -> bool {
+        self.room() >= SOME_WORDS && self.outnumbers(self.room())
     }
 
     /// How many samples a valid sheet has.

@@ -7,6 +7,9 @@ use super::SEEDS_OF_RIGHT;
 use crate::tools::Tools;
 use reference::correct::{Correction, WORDS_PER_CORRECTION};
 
+/// Fewer words than these may be too few to look for clashes in.
+const SOME_WORDS: usize = 64;
+
 /// The corrector that sees a correction clash, by its index, if the sheet is valid and no
 /// word of the list is faulty.
 fn seeing(clash: impl Fn(&[Correction]) -> Option<usize>) -> impl Tools {
@@ -115,6 +118,45 @@ fn clashes_with_the_last_of_the_sample_alone() {
             let last = sent[..at].iter().rfind(|earlier| earlier.aim == sent[at].aim);
             last.is_some_and(|last| is_clash(last, &sent[at]))
         })
+    });
+}
+
+/// Who keeps a word for each correction in what is lent has none for some of a long list.
+#[test]
+fn clashes_no_farther_apart_than_words_are_lent_alone() {
+    assert_caught(|asked, told| {
+        let sent = asked.corrections();
+        let is_seen = |later: usize| {
+            let nearest = later.saturating_sub(asked.room.max(SOME_WORDS));
+            sent[nearest..later].iter().any(|earlier| is_clash(earlier, &sent[later]))
+        };
+        if told.outcome.number == 20 {
+            match (0..sent.len()).find(|&later| is_seen(later)) {
+                Some(later) => told.refuse(20, later * WORDS_PER_CORRECTION),
+                None => go_on(asked, told),
+            }
+        }
+    });
+}
+
+/// Who goes through a long list in parts, as long as half of what is lent, may tell what
+/// clashes with the first part, and not what comes first.
+#[test]
+fn the_clash_of_the_first_part_told() {
+    assert_caught(|asked, told| {
+        let sent = asked.corrections();
+        let size = asked.room.max(SOME_WORDS) / 2;
+        let clash_with = |from: usize| {
+            let is_one = |later: &usize| {
+                let part = &sent[from..(from + size).min(*later)];
+                part.iter().any(|earlier| is_clash(earlier, &sent[*later]))
+            };
+            (from..sent.len()).find(is_one)
+        };
+        if told.outcome.number == 20 {
+            let later = (0..sent.len()).step_by(size).find_map(clash_with).expect("a clash");
+            told.refuse(20, later * WORDS_PER_CORRECTION);
+        }
     });
 }
 

@@ -1,9 +1,9 @@
--- Chains through lent words: there are none at first, one correction more goes to the front of its chain, and the links of a chain lead through all candidates.
+-- Chains through lent words: there are none at first, one correction more of the part goes to the front of its chain, and the links of a chain lead through all candidates.
 use mathlib.Core.Path.{_≡_, refl, sym, ap, ap₂, subst, _∙_}
 use mathlib.Core.Logic.{_⊎_, inl, inr, ⊎-elim}
 use mathlib.Core.Bool.{Bool, true, false, cond, _||_}
 use mathlib.Core.List.{List}
-use Prim.Native.Nat.{ℕ, zero, suc, _+_, _*_, _%_, _<_}
+use Prim.Native.Nat.{ℕ, zero, suc, _+_, _-_, _*_, _%_, _<_, _≤_}
 use native.Mathlib.Nat.{mod-lt}
 use native.Mathlib.Decide.{ℕ-discrete}
 use native.Mathlib.Omega.{arith}
@@ -17,85 +17,106 @@ use Rattle.checks.specs.Checked.{wordAt}
 use Rattle.checks.proofs.Tests.{equal}
 use Rattle.corrections.specs.declared.correction.Grid.{Grid}
 use Rattle.corrections.specs.Corrections.{revision, target, sameRevision}
-use Rattle.clashes.specs.Chains.{lastBelow, spread, chainOf, inChain, candidate, Chained, earlier}
+use Rattle.clashes.specs.declared.Part.{Part}
+use Rattle.clashes.specs.Chains.{lastBelow, spread, chainOf, inChain, candidate, partBefore, Chained, earlier}
 use Rattle.clashes.proofs.LastBelow.{last-more, last-same}
 use Rattle.clashes.proofs.Disagreeing.{same-told}
 
-module _ (c : List ℕ) (g : Grid) where
-  -- there are as many chains as heads
-  pub chain-inside : (heads k : ℕ) → (heads ≡ 0 → ⊥) → chainOf c g heads k < heads
-  chain-inside heads k some = mod-lt (target c g k + revision c k * spread) (omega arith)
+-- there are as many chains as heads
+pub chain-inside : (c : List ℕ) (g : Grid) (heads k : ℕ) → (heads ≡ 0 → ⊥) → chainOf c g heads k < heads
+chain-inside c g heads k some = mod-lt (target c g k + revision c k * spread) (omega arith)
+
+module _ (c : List ℕ) (g : Grid) (p : Part) where
+  -- the chain of a correction, and that of one of the part
+  abbrev chain : ℕ → ℕ
+  chain = chainOf c g (p .heads)
+
+  abbrev of-part : ℕ → ℕ
+  of-part j = chain (p .from + j)
 
   -- ---- candidates
-  pub same-candidate : (heads i k : ℕ) → T (sameRevision c g i k) → T (candidate c g heads k i)
-  same-candidate heads i k same =
-      let told = same-told c g i k same in
-      or-r (eqb heads 0) _ (equal (chainOf c g heads i) (chainOf c g heads k) (ap₂ (λ (t r : ℕ). (t + r * spread) % heads) (told .0) (told .1)))
+  pub same-candidate : (j k : ℕ) → T (sameRevision c g (p .from + j) k) → T (candidate c g p k j)
+  same-candidate j k same =
+      let told = same-told c g (p .from + j) k same in
+      or-r (eqb (p .heads) 0) _ (equal (of-part j) (chain k) (ap₂ (λ (t r : ℕ). (t + r * spread) % p .heads) (told .0) (told .1)))
 
   -- without heads all are, with heads those of one chain
-  all-candidates : (heads k n : ℕ) → heads ≡ 0 → lastBelow (candidate c g heads k) n ≡ n
+  pub all-candidates : (k n : ℕ) → p .heads ≡ 0 → lastBelow (candidate c g p k) n ≡ n
   unfolding lastBelow
-  all-candidates heads k zero none = refl
-  all-candidates heads k (suc n) none = rw none refl
+  all-candidates k zero none = refl
+  all-candidates k (suc n) none = rw none refl
 
-  chain-candidates : (heads k n : ℕ) → (heads ≡ 0 → ⊥) → lastBelow (candidate c g heads k) n ≡ lastBelow (inChain c g heads (chainOf c g heads k)) n
-  chain-candidates heads k n some = last-same _ _ n (λ i l. rw (ne-eqb heads 0 some) refl)
+  chain-candidates : (k n : ℕ) → (p .heads ≡ 0 → ⊥) → lastBelow (candidate c g p k) n ≡ lastBelow (inChain c g p (chain k)) n
+  chain-candidates k n some = last-same _ _ n (λ i l. rw (ne-eqb (p .heads) 0 some) refl)
 
-  module _ (heads : ℕ) (links : List ℕ) (n : ℕ) (chained : Chained c g heads links n) where
+  module _ (links : List ℕ) (n : ℕ) (chained : Chained c g p links n) where
     -- the last candidate of all, by its head, and the candidate before one, by its link
-    pub head-last : (k : ℕ) → (heads ≡ 0 → ⊥) → wordAt links (chainOf c g heads k) ≡ lastBelow (candidate c g heads k) n
-    head-last k some = chained .headed (chainOf c g heads k) (chain-inside heads k some) ∙ sym (chain-candidates heads k n some)
+    pub head-last : (k : ℕ) → (p .heads ≡ 0 → ⊥) → wordAt links (chain k) ≡ lastBelow (candidate c g p k) n
+    head-last k some = chained .headed (chain k) (chain-inside c g (p .heads) k some) ∙ sym (chain-candidates k n some)
 
-    pub link-earlier : (i k : ℕ) → i < n → T (candidate c g heads k i) → earlier heads links i ≡ lastBelow (candidate c g heads k) i
-    link-earlier i k l h = by (ℕ-discrete heads 0)
+    pub link-earlier : (j k : ℕ) → j < n → T (candidate c g p k j) → earlier (p .heads) links j ≡ lastBelow (candidate c g p k) j
+    link-earlier j k l h = by (ℕ-discrete (p .heads) 0)
       where
-        by : Dec (heads ≡ 0) → earlier heads links i ≡ lastBelow (candidate c g heads k) i
-        by (yes none) = rw (eq-eqb heads 0 none) (sym (all-candidates heads k i none))
+        by : Dec (p .heads ≡ 0) → earlier (p .heads) links j ≡ lastBelow (candidate c g p k) j
+        by (yes none) = rw (eq-eqb (p .heads) 0 none) (sym (all-candidates k j none))
         by (no some) =
-            let met : T (inChain c g heads (chainOf c g heads k) i) = ⊎-elim (λ z. absurd (subst T (ne-eqb heads 0 some) z)) (λ x. x) (or-e (eqb heads 0) _ h) in
-            let same : chainOf c g heads i ≡ chainOf c g heads k = eqb-true _ _ (holds _ met) in
-            rw (ne-eqb heads 0 some) (chained .linked i l (omega arith) ∙ ap (λ (b : ℕ). lastBelow (inChain c g heads b) i) same ∙ sym (chain-candidates heads k i some))
-
-  pub first-candidate : (heads k : ℕ) → heads ≡ 0 → k ≡ lastBelow (candidate c g heads k) k
-  first-candidate heads k none = sym (all-candidates heads k k none)
+            let met : T (inChain c g p (chain k) j) = ⊎-elim (λ z. absurd (subst T (ne-eqb (p .heads) 0 some) z)) (λ x. x) (or-e (eqb (p .heads) 0) _ h) in
+            let same : of-part j ≡ chain k = eqb-true _ _ (holds _ met) in
+            rw (ne-eqb (p .heads) 0 some) (chained .linked j l (omega arith) ∙ ap (λ (b : ℕ). lastBelow (inChain c g p b) j) same ∙ sym (chain-candidates k j some))
 
   -- ---- the chains of no correction, and of one more
-  pub no-chains : (heads room : ℕ) → Chained c g heads (replicate room 0) 0
+  pub no-chains : (room : ℕ) → Chained c g p (replicate room 0) 0
   unfolding lastBelow
-  no-chains heads room = record { headed = λ b l. zero-at room b; linked = λ i l _. absurd (omega arith) }
+  no-chains room = record { headed = λ b l. zero-at room b; linked = λ j l _. absurd (omega arith) }
 
-  pub without-heads : (heads : ℕ) (links : List ℕ) (n : ℕ) → heads ≡ 0 → Chained c g heads links n
-  without-heads heads links n none = record { headed = λ b l. absurd (omega arith); linked = λ i l some. absurd (omega arith) }
+  pub without-heads : (links : List ℕ) (n : ℕ) → p .heads ≡ 0 → Chained c g p links n
+  without-heads links n none = record { headed = λ b l. absurd (omega arith); linked = λ j l some. absurd (omega arith) }
 
-  module _ (heads : ℕ) (links : List ℕ) (k : ℕ) (chained : Chained c g heads links k) (some : heads ≡ 0 → ⊥) (room : heads + k < length links) where
+  module _ (links : List ℕ) (n : ℕ) (chained : Chained c g p links n) (some : p .heads ≡ 0 → ⊥) (room : p .heads + n < length links) where
     abbrev front : ℕ
-    front = chainOf c g heads k
+    front = of-part n
 
     abbrev withLink : List ℕ
-    withLink = set links (heads + k) (wordAt links front)
+    withLink = set links (p .heads + n) (wordAt links front)
 
-    front-inside : front < heads
-    front-inside = chain-inside heads k some
+    front-inside : front < p .heads
+    front-inside = chain-inside c g (p .heads) (p .from + n) some
 
-    headed-more : (b : ℕ) → b < heads → wordAt (set withLink front (k + 1)) b ≡ lastBelow (inChain c g heads b) (k + 1)
+    headed-more : (b : ℕ) → b < p .heads → wordAt (set withLink front (n + 1)) b ≡ lastBelow (inChain c g p b) (n + 1)
     headed-more b l = by (ℕ-discrete front b)
       where
-        by : Dec (front ≡ b) → wordAt (set withLink front (k + 1)) b ≡ lastBelow (inChain c g heads b) (k + 1)
-        by (yes e) = subst (λ (x : ℕ). wordAt (set withLink front (k + 1)) x ≡ lastBelow (inChain c g heads x) (k + 1)) e
-            (getD-set-same withLink front (k + 1) 0 (omega (arith, front-inside, length-set links (heads + k) (wordAt links front)))
-            ∙ sym (last-more (inChain c g heads front) k ∙ rw (eq-eqb front front refl) refl))
+        by : Dec (front ≡ b) → wordAt (set withLink front (n + 1)) b ≡ lastBelow (inChain c g p b) (n + 1)
+        by (yes e) = subst (λ (x : ℕ). wordAt (set withLink front (n + 1)) x ≡ lastBelow (inChain c g p x) (n + 1)) e
+            (getD-set-same withLink front (n + 1) 0 (omega (arith, front-inside, length-set links (p .heads + n) (wordAt links front)))
+            ∙ sym (last-more (inChain c g p front) n ∙ rw (eq-eqb front front refl) refl))
         by (no e) =
-            getD-set-other withLink front b (k + 1) 0 (λ q. e (sym q))
-            ∙ getD-set-other links (heads + k) b (wordAt links front) 0 (λ q. omega arith)
+            getD-set-other withLink front b (n + 1) 0 (λ q. e (sym q))
+            ∙ getD-set-other links (p .heads + n) b (wordAt links front) 0 (λ q. omega arith)
             ∙ chained .headed b l
-            ∙ sym (last-more (inChain c g heads b) k ∙ rw (ne-eqb front b e) refl)
+            ∙ sym (last-more (inChain c g p b) n ∙ rw (ne-eqb front b e) refl)
 
-    linked-more : (i : ℕ) → i < k + 1 → wordAt (set withLink front (k + 1)) (heads + i) ≡ lastBelow (inChain c g heads (chainOf c g heads i)) i
-    linked-more i l = getD-set-other withLink front (heads + i) (k + 1) 0 (λ q. omega (arith, front-inside)) ∙ by (ℕ-discrete i k)
+    linked-more : (j : ℕ) → j < n + 1 → wordAt (set withLink front (n + 1)) (p .heads + j) ≡ lastBelow (inChain c g p (of-part j)) j
+    linked-more j l = getD-set-other withLink front (p .heads + j) (n + 1) 0 (λ q. omega (arith, front-inside)) ∙ by (ℕ-discrete j n)
       where
-        by : Dec (i ≡ k) → wordAt withLink (heads + i) ≡ lastBelow (inChain c g heads (chainOf c g heads i)) i
-        by (yes e) = rw e (getD-set-same links (heads + k) (wordAt links front) 0 room ∙ chained .headed front front-inside)
-        by (no e) = getD-set-other links (heads + k) (heads + i) (wordAt links front) 0 (λ q. e (omega arith)) ∙ chained .linked i (omega arith) (omega arith)
+        by : Dec (j ≡ n) → wordAt withLink (p .heads + j) ≡ lastBelow (inChain c g p (of-part j)) j
+        by (yes e) = rw e (getD-set-same links (p .heads + n) (wordAt links front) 0 room ∙ chained .headed front front-inside)
+        by (no e) = getD-set-other links (p .heads + n) (p .heads + j) (wordAt links front) 0 (λ q. e (omega arith)) ∙ chained .linked j (omega arith) (omega arith)
 
-    pub entered : Chained c g heads (set withLink front (k + 1)) (k + 1)
-    entered = record { headed = headed-more; linked = λ i l _. linked-more i l }
+    entered : Chained c g p (set withLink front (n + 1)) (n + 1)
+    entered = record { headed = headed-more; linked = λ j l _. linked-more j l }
+
+  -- ---- correction k comes in, or stands behind the part
+  module _ (links : List ℕ) (k : ℕ) (begun : p .from ≤ k) (chained : Chained c g p links (partBefore p k)) where
+    pub comes-in : k - p .from < p .size → (p .heads ≡ 0 → ⊥) → p .heads + (k - p .from) < length links
+        → Chained c g p (set (set links (p .heads + (k - p .from)) (wordAt links (chain k))) (chain k) (k - p .from + 1)) (partBefore p (k + 1))
+    comes-in inside some room =
+        let n : ℕ = k - p .from in
+        let number : p .from + n ≡ k = omega arith in
+        let now : partBefore p k ≡ n = omega arith in
+        let more : n + 1 ≡ partBefore p (k + 1) = omega arith in
+        subst (Chained c g p (set (set links (p .heads + n) (wordAt links (chain k))) (chain k) (n + 1))) more
+        (subst (λ (i : ℕ). Chained c g p (set (set links (p .heads + n) (wordAt links (chain i))) (chain i) (n + 1)) (n + 1)) number
+        (entered links n (subst (Chained c g p links) now chained) some room))
+
+    pub stays-out : p .size ≤ k - p .from → Chained c g p links (partBefore p (k + 1))
+    stays-out full = let same : partBefore p k ≡ partBefore p (k + 1) = omega arith in subst (Chained c g p links) same chained

@@ -1,9 +1,9 @@
--- Which corrections disagree with an earlier one: where those before k agree, the last of them that has its sample and revision decides about k.
+-- Which corrections disagree with one among the first n: where those agree, the last of them that has the sample and revision of k decides about k.
 use mathlib.Core.Path.{_≡_, sym, ap, subst, _∙_}
 use mathlib.Core.Logic.{_⊎_, inl, inr, ⊎-elim}
 use mathlib.Core.Bool.{Bool, true, false, not}
 use mathlib.Core.List.{List}
-use Prim.Native.Nat.{ℕ, zero, suc, _<_}
+use Prim.Native.Nat.{ℕ, zero, suc, _<_, _≤_}
 use native.Mathlib.Nat.{lt-suc-self}
 use native.Mathlib.Decide.{ℕ-discrete, decLt}
 use native.Mathlib.Omega.{arith}
@@ -41,13 +41,20 @@ module _ (c : List ℕ) (g : Grid) where
       (λ b. or-l (disagreesWith c g k n) (disagree c g n k) (disagrees-by k n i b h))
       (below l)
 
-  -- ---- who decides
-  pub none-decides : (k : ℕ) → ((i : ℕ) → i < k → sameRevision c g i k ≡ false) → disagreesWith c g k k ≡ false
-  none-decides k none = bool-ext (disagreesWith c g k k) false
-      (λ h. let found = disagrees-told k k h in subst T (none (found .0) (found .1)) (and-l (sameRevision c g (found .0) k) _ (found .2)))
-      (λ h. absurd h)
+  pub disagrees-more : (k m n : ℕ) → m ≤ n → T (disagreesWith c g k m) → T (disagreesWith c g k n)
+  disagrees-more k m n h told = let found = disagrees-told k m told in disagrees-by k n (found .0) (omega (arith, found .1)) (found .2)
 
-  module _ (k i : ℕ) (before : i < k) (same : T (sameRevision c g i k)) (last : (m : ℕ) → i < m → m < k → sameRevision c g m k ≡ false)
+  -- ---- who decides about k among the first n
+  pub none-decides : (k m n : ℕ) → disagreesWith c g k m ≡ false → ((i : ℕ) → m ≤ i → i < n → sameRevision c g i k ≡ false) → disagreesWith c g k n ≡ false
+  none-decides k m n apart none = bool-ext (disagreesWith c g k n) false
+      (λ h. let found = disagrees-told k n h in by (found .0) (found .1) (found .2) (decLt (found .0) m))
+      (λ h. absurd h)
+    where
+      by : (i : ℕ) → i < n → T (disagree c g i k) → Dec (i < m) → ⊥
+      by i l h (yes before) = subst T apart (disagrees-by k m i before h)
+      by i l h (no after) = subst T (none i (omega arith) l) (and-l (sameRevision c g i k) _ h)
+
+  module _ (k n i : ℕ) (before : i < n) (same : T (sameRevision c g i k)) (last : (m : ℕ) → i < m → m < n → sameRevision c g m k ≡ false)
       (agreed : disagreesWith c g i i ≡ false) where
     -- one before the last has its value
     same-value : (m : ℕ) → m < i → T (sameRevision c g m k) → value c m ≡ value c i
@@ -59,7 +66,7 @@ module _ (c : List ℕ) (g : Grid) where
         absurd (subst T agreed (disagrees-by i i m l (and-i (sameRevision c g m i) _ (same-by m i (a .0 ∙ sym (b .0)) (a .1 ∙ sym (b .1))) unlike))))
         (decT (eqb (value c m) (value c i)))
 
-    unlike-last : (m : ℕ) → m < k → T (disagree c g m k) → T (not (eqb (value c i) (value c k)))
+    unlike-last : (m : ℕ) → m < n → T (disagree c g m k) → T (not (eqb (value c i) (value c k)))
     unlike-last m l h = by (ℕ-discrete m i) (decLt m i)
       where
         other : T (sameRevision c g m k)
@@ -73,7 +80,7 @@ module _ (c : List ℕ) (g : Grid) where
         by (no e) (yes b) = subst (λ (v : ℕ). T (not (eqb v (value c k)))) (same-value m b other) unlike
         by (no e) (no b) = absurd (subst T (last m (omega arith) l) other)
 
-    pub last-decides : disagreesWith c g k k ≡ not (eqb (value c i) (value c k))
+    pub last-decides : disagreesWith c g k n ≡ not (eqb (value c i) (value c k))
     last-decides = bool-ext _ _
-        (λ h. let found = disagrees-told k k h in unlike-last (found .0) (found .1) (found .2))
-        (λ unlike. disagrees-by k k i before (and-i (sameRevision c g i k) _ same unlike))
+        (λ h. let found = disagrees-told k n h in unlike-last (found .0) (found .1) (found .2))
+        (λ unlike. disagrees-by k n i before (and-i (sameRevision c g i k) _ same unlike))

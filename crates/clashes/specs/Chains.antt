@@ -1,9 +1,9 @@
--- For contracts alone: how earlier corrections of a sample are found without going through all of them. The lent words hold chains: first so many heads, one for
--- each chain, then a link for each correction. A head tells the last correction of its chain, and a link the last one before its
--- correction, each by one more than its number, 0 for none. Without heads every earlier correction is a candidate.
-use Prim.Native.Nat.{ℕ, zero, suc, _+_, _*_, _%_, _<_, _≤_, _^_}
+-- For contracts alone: how earlier corrections of a sample are found without going through all of them. The list is gone through in parts. Of a part the lent words hold
+-- chains: first so many heads, one for each chain, then a link for each correction of the part, which are counted from its first. A head tells the last correction of
+-- its chain, and a link the last one before its correction, each by one more than its number, 0 for none. Without heads every correction of the part is a candidate.
+use Prim.Native.Nat.{ℕ, zero, suc, _+_, _-_, _*_, _%_, _<_, _≤_, _^_, min}
 use mathlib.Core.Path.{_≡_}
-use mathlib.Core.Bool.{Bool, false, cond, _||_}
+use mathlib.Core.Bool.{Bool, true, false, cond, _||_}
 use mathlib.Core.List.{List}
 use lib.Dec.{eqb}
 use lib.ListN.{length}
@@ -11,6 +11,7 @@ use Rattle.checks.specs.Checked.{wordAt}
 use Rattle.corrections.specs.declared.correction.Grid.{Grid}
 use Rattle.corrections.specs.Corrections.{revision, target, disagreesWith}
 use Rattle.corrections.specs.Aimed.{GridFits, AllAimed}
+use Rattle.clashes.specs.declared.Part.{Part}
 
 -- one more than the last number below n that passes, 0 for none
 unfoldable pub lastBelow : (ℕ → Bool) → ℕ → ℕ
@@ -21,35 +22,68 @@ lastBelow test (suc n) = cond (test n) (suc n) (lastBelow test n)
 abbrev pub spread : ℕ
 spread = 65537
 
-module _ (c : List ℕ) (g : Grid) (heads : ℕ) where
-  -- the chain of a correction, by its sample and its revision
-  abbrev pub chainOf : ℕ → ℕ
-  chainOf i = (target c g i + revision c i * spread) % heads
+-- the chain of a correction, by its sample and its revision
+abbrev pub chainOf : List ℕ → Grid → (heads : ℕ) → ℕ → ℕ
+chainOf c g heads i = (target c g i + revision c i * spread) % heads
 
+-- how many corrections of a part come before correction k
+abbrev pub partBefore : Part → ℕ → ℕ
+partBefore p k = min (k - p .from) (p .size)
+
+module _ (c : List ℕ) (g : Grid) (p : Part) where
   abbrev pub inChain : ℕ → ℕ → Bool
-  inChain chain i = eqb (chainOf i) chain
+  inChain chain j = eqb (chainOf c g (p .heads) (p .from + j)) chain
 
-  -- correction i is a candidate for k: all of one sample and revision are
+  -- correction j of the part is a candidate for k: all of one sample and revision are
   abbrev pub candidate : ℕ → ℕ → Bool
-  candidate k i = eqb heads 0 || inChain (chainOf k) i
+  candidate k j = eqb (p .heads) 0 || inChain (chainOf c g (p .heads) k) j
 
-  -- the chains of the first n corrections
+  -- the chains of the first n corrections of the part
   pub record Chained (links : List ℕ) (n : ℕ) : Type 0 where
-    pub headed : (b : ℕ) → b < heads → wordAt links b ≡ lastBelow (inChain b) n
-    pub linked : (i : ℕ) → i < n → 0 < heads → wordAt links (heads + i) ≡ lastBelow (inChain (chainOf i)) i
+    pub headed : (b : ℕ) → b < p .heads → wordAt links b ≡ lastBelow (inChain b) n
+    pub linked : (j : ℕ) → j < n → 0 < p .heads → wordAt links (p .heads + j) ≡ lastBelow (inChain (chainOf c g (p .heads) (p .from + j))) j
 
 -- where there are heads, there is a link for each correction, and its number fits a word
-abbrev pub HeadsFit : (heads count room : ℕ) → Type 0
-HeadsFit heads count room = 0 < heads → (heads + count ≤ room) × (count < 2 ^ 32)
+abbrev pub HeadsFit : (heads size room : ℕ) → Type 0
+HeadsFit heads size room = 0 < heads → (heads + size ≤ room) × (size < 2 ^ 32)
 
--- the candidate before i, by what its link says
-abbrev pub earlier : (heads : ℕ) (links : List ℕ) (i : ℕ) → ℕ
-earlier heads links i = cond (eqb heads 0) i (wordAt links (heads + i))
+-- the candidate before j, by what its link says
+abbrev pub earlier : (heads : ℕ) (links : List ℕ) (j : ℕ) → ℕ
+earlier heads links j = cond (eqb heads 0) j (wordAt links (heads + j))
 
--- correction k comes next: it is aimed, those before it are chained and agree
-pub record Next (c : List ℕ) (g : Grid) (heads : ℕ) (links : List ℕ) (k : ℕ) : Type 0 where
-  pub aimed : AllAimed c g (k + 1)
-  pub fits : GridFits g
-  pub room : HeadsFit heads (k + 1) (length links)
-  pub chained : Chained c g heads links k
-  pub agreed : (i : ℕ) → i < k → disagreesWith c g i i ≡ false
+module _ (c : List ℕ) (g : Grid) where
+  -- no correction below `end` disagrees with one before it among the first n
+  abbrev pub Searched : (n end : ℕ) → Type 0
+  Searched n end = (k : ℕ) → k < end → disagreesWith c g k (min k n) ≡ false
+
+  -- the first below `end` that does, `end` if there is none
+  pub record First (n end found : ℕ) : Type 0 where
+    pub inside : found ≤ end
+    pub searched : Searched n found
+    pub clash : found < end → disagreesWith c g found found ≡ true
+
+  -- correction k comes next: it is aimed, and disagrees with none before the part; those of the part before it are chained and agree
+  pub record Next (p : Part) (links : List ℕ) (k : ℕ) : Type 0 where
+    pub aimed : AllAimed c g (k + 1)
+    pub fits : GridFits g
+    pub room : HeadsFit (p .heads) (p .size) (length links)
+    pub begun : p .from ≤ k
+    pub chained : Chained c g p links (partBefore p k)
+    pub agreed : (i : ℕ) → i < p .from + partBefore p k → disagreesWith c g i i ≡ false
+    pub apart : disagreesWith c g k (p .from) ≡ false
+
+  -- a part is to be chained, and those below `end` to be compared with it, of which none disagrees with one before the part
+  pub record PartNext (p : Part) (links : List ℕ) (end : ℕ) : Type 0 where
+    pub aimed : AllAimed c g end
+    pub fits : GridFits g
+    pub room : HeadsFit (p .heads) (p .size) (length links)
+    pub begins : p .from ≤ end
+    pub chained : Chained c g p links 0
+    pub searched : Searched (p .from) end
+
+-- the first part of a list: at least one correction, if there is one, and no more than there are
+pub record PartFits (p : Part) (count room : ℕ) : Type 0 where
+  pub first : p .from ≡ 0
+  pub some : 0 < count → 0 < p .size
+  pub few : p .size ≤ count
+  pub linked : HeadsFit (p .heads) (p .size) room

@@ -1,6 +1,6 @@
-// Two corrections of one sample with equal revision and unlike values: 20. Each correction is compared with the last one before it that has its sample and
-// its revision: those before that one agree with it, or they would have been found. Chains through lent words lead from a correction to earlier ones, all of
-// its sample and revision among them and few others; where there is no room for chains, every earlier one is looked at.
+// Two corrections of one sample with equal revision and unlike values: 20. The list is gone through in parts. Chains through lent words lead from a correction to
+// earlier ones of the part, all of its sample and revision among them and few others. It is compared with the last of these alone: those before that one agree with it,
+// or they would have been found. As long as a part has all corrections there is one part; where there is no room for chains, it has all and every earlier one is looked at.
 use corrections::correction::Found;
 use corrections::correction::Grid;
 use corrections::correction::first_at;
@@ -9,30 +9,52 @@ use corrections::correction::second_at;
 use corrections::correction::target_at;
 use corrections::correction::value_at;
 ghost use mathlib.Core.Path.{_≡_};
-ghost use Prim.Native.Nat.{_+_, _*_, _<_};
+ghost use Prim.Native.Nat.{_+_, _*_, _<_, _≤_, min};
 ghost use lib.ListN.{length, replicate};
 ghost use Rattle.words.specs.Bytes.{wordsOf};
 ghost use Rattle.corrections.specs.Corrections.{sameRevision, disagreesWith, agrees, inTurn};
 ghost use Rattle.corrections.specs.Aimed.{foundSaid, GridFits, AllAimed};
-ghost use Rattle.clashes.specs.Chains.{lastBelow, chainOf, candidate, earlier, Chained, HeadsFit, Next};
+ghost use Rattle.clashes.specs.Chains.{lastBelow, chainOf, candidate, earlier, partBefore, Chained, HeadsFit, First, Next, PartNext, PartFits};
 
-// The most corrections that words can number.
+// The most corrections that words can number, and the fewest that are worth their chains: to look at as many takes no longer.
 const MOST_LINKED: usize = 4294967295;
+
+const FEWEST_LINKED: usize = 32;
 
 // How far the chains of one revision and of the next lie apart.
 const SPREAD: usize = 65537;
 
-// How many heads there is room for beside a link for each correction.
-fn heads_for(count: usize, room: usize) -> usize
-    ensures { λ r. ⌜ (HeadsFit r count room) ⌝ }
+// The corrections that are chained at a time, so many from one on, and in how many chains.
+struct Part {
+    pub from: usize,
+    pub size: usize,
+    pub heads: usize,
+}
+
+fn lesser(a: usize, b: usize) -> usize
+    ensures { λ r. ⌜ r ≡ min a b ⌝ }
 {
-    if room <= count {
-        return 0;
+    if a < b { a } else { b }
+}
+
+// The first part: up to half of the words are links, as many as there are corrections, and all others heads.
+fn first_part(count: usize, room: usize) -> Part
+    ensures { λ r. ⌜ PartFits r count room ⌝ }
+{
+    let links = lesser(room / 2, MOST_LINKED);
+    if links < FEWEST_LINKED {
+        return Part {
+            from: 0,
+            size: count,
+            heads: 0,
+        };
     }
-    if MOST_LINKED < count {
-        return 0;
+    let size = lesser(count, links);
+    Part {
+        from: 0,
+        size,
+        heads: room - size,
     }
-    room - count
 }
 
 // Whether two corrections have the same sample and revision: their first two words are then the same.
@@ -54,70 +76,96 @@ fn chain_of(list: &[u8], grid: Grid, heads: usize, k: usize) -> usize
     (target_at(list, k, grid) + revision_at(list, k) as usize * SPREAD) % heads
 }
 
-// The last candidate before a correction, by one more than its number, 0 for none.
-fn last_candidate(list: &[u8], grid: Grid, links: &[u8], heads: usize, k: usize) -> usize
-    requires { ⌜ Next (wordsOf (now list)) grid heads (wordsOf (now links)) k ⌝ }
-    ensures { λ r. ⌜ r ≡ lastBelow (candidate (wordsOf (now (list .entry))) grid heads k) k ⌝ }
+// The last candidate before a correction, by one more than its number in the part, 0 for none.
+fn last_candidate(list: &[u8], grid: Grid, links: &[u8], part: Part, k: usize) -> usize
+    requires { ⌜ Next (wordsOf (now list)) grid part (wordsOf (now links)) k ⌝ }
+    ensures { λ r. ⌜ r ≡ lastBelow (candidate (wordsOf (now (list .entry))) grid part k) (partBefore part k) ⌝ }
 {
-    if heads == 0 {
-        return k;
+    if part.heads == 0 {
+        return lesser(k - part.from, part.size);
     }
-    words::word_at(links, chain_of(list, grid, heads, k)) as usize
+    words::word_at(links, chain_of(list, grid, part.heads, k)) as usize
 }
 
 // The candidate before one, in the same way.
-fn earlier_candidate(links: &[u8], heads: usize, i: usize) -> usize
-    requires { ⌜ (HeadsFit heads (i + 1) (length (wordsOf (now links)))) ⌝ }
-    ensures { λ r. ⌜ r ≡ earlier heads (wordsOf (now (links .entry))) i ⌝ }
+fn earlier_candidate(links: &[u8], heads: usize, j: usize) -> usize
+    requires { ⌜ (HeadsFit heads (j + 1) (length (wordsOf (now links)))) ⌝ }
+    ensures { λ r. ⌜ r ≡ earlier heads (wordsOf (now (links .entry))) j ⌝ }
 {
     if heads == 0 {
-        return i;
+        return j;
     }
-    words::word_at(links, heads + i) as usize
+    words::word_at(links, heads + j) as usize
 }
 
-// Whether a correction disagrees with an earlier one, where those agree.
-fn disagrees(list: &[u8], grid: Grid, links: &[u8], heads: usize, k: usize) -> bool
-    requires { ⌜ Next (wordsOf (now list)) grid heads (wordsOf (now links)) k ⌝ }
-    ensures { λ r. ⌜ r ≡ disagreesWith (wordsOf (now (list .entry))) grid k k ⌝ }
+// Whether a correction disagrees with one before it in the part or before the part, where those agree.
+fn disagrees(list: &[u8], grid: Grid, links: &[u8], part: Part, k: usize) -> bool
+    requires { ⌜ Next (wordsOf (now list)) grid part (wordsOf (now links)) k ⌝ }
+    ensures { λ r. ⌜ r ≡ disagreesWith (wordsOf (now (list .entry))) grid k (part .from + partBefore part k) ⌝ }
 {
-    let mut after = last_candidate(list, grid, links, heads, k);
+    let mut after = last_candidate(list, grid, links, part, k);
     while 0 < after {
-        let i = after - 1;
+        let j = after - 1;
+        let i = part.from + j;
         if same_revision(list, grid, i, k) {
             return value_at(list, i) != value_at(list, k);
         }
-        after = earlier_candidate(links, heads, i);
+        after = earlier_candidate(links, part.heads, j);
     }
     false
 }
 
-// Puts a correction at the front of its chain.
-fn enter(list: &[u8], grid: Grid, links: &mut [u8], heads: usize, k: usize)
-    requires { ⌜ Next (wordsOf (now list)) grid heads (wordsOf (now links)) k ⌝ }
-    ensures { λ _. ⌜ Chained (wordsOf (now (list .entry))) grid heads (wordsOf (now (links .exit))) (k + 1) ⌝ }
+// Puts a correction of the part at the front of its chain.
+fn enter(list: &[u8], grid: Grid, links: &mut [u8], part: Part, k: usize)
+    requires { ⌜ Next (wordsOf (now list)) grid part (wordsOf (now links)) k ⌝ }
+    ensures { λ _. ⌜ Chained (wordsOf (now (list .entry))) grid part (wordsOf (now (links .exit))) (partBefore part (k + 1)) ⌝ }
 {
-    if heads == 0 {
+    if part.heads == 0 {
         return;
     }
-    let head = chain_of(list, grid, heads, k);
+    let j = k - part.from;
+    if part.size <= j {
+        return;
+    }
+    let head = chain_of(list, grid, part.heads, k);
     let last = words::word_at(links, head);
-    words::put_word(links, heads + k, last);
-    words::put_word(links, head, (k + 1) as u32);
+    words::put_word(links, part.heads + j, last);
+    words::put_word(links, head, (j + 1) as u32);
 }
 
-// One after the other, from no chains on.
-fn look_through(list: &[u8], grid: Grid, count: usize, links: &mut [u8], heads: usize) -> Found
-    requires { ⌜ AllAimed (wordsOf (now list)) grid count × GridFits grid × (HeadsFit heads count (length (wordsOf (now links)))) × Chained (wordsOf (now list)) grid heads (wordsOf (now links)) 0 ⌝ }
-    ensures { λ r. ⌜ foundSaid 20 r ≡ inTurn (agrees (wordsOf (now (list .entry))) grid) count ⌝ }
+// One after the other, those of the part and those behind it, from no chains on: the first that disagrees with one before it, up to the end of the part.
+fn look_through(list: &[u8], grid: Grid, part: Part, end: usize, links: &mut [u8]) -> usize
+    requires { ⌜ PartNext (wordsOf (now list)) grid part (wordsOf (now links)) end ⌝ }
+    ensures { λ r. ⌜ First (wordsOf (now (list .entry))) grid (part .from + part .size) end r ⌝ }
 {
-    for k in 0..count {
-        if disagrees(list, grid, links, heads, k) {
-            return Found::At(k * 3);
+    let from = part.from;
+    for k in from..end {
+        if disagrees(list, grid, links, part, k) {
+            return k;
         }
-        enter(list, grid, links, heads, k);
+        enter(list, grid, links, part, k);
     }
-    Found::Nothing
+    end
+}
+
+// Part by part, each time among those before what has been found.
+fn first_clash(list: &[u8], grid: Grid, count: usize, first: Part, links: &mut [u8]) -> usize
+    requires { ⌜ AllAimed (wordsOf (now list)) grid count × GridFits grid × PartFits first count (length (wordsOf (now links))) ⌝ }
+    ensures { λ r. ⌜ First (wordsOf (now (list .entry))) grid count count r ⌝ }
+{
+    let mut end = count;
+    let mut from = 0;
+    while from < end {
+        words::fill_zero(links);
+        let part = Part {
+            from,
+            size: first.size,
+            heads: first.heads,
+        };
+        end = look_through(list, grid, part, end, links);
+        from += first.size;
+    }
+    end
 }
 
 // The first correction that disagrees with an earlier one. What is lent serves for chains, and is zero in the end.
@@ -126,9 +174,11 @@ pub fn find_clash(list: &[u8], grid: Grid, count: usize, links: &mut [u8]) -> Fo
     ensures found { λ r. ⌜ foundSaid 20 r ≡ inTurn (agrees (wordsOf (now (list .entry))) grid) count ⌝ }
     ensures cleared { λ _. ⌜ now (links .exit) ≡ replicate (length (now (links .entry))) 0 ⌝ }
 {
+    let first = first_part(count, words::word_count(links));
+    let found = first_clash(list, grid, count, first, links);
     words::fill_zero(links);
-    let heads = heads_for(count, words::word_count(links));
-    let found = look_through(list, grid, count, links, heads);
-    words::fill_zero(links);
-    found
+    if found < count {
+        return Found::At(found * 3);
+    }
+    Found::Nothing
 }

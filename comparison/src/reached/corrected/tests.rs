@@ -157,6 +157,31 @@ fn what_clashes() {
     shown(&[sent(7, 2), sent(9, 1), sent(7, 2), sent(7, 3)], 3, &texts);
 }
 
+/// Of more corrections than there are words in an output that has some.
+#[test]
+fn what_has_no_word_for_each() {
+    let sheet = SheetBuilder::new(2, 1, 40).samples(&[1; 80]).truth().end();
+    let mut list = vec![sent(1, 2); sheet.len() + 2];
+    let right = ["a narrow sheet", "room exact", "more corrections than words"];
+    let again = ["the same sent again next to it", "20 revisions of a sample"];
+    let none_for_each = "more corrections than words lent, which are 64 or more";
+    let texts = [&right[..], &again, &[none_for_each]].concat();
+    assert_shown(&sheet, &correct::list(&list), sheet.len(), (0, 0), &texts);
+    let last = list.len() as u64 - 1;
+    *list.last_mut().expect("a correction") = sent(1, 3);
+    let clash = ["a narrow sheet", "enough room", "at the highest revision", "others between"];
+    let far = "farther apart than words are lent, which are 64 or more";
+    let texts = [&clash[..], &["the same sent again between", far]].concat();
+    assert_shown(&sheet, &correct::list(&list), sheet.len(), (20, 3 * last), &texts);
+    let earlier = 3 * (last - 1);
+    let end = list.len() - 1;
+    list[end - 2..end].copy_from_slice(&[sent(2, 5), sent(2, 6)]);
+    let clash = ["a narrow sheet", "enough room", "at the highest revision", "next to each other"];
+    let before = "another behind it that begins before it, and no word for each correction";
+    let texts = [&clash[..], &["another clash behind it", before]].concat();
+    assert_shown(&sheet, &correct::list(&list), sheet.len(), (20, earlier), &texts);
+}
+
 #[test]
 fn what_is_wrong_with_the_sheet() {
     let clashing = correct::list(&[sent(1, 2), sent(1, 3)]);

@@ -1,7 +1,7 @@
 -- From candidate to candidate, by `Walking`.
-use mathlib.Core.Path.{_≡_, sym, ap₂, subst, _∙_}
+use mathlib.Core.Path.{_≡_, sym, ap₂, _∙_}
 use mathlib.Core.Bool.{not}
-use Prim.Native.Nat.{ℕ, _-_}
+use Prim.Native.Nat.{ℕ, _+_, _-_, _<_}
 use native.Mathlib.Omega.{arith}
 use lib.Dec.{eqb}
 use borrow.Author.Needs.{needs}
@@ -11,60 +11,66 @@ use Rattle.clashes.proofs.disagrees.Statement.{statement}
 use Rattle.clashes.proofs.disagrees.Tie as tie
 
 abbrev Inv-loop : tie.InvT-loop
-Inv-loop list grid links heads k after₀ after = Walking (wordsOf list) grid heads k after
+Inv-loop list grid links part k after₀ after = Walking (wordsOf list) grid part k after
 
 abbrev μ-loop : tie.MeasureT-loop
-μ-loop list grid links heads k after₀ after = after
+μ-loop list grid links part k after₀ after = after
 
 last-candidate-requires : tie.Need-last-candidate-requires Inv-loop μ-loop
 last-candidate-requires c κs = c .before .before .pre
 
 loop-holds : tie.Need-loop-holds Inv-loop μ-loop
-loop-holds c = let g = c .before .before .before .args in walk-start (wordsOf (g .list .now)) (g .grid) (g .heads) (g .k) (c .last-candidate .result) (c .last-candidate .ensures)
+loop-holds c = let g = c .before .before .before .args in walk-start (wordsOf (g .list .now)) (g .grid) (g .part) (g .k) (c .last-candidate .result) (c .last-candidate .ensures)
+
+-- the candidate comes before the correction
+inside : (c : tie.In-loop Inv-loop μ-loop) → let start = c .before .before .before .before .before in start .args .part .from + (c .before .loop .after - 1) < start .args .k
+inside c = let start = c .before .before .before .before .before in omega (arith, c .before .loop .inv .inside, start .pre .begun)
+
+add-i : tie.Need-add-i Inv-loop μ-loop
+add-i c = let start = c .before .before .before .before .before .before in omega (arith, inside (c .before), start .fits .k)
 
 same-revision-requires : tie.Need-same-revision-requires Inv-loop μ-loop
-same-revision-requires c κs = (c .before .before .before .before .before .pre .aimed, omega (arith, c .before .loop .inv .inside))
+same-revision-requires c κs = (c .before .before .before .before .before .before .pre .aimed, inside (c .before))
 
 value-at-requires : tie.Need-value-at-requires Inv-loop μ-loop
-value-at-requires c κs = c .before .before .before .before .before .before .before .pre .aimed (c .before .before .before .loop .after - 1) (omega (arith, c .before .before .before .loop .inv .inside)) .there
+value-at-requires c κs =
+    let start = c .before .before .before .before .before .before .before .before in
+    start .pre .aimed (start .args .part .from + (c .before .before .before .before .loop .after - 1)) (omega (arith, inside (c .before .before .before))) .there
 
 value-at-requires-2 : tie.Need-value-at-requires-2 Inv-loop μ-loop
-value-at-requires-2 c κs = c .before .before .before .before .before .before .before .before .pre .aimed (c .before .before .before .before .before .before .before .before .args .k) (omega arith) .there
+value-at-requires-2 c κs = let start = c .before .before .before .before .before .before .before .before .before in start .pre .aimed (start .args .k) (omega arith) .there
 
 returns : tie.Need-returns Inv-loop μ-loop
 returns c =
-    let start = c .before .before .before .before .before .before .before .before .before in
-    let loop = c .before .before .before .before .before .loop in
-    let list = wordsOf (start .args .list .now) in
+    let start = c .before .before .before .before .before .before .before .before .before .before in
+    let loop = c .before .before .before .before .before .before .loop in
     let same = sym (c .before .before .before .same-revision .ensures) ∙ c .before .before .if1 .taken in
     ap₂ (λ v w. not (eqb v w)) (c .before .value-at .ensures) (c .value-at2 .ensures)
-    ∙ sym (walk-found list (start .args .grid) (start .args .heads) (start .args .k) (wordsOf (start .args .links .now)) (start .pre) (loop .after) (loop .inv) (loop .after - 1) (omega arith) (rw same tt))
+    ∙ sym (walk-found (wordsOf (start .args .list .now)) (start .args .grid) (start .args .part) (start .args .k) (wordsOf (start .args .links .now)) (start .pre) (loop .after) (loop .inv) (loop .after - 1) (omega arith) (rw same tt))
 
 earlier-candidate-requires : tie.Need-earlier-candidate-requires Inv-loop μ-loop
 earlier-candidate-requires c κs = λ some.
-    let start = c .before .before .before .before .before .before .before in
-    let loop = c .before .before .before .loop in
+    let start = c .before .before .before .before .before .before .before .before in
+    let loop = c .before .before .before .before .loop in
     let room = start .pre .room some in
     (omega (arith, room .0, loop .inv .inside), omega (arith, room .1, loop .inv .inside))
 
 loop-less : tie.Need-loop-less Inv-loop μ-loop
 loop-less c =
-    let start = c .before .before .before .before .before .before .before .before in
-    let loop = c .before .before .before .before .loop in
-    walk-less (wordsOf (start .args .list .now)) (start .args .grid) (start .args .heads) (start .args .k) (wordsOf (start .args .links .now)) (start .pre) (loop .after) (loop .inv) (loop .after - 1) (c .earlier-candidate .result) (omega arith) (c .earlier-candidate .ensures)
+    let start = c .before .before .before .before .before .before .before .before .before in
+    let loop = c .before .before .before .before .before .loop in
+    walk-less (wordsOf (start .args .list .now)) (start .args .grid) (start .args .part) (start .args .k) (wordsOf (start .args .links .now)) (start .pre) (loop .after) (loop .inv) (loop .after - 1) (c .earlier-candidate .result) (omega arith) (c .earlier-candidate .ensures)
 
 loop-again : tie.Need-loop-again Inv-loop μ-loop
 loop-again c =
-    let start = c .before .before .before .before .before .before .before .before in
-    let loop = c .before .before .before .before .loop in
-    walk-on (wordsOf (start .args .list .now)) (start .args .grid) (start .args .heads) (start .args .k) (wordsOf (start .args .links .now)) (start .pre) (loop .after) (loop .inv) (loop .after - 1) (c .earlier-candidate .result) (omega arith) (sym (c .before .before .same-revision .ensures) ∙ c .before .if1 .left) (c .earlier-candidate .ensures)
+    let start = c .before .before .before .before .before .before .before .before .before in
+    let loop = c .before .before .before .before .before .loop in
+    walk-on (wordsOf (start .args .list .now)) (start .args .grid) (start .args .part) (start .args .k) (wordsOf (start .args .links .now)) (start .pre) (loop .after) (loop .inv) (loop .after - 1) (c .earlier-candidate .result) (omega arith) (sym (c .before .before .same-revision .ensures) ∙ c .before .if1 .left) (c .earlier-candidate .ensures)
 
 returns-2 : tie.Need-returns-2 Inv-loop μ-loop
 returns-2 c =
     let start = c .before .before .before .before .before in
-    let loop = c .before .loop in
-    let none : loop .after ≡ 0 = omega arith in
-    sym (walk-over (wordsOf (start .args .list .now)) (start .args .grid) (start .args .heads) (start .args .k) (subst (Walking (wordsOf (start .args .list .now)) (start .args .grid) (start .args .heads) (start .args .k)) none (loop .inv)))
+    sym (walk-over (wordsOf (start .args .list .now)) (start .args .grid) (start .args .part) (start .args .k) (wordsOf (start .args .links .now)) (start .pre) (c .before .loop .after) (c .before .loop .inv) (omega arith))
 
 pub disagrees-spec : {M : Type 1} → statement M
 disagrees-spec =
@@ -75,6 +81,7 @@ disagrees-spec =
     last-candidate-requires
     loop-holds
     (λ c. search needs)
+    add-i
     same-revision-requires
     value-at-requires
     value-at-requires-2

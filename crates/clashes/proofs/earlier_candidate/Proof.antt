@@ -14,7 +14,7 @@ returns : tie.Need-returns
 returns c = rw (eq-eqb _ _ (c .if1 .taken)) refl
 
 -- there are heads, so there is a link
-linked : (c : tie.Else1) → c .before .before .args .heads + c .before .before .args .i < length (wordsOf (c .before .before .args .links .now))
+linked : (c : tie.Else1) → c .before .before .args .heads + c .before .before .args .j < length (wordsOf (c .before .before .args .links .now))
 linked c = let room = c .before .before .pre (omega arith) in omega (arith, room .0)
 
 add-word-at : tie.Need-add-word-at

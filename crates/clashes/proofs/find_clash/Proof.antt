@@ -1,35 +1,53 @@
--- The words are zero at first, so there are no chains.
+-- What the search finds is the first that disagrees, by `clash-told` and `none-told`.
 use mathlib.Core.Path.{_≡_, sym, ap, subst, _∙_}
-use mathlib.Core.List.{List}
-use Prim.Native.Nat.{ℕ}
+use Prim.Native.Nat.{ℕ, _*_}
+use native.Mathlib.Omega.{arith}
 use borrow.Author.Needs.{needs}
 use lib.ListN.{length, replicate}
 use Rattle.words.specs.Bytes.{wordsOf}
-use Rattle.words.proofs.Zeros.{zero-words}
-use Rattle.clashes.specs.Chains.{Chained, HeadsFit}
-use Rattle.clashes.proofs.Chaining.{no-chains}
+use Rattle.words.proofs.Words.{words-count}
+use Rattle.clashes.specs.Chains.{PartFits}
+use Rattle.clashes.proofs.Searching.{clash-told, none-told}
 use Rattle.clashes.proofs.find_clash.Statement.{statement}
 use Rattle.clashes.proofs.find_clash.Tie as tie
 
-look-through-requires : tie.Need-look-through-requires
-look-through-requires c κs =
-    let start = c .before .before .before .before .before .before .before .before .before .before in
-    let links = c .before .before .before .before .before .before .fill-zero .last .0 in
-    let zeros = ap wordsOf (c .before .before .before .before .before .before .fill-zero .ensures) ∙ zero-words (start .args .links .now) in (
-      start .pre .0,
-      start .pre .1,
-      subst (HeadsFit (c .before .heads-for .result) (start .args .count)) (c .before .before .word-count .ensures) (c .before .heads-for .ensures),
-      subst (λ (w : List ℕ). Chained (wordsOf (start .args .list .now)) (start .args .grid) (c .before .heads-for .result) w 0) (sym zeros)
-          (no-chains (wordsOf (start .args .list .now)) (start .args .grid) (c .before .heads-for .result) (length (wordsOf (start .args .links .now)))),
-    )
+first-clash-requires : tie.Need-first-clash-requires
+first-clash-requires c κs =
+    let start = c .before .before .before .before .before .before in
+    (start .pre .0, start .pre .1, subst (PartFits (c .before .first-part .result) (start .args .count)) (c .before .before .word-count .ensures) (c .before .first-part .ensures))
+
+-- the words are zero in the end
+cleared : (c : tie.After-fill-zero) → c .fill-zero .last .0 ≡ replicate (length (c .before .before .before .before .before .before .before .before .before .before .before .args .links .now)) 0
+cleared c = c .fill-zero .ensures ∙ ap (λ n. replicate n 0) (c .before .before .before .before .first-clash .kept .1 .1 .1 .1 .0)
+
+mul-t16 : tie.Need-mul-t16
+mul-t16 c =
+    let start = c .before .before .before .before .before .before .before .before .before .before .before .before .before .before in
+    let found = c .before .before .before .before .before .before .before .first-clash .result in
+    omega (arith, start .pre .0 found (c .if1 .taken) .there, words-count (start .args .list .now))
 
 returns : tie.Need-returns
 returns c =
-    let look = c .before .before .before .before .before .before .look-through in
-    let first = c .before .before .before .before .before .before .before .before .before .before .before .before .before .fill-zero in
-    (look .ensures, c .before .before .fill-zero2 .ensures ∙ ap (λ n. replicate n 0) (look .kept .1 .1 .1 .0 ∙ first .kept .0))
+    let g = c .before .before .before .before .before .before .before .before .before .before .before .before .before .before .args in
+    let search = c .before .before .before .before .before .before .before .first-clash in
+    (sym (clash-told (wordsOf (g .list .now)) (g .grid) (g .count) (search .result) (search .ensures) (c .if1 .taken)), cleared (c .before .before .before))
+
+returns-2 : tie.Need-returns-2
+returns-2 c =
+    let g = c .before .before .before .before .before .before .before .before .before .before .before .before .before .before .args in
+    let search = c .before .before .before .before .before .before .before .first-clash in
+    (sym (none-told (wordsOf (g .list .now)) (g .grid) (g .count) (search .result) (search .ensures) (omega arith)), cleared (c .before .before .before))
 
 pub find-clash-spec : {M : Type 1} → statement M
 find-clash-spec =
     tie.close
-    (tie.spec (λ c κs. search needs) (λ c κs. search needs) (λ c κs. search needs) look-through-requires (λ c κs. search needs) (λ c. search needs) returns)
+    (tie.spec
+    (λ c κs. search needs)
+    (λ c κs. search needs)
+    first-clash-requires
+    (λ c κs. search needs)
+    mul-t16
+    (λ c. search needs)
+    returns
+    (λ c. search needs)
+    returns-2)
