@@ -1,11 +1,11 @@
--- Which corrections disagree with one among the first n: where those agree, the last of them that has the sample and revision of k decides about k.
+-- Which corrections disagree with one among the first n: where those agree, any of them that has the sample and revision of k decides about k.
 use mathlib.Core.Path.{_≡_, sym, ap, subst, _∙_}
 use mathlib.Core.Logic.{_⊎_, inl, inr, ⊎-elim}
 use mathlib.Core.Bool.{Bool, true, false, not}
 use mathlib.Core.List.{List}
 use Prim.Native.Nat.{ℕ, zero, suc, _<_, _≤_}
 use native.Mathlib.Nat.{lt-suc-self}
-use native.Mathlib.Decide.{ℕ-discrete, decLt}
+use native.Mathlib.Decide.{decLt}
 use native.Mathlib.Omega.{arith}
 use borrow.Author.Tests.{eqb-true}
 use lib.Dec.{T, eqb}
@@ -23,6 +23,15 @@ module _ (c : List ℕ) (g : Grid) where
 
   pub same-by : (i k : ℕ) → target c g i ≡ target c g k → revision c i ≡ revision c k → T (sameRevision c g i k)
   same-by i k sample revised = and-i (eqb (target c g i) (target c g k)) (eqb (revision c i) (revision c k)) (equal _ _ sample) (equal _ _ revised)
+
+  pub same-sym : (i k : ℕ) → T (sameRevision c g i k) → T (sameRevision c g k i)
+  same-sym i k same = let told = same-told i k same in same-by k i (sym (told .0)) (sym (told .1))
+
+  pub same-trans : (i k m : ℕ) → T (sameRevision c g i k) → T (sameRevision c g k m) → T (sameRevision c g i m)
+  same-trans i k m one other =
+      let a = same-told i k one in
+      let b = same-told k m other in
+      same-by i m (a .0 ∙ b .0) (a .1 ∙ b .1)
 
   -- ---- one of the first n
   disagrees-told : (k n : ℕ) → T (disagreesWith c g k n) → (i : ℕ) × (i < n) × T (disagree c g i k)
@@ -44,7 +53,7 @@ module _ (c : List ℕ) (g : Grid) where
   pub disagrees-more : (k m n : ℕ) → m ≤ n → T (disagreesWith c g k m) → T (disagreesWith c g k n)
   disagrees-more k m n h told = let found = disagrees-told k m told in disagrees-by k n (found .0) (omega (arith, found .1)) (found .2)
 
-  -- ---- who decides about k among the first n
+  -- ---- who decides about k
   pub none-decides : (k m n : ℕ) → disagreesWith c g k m ≡ false → ((i : ℕ) → m ≤ i → i < n → sameRevision c g i k ≡ false) → disagreesWith c g k n ≡ false
   none-decides k m n apart none = bool-ext (disagreesWith c g k n) false
       (λ h. let found = disagrees-told k n h in by (found .0) (found .1) (found .2) (decLt (found .0) m))
@@ -54,33 +63,28 @@ module _ (c : List ℕ) (g : Grid) where
       by i l h (yes before) = subst T apart (disagrees-by k m i before h)
       by i l h (no after) = subst T (none i (omega arith) l) (and-l (sameRevision c g i k) _ h)
 
-  module _ (k n i : ℕ) (before : i < n) (same : T (sameRevision c g i k)) (last : (m : ℕ) → i < m → m < n → sameRevision c g m k ≡ false)
-      (agreed : disagreesWith c g i i ≡ false) where
-    -- one before the last has its value
-    same-value : (m : ℕ) → m < i → T (sameRevision c g m k) → value c m ≡ value c i
-    same-value m l other = ⊎-elim
-        (λ e. eqb-true _ _ (holds (eqb (value c m) (value c i)) e))
-        (λ unlike.
-        let a = same-told m k other in
-        let b = same-told i k same in
-        absurd (subst T agreed (disagrees-by i i m l (and-i (sameRevision c g m i) _ (same-by m i (a .0 ∙ sym (b .0)) (a .1 ∙ sym (b .1))) unlike))))
-        (decT (eqb (value c m) (value c i)))
+  -- where the first n agree, those of one sample and revision have one value
+  module _ (n : ℕ) (agreed : (i : ℕ) → i < n → disagreesWith c g i i ≡ false) where
+    in-order : (i m : ℕ) → i < m → m < n → T (sameRevision c g i m) → value c i ≡ value c m
+    in-order i m before l same = ⊎-elim
+        (λ e. eqb-true _ _ (holds (eqb (value c i) (value c m)) e))
+        (λ unlike. absurd (subst T (agreed m l) (disagrees-by m m i before (and-i (sameRevision c g i m) _ same unlike))))
+        (decT (eqb (value c i) (value c m)))
 
-    unlike-last : (m : ℕ) → m < n → T (disagree c g m k) → T (not (eqb (value c i) (value c k)))
-    unlike-last m l h = by (ℕ-discrete m i) (decLt m i)
+    pub one-value : (i m : ℕ) → i < n → m < n → T (sameRevision c g i m) → value c i ≡ value c m
+    one-value i m l b same = by (decLt i m) (decLt m i)
       where
-        other : T (sameRevision c g m k)
-        other = and-l (sameRevision c g m k) _ h
+        by : Dec (i < m) → Dec (m < i) → value c i ≡ value c m
+        by (yes before) _ = in-order i m before b same
+        by (no _) (yes after) = sym (in-order m i after l (same-sym i m same))
+        by (no p) (no q) = let here : i ≡ m = omega arith in ap (value c) here
 
-        unlike : T (not (eqb (value c m) (value c k)))
-        unlike = and-r (sameRevision c g m k) _ h
-
-        by : Dec (m ≡ i) → Dec (m < i) → T (not (eqb (value c i) (value c k)))
-        by (yes e) _ = subst (λ (n : ℕ). T (not (eqb (value c n) (value c k)))) e unlike
-        by (no e) (yes b) = subst (λ (v : ℕ). T (not (eqb v (value c k)))) (same-value m b other) unlike
-        by (no e) (no b) = absurd (subst T (last m (omega arith) l) other)
-
-    pub last-decides : disagreesWith c g k n ≡ not (eqb (value c i) (value c k))
-    last-decides = bool-ext _ _
-        (λ h. let found = disagrees-told k n h in unlike-last (found .0) (found .1) (found .2))
-        (λ unlike. disagrees-by k n i before (and-i (sameRevision c g i k) _ same unlike))
+    -- so any of them decides about another one
+    pub one-decides : (k i : ℕ) → i < n → T (sameRevision c g i k) → disagreesWith c g k n ≡ not (eqb (value c i) (value c k))
+    one-decides k i l same = bool-ext _ _
+        (λ h.
+        let found = disagrees-told k n h in
+        let other : T (sameRevision c g (found .0) k) = and-l (sameRevision c g (found .0) k) _ (found .2) in
+        let alike : value c (found .0) ≡ value c i = one-value (found .0) i (found .1) l (same-trans (found .0) k i other (same-sym i k same)) in
+        subst (λ (v : ℕ). T (not (eqb v (value c k)))) alike (and-r (sameRevision c g (found .0) k) _ (found .2)))
+        (λ unlike. disagrees-by k n i l (and-i (sameRevision c g i k) _ same unlike))

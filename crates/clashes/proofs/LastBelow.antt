@@ -1,4 +1,4 @@
--- The last number below n that passes a test: it passes, and none after it does; one number more; tests that agree.
+-- The last number below n that passes a test: it passes, and none after it does; one number more; none at all; tests that agree.
 use mathlib.Core.Path.{_≡_, refl, sym, ap₂, subst}
 use mathlib.Core.Bool.{Bool, false, cond}
 use Prim.Native.Nat.{ℕ, zero, suc, _+_, _<_, _≤_}
@@ -34,6 +34,15 @@ module _ (test : ℕ → Bool) where
       (λ e. subst (λ (m : ℕ). test m ≡ false) (sym e) (by-test (test n) (λ t. cond t (suc n) (lastBelow test n) ≤ i → t ≡ false) (λ _ h. absurd (omega (arith, h))) (λ _ _. refl) h))
       (λ b. none-after n i (by-test (test n) (λ t. cond t (suc n) (lastBelow test n) ≤ i → lastBelow test n ≤ i) (λ _ h. absurd (omega (arith, h))) (λ _ h. h) h) b)
       (below l)
+
+-- where none passes there is none
+pub last-none : (test : ℕ → Bool) (n : ℕ) → ((i : ℕ) → i < n → T (test i) → ⊥) → lastBelow test n ≡ 0
+unfolding lastBelow
+last-none test zero h = refl
+last-none test (suc n) h = by-test (test n) (λ t. (T t → ⊥) → cond t (suc n) (lastBelow test n) ≡ 0)
+    (λ _ it. absurd (it tt))
+    (λ _ _. last-none test n (λ i l. h i (omega arith)))
+    (h n (omega arith))
 
 pub last-same : (f g : ℕ → Bool) (n : ℕ) → ((i : ℕ) → i < n → f i ≡ g i) → lastBelow f n ≡ lastBelow g n
 unfolding lastBelow

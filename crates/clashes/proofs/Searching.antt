@@ -6,10 +6,10 @@ use mathlib.Core.List.{List}
 use Prim.Native.Nat.{ℕ, zero, suc, _+_, _*_, _<_, _≤_, min}
 use native.Mathlib.Decide.{decLt}
 use native.Mathlib.Omega.{arith}
-use borrow.Author.Tests.{not-true, eqb-true}
-use lib.Dec.{T, eqb}
+use borrow.Author.Tests.{not-true}
+use lib.Dec.{T}
 use lib.ListN.{length}
-use Rattle.counting.proofs.Tests.{holds, and-i, decT, below}
+use Rattle.counting.proofs.Tests.{holds, below}
 use Rattle.checks.specs.Checked.{accepted, refused}
 use Rattle.checks.proofs.Checks.{require-accepted}
 use Rattle.corrections.specs.declared.correction.Grid.{Grid}
@@ -17,7 +17,7 @@ use Rattle.corrections.specs.Corrections.{value, sameRevision, inTurn, disagree
 use Rattle.corrections.proofs.Turns.{turn-refused, each-passed}
 use Rattle.clashes.specs.declared.Part.{Part}
 use Rattle.clashes.specs.Chains.{partBefore, Chained, Searched, First, Next, PartNext}
-use Rattle.clashes.proofs.Disagreeing.{same-told, same-by, disagrees-by, disagrees-more}
+use Rattle.clashes.proofs.Disagreeing.{disagrees-more, one-value}
 
 module _ (c : List ℕ) (g : Grid) where
   agreed-told : (k : ℕ) → agrees c g k ≡ accepted tt → disagreesWith c g k k ≡ false
@@ -26,18 +26,7 @@ module _ (c : List ℕ) (g : Grid) where
 
   -- a list that has passed: what has the same sample and revision has the same value
   pub values-agree : (n : ℕ) → inTurn (agrees c g) n ≡ accepted tt → (i k : ℕ) → i < n → k < n → T (sameRevision c g i k) → value c i ≡ value c k
-  values-agree n passed i k l b same = by (decLt i k) (decLt k i)
-    where
-      ordered : (i k : ℕ) → i < k → k < n → T (sameRevision c g i k) → value c i ≡ value c k
-      ordered i k before l same = ⊎-elim
-          (λ e. eqb-true _ _ (holds (eqb (value c i) (value c k)) e))
-          (λ unlike. absurd (subst T (agreed-told k (each-passed (agrees c g) n passed k l)) (disagrees-by c g k k i before (and-i (sameRevision c g i k) _ same unlike))))
-          (decT (eqb (value c i) (value c k)))
-
-      by : Dec (i < k) → Dec (k < i) → value c i ≡ value c k
-      by (yes before) _ = ordered i k before b same
-      by (no _) (yes after) = let t = same-told c g i k same in sym (ordered k i after l (same-by c g k i (sym (t .0)) (sym (t .1))))
-      by (no p) (no q) = let here : i ≡ k = omega arith in ap (value c) here
+  values-agree n passed = one-value c g n (λ i l. agreed-told i (each-passed (agrees c g) n passed i l))
 
   -- ---- a search that has come to an end
   all-agreed : (n : ℕ) → ((k : ℕ) → k < n → disagreesWith c g k k ≡ false) → inTurn (agrees c g) n ≡ accepted tt

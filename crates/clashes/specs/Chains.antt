@@ -1,15 +1,16 @@
--- For contracts alone: how earlier corrections of a sample are found without going through all of them. The list is gone through in parts. Of a part the lent words hold
--- chains: first so many heads, one for each chain, then a link for each correction of the part, which are counted from its first. A head tells the last correction of
--- its chain, and a link the last one before its correction, each by one more than its number, 0 for none. Without heads every correction of the part is a candidate.
+-- For contracts alone: how an earlier correction of a sample and revision is found without going through all of them. The list is gone through in parts. Of a part the lent
+-- words hold chains: first so many heads, one for each chain, then a link for each correction of the part, which are counted from its first. Only the first of each
+-- sample and revision is in a chain. A head tells the last of its chain, and a link the one before its own, each by one more than its number, 0 for none. Without
+-- heads every correction of the part is a candidate.
 use Prim.Native.Nat.{ℕ, zero, suc, _+_, _-_, _*_, _%_, _<_, _≤_, _^_, min}
 use mathlib.Core.Path.{_≡_}
-use mathlib.Core.Bool.{Bool, true, false, cond, _||_}
+use mathlib.Core.Bool.{Bool, true, false, cond, _&&_, _||_}
 use mathlib.Core.List.{List}
-use lib.Dec.{eqb}
+use lib.Dec.{T, eqb}
 use lib.ListN.{length}
 use Rattle.checks.specs.Checked.{wordAt}
 use Rattle.corrections.specs.declared.correction.Grid.{Grid}
-use Rattle.corrections.specs.Corrections.{revision, target, disagreesWith}
+use Rattle.corrections.specs.Corrections.{revision, target, sameRevision, disagreesWith}
 use Rattle.corrections.specs.Aimed.{GridFits, AllAimed}
 use Rattle.clashes.specs.declared.Part.{Part}
 
@@ -31,17 +32,25 @@ abbrev pub partBefore : Part → ℕ → ℕ
 partBefore p k = min (k - p .from) (p .size)
 
 module _ (c : List ℕ) (g : Grid) (p : Part) where
-  abbrev pub inChain : ℕ → ℕ → Bool
-  inChain chain j = eqb (chainOf c g (p .heads) (p .from + j)) chain
+  -- correction j of the part has the sample and the revision of k
+  abbrev pub sameInPart : ℕ → ℕ → Bool
+  sameInPart k j = sameRevision c g (p .from + j) k
 
-  -- correction j of the part is a candidate for k: all of one sample and revision are
+  -- none of the first n of the part has
+  abbrev pub alone : (k n : ℕ) → Bool
+  alone k n = eqb (lastBelow (sameInPart k) n) 0
+
+  abbrev pub inChain : ℕ → ℕ → Bool
+  inChain chain j = alone (p .from + j) j && eqb (chainOf c g (p .heads) (p .from + j)) chain
+
+  -- correction j of the part is a candidate for k: the first of its sample and revision is
   abbrev pub candidate : ℕ → ℕ → Bool
   candidate k j = eqb (p .heads) 0 || inChain (chainOf c g (p .heads) k) j
 
   -- the chains of the first n corrections of the part
   pub record Chained (links : List ℕ) (n : ℕ) : Type 0 where
     pub headed : (b : ℕ) → b < p .heads → wordAt links b ≡ lastBelow (inChain b) n
-    pub linked : (j : ℕ) → j < n → 0 < p .heads → wordAt links (p .heads + j) ≡ lastBelow (inChain (chainOf c g (p .heads) (p .from + j))) j
+    pub linked : (j : ℕ) → j < n → T (alone (p .from + j) j) → 0 < p .heads → wordAt links (p .heads + j) ≡ lastBelow (inChain (chainOf c g (p .heads) (p .from + j))) j
 
 -- where there are heads, there is a link for each correction, and its number fits a word
 abbrev pub HeadsFit : (heads size room : ℕ) → Type 0
@@ -50,6 +59,12 @@ HeadsFit heads size room = 0 < heads → (heads + size ≤ room) × (size < 2 ^ 
 -- the candidate before j, by what its link says
 abbrev pub earlier : (heads : ℕ) (links : List ℕ) (j : ℕ) → ℕ
 earlier heads links j = cond (eqb heads 0) j (wordAt links (heads + j))
+
+-- one more than the number in the part of a correction that has the sample and revision of k and comes before it, 0 if there is none
+pub record FoundSame (c : List ℕ) (g : Grid) (p : Part) (k found : ℕ) : Type 0 where
+  pub inside : found ≤ partBefore p k
+  pub none : found ≡ 0 → T (alone c g p k (partBefore p k))
+  pub one : (j : ℕ) → found ≡ suc j → T (sameInPart c g p k j)
 
 module _ (c : List ℕ) (g : Grid) where
   -- no correction below `end` disagrees with one before it among the first n
@@ -81,9 +96,8 @@ module _ (c : List ℕ) (g : Grid) where
     pub chained : Chained c g p links 0
     pub searched : Searched (p .from) end
 
--- the first part of a list: at least one correction, if there is one, and no more than there are
+-- a part has at least one correction, if there is one, and no more than there are
 pub record PartFits (p : Part) (count room : ℕ) : Type 0 where
-  pub first : p .from ≡ 0
   pub some : 0 < count → 0 < p .size
   pub few : p .size ≤ count
   pub linked : HeadsFit (p .heads) (p .size) room

@@ -1,6 +1,6 @@
 // Two corrections of one sample with equal revision and unlike values: 20. The list is gone through in parts. Chains through lent words lead from a correction to
-// earlier ones of the part, all of its sample and revision among them and few others. It is compared with the last of these alone: those before that one agree with it,
-// or they would have been found. As long as a part has all corrections there is one part; where there is no room for chains, it has all and every earlier one is looked at.
+// earlier ones of the part, the first of its sample and revision among them and few others. It is compared with that one alone: those between agree with it, or they would have
+// been found. Where there is no room for chains, all of the list is one part and every earlier one is looked at.
 use corrections::correction::Found;
 use corrections::correction::Grid;
 use corrections::correction::first_at;
@@ -10,11 +10,12 @@ use corrections::correction::target_at;
 use corrections::correction::value_at;
 ghost use mathlib.Core.Path.{_≡_};
 ghost use Prim.Native.Nat.{_+_, _*_, _<_, _≤_, min};
+ghost use lib.Dec.{T};
 ghost use lib.ListN.{length, replicate};
 ghost use Rattle.words.specs.Bytes.{wordsOf};
 ghost use Rattle.corrections.specs.Corrections.{sameRevision, disagreesWith, agrees, inTurn};
 ghost use Rattle.corrections.specs.Aimed.{foundSaid, GridFits, AllAimed};
-ghost use Rattle.clashes.specs.Chains.{lastBelow, chainOf, candidate, earlier, partBefore, Chained, HeadsFit, First, Next, PartNext, PartFits};
+ghost use Rattle.clashes.specs.Chains.{lastBelow, chainOf, candidate, alone, earlier, partBefore, Chained, HeadsFit, FoundSame, First, Next, PartNext, PartFits};
 
 // The most corrections that words can number, and the fewest that are worth their chains: to look at as many takes no longer.
 const MOST_LINKED: usize = 4294967295;
@@ -98,26 +99,25 @@ fn earlier_candidate(links: &[u8], heads: usize, j: usize) -> usize
     words::word_at(links, heads + j) as usize
 }
 
-// Whether a correction disagrees with one before it in the part or before the part, where those agree.
-fn disagrees(list: &[u8], grid: Grid, links: &[u8], part: Part, k: usize) -> bool
+// An earlier correction of the part that has the same sample and revision, by one more than its number there, 0 for none.
+fn find_same(list: &[u8], grid: Grid, links: &[u8], part: Part, k: usize) -> usize
     requires { ⌜ Next (wordsOf (now list)) grid part (wordsOf (now links)) k ⌝ }
-    ensures { λ r. ⌜ r ≡ disagreesWith (wordsOf (now (list .entry))) grid k (part .from + partBefore part k) ⌝ }
+    ensures { λ r. ⌜ FoundSame (wordsOf (now (list .entry))) grid part k r ⌝ }
 {
     let mut after = last_candidate(list, grid, links, part, k);
     while 0 < after {
         let j = after - 1;
-        let i = part.from + j;
-        if same_revision(list, grid, i, k) {
-            return value_at(list, i) != value_at(list, k);
+        if same_revision(list, grid, part.from + j, k) {
+            return after;
         }
         after = earlier_candidate(links, part.heads, j);
     }
-    false
+    0
 }
 
-// Puts a correction of the part at the front of its chain.
+// Puts a correction at the front of its chain, if it is one of the part.
 fn enter(list: &[u8], grid: Grid, links: &mut [u8], part: Part, k: usize)
-    requires { ⌜ Next (wordsOf (now list)) grid part (wordsOf (now links)) k ⌝ }
+    requires { ⌜ Next (wordsOf (now list)) grid part (wordsOf (now links)) k × T (alone (wordsOf (now list)) grid part k (partBefore part k)) ⌝ }
     ensures { λ _. ⌜ Chained (wordsOf (now (list .entry))) grid part (wordsOf (now (links .exit))) (partBefore part (k + 1)) ⌝ }
 {
     if part.heads == 0 {
@@ -133,6 +133,20 @@ fn enter(list: &[u8], grid: Grid, links: &mut [u8], part: Part, k: usize)
     words::put_word(links, head, (j + 1) as u32);
 }
 
+// Whether a correction disagrees with one before it, up to the end of the part, where those agree. It is put into its chain, unless there is one like it.
+fn compare(list: &[u8], grid: Grid, links: &mut [u8], part: Part, k: usize) -> bool
+    requires { ⌜ Next (wordsOf (now list)) grid part (wordsOf (now links)) k ⌝ }
+    ensures told { λ r. ⌜ r ≡ disagreesWith (wordsOf (now (list .entry))) grid k (part .from + partBefore part k) ⌝ }
+    ensures chained { λ _. ⌜ Chained (wordsOf (now (list .entry))) grid part (wordsOf (now (links .exit))) (partBefore part (k + 1)) ⌝ }
+{
+    let same = find_same(list, grid, links, part, k);
+    if same == 0 {
+        enter(list, grid, links, part, k);
+        return false;
+    }
+    value_at(list, part.from + (same - 1)) != value_at(list, k)
+}
+
 // One after the other, those of the part and those behind it, from no chains on: the first that disagrees with one before it, up to the end of the part.
 fn look_through(list: &[u8], grid: Grid, part: Part, end: usize, links: &mut [u8]) -> usize
     requires { ⌜ PartNext (wordsOf (now list)) grid part (wordsOf (now links)) end ⌝ }
@@ -140,10 +154,9 @@ fn look_through(list: &[u8], grid: Grid, part: Part, end: usize, links: &mut [u8
 {
     let from = part.from;
     for k in from..end {
-        if disagrees(list, grid, links, part, k) {
+        if compare(list, grid, links, part, k) {
             return k;
         }
-        enter(list, grid, links, part, k);
     }
     end
 }

@@ -5,6 +5,7 @@ use Prim.Native.Nat.{ℕ, _+_, _-_, _<_, _^_}
 use native.Mathlib.Omega.{arith}
 use borrow.Author.Needs.{needs}
 use lib.ListN.{length, set}
+use Rattle.counting.proofs.Tests.{holds}
 use Rattle.words.specs.Bytes.{wordsOf}
 use Rattle.words.proofs.Words.{words-count}
 use Rattle.checks.specs.Checked.{wordAt}
@@ -19,16 +20,16 @@ returns c = let g = c .before .before .before .before .args in without-heads (wo
 returns-2 : tie.Need-returns-2
 returns-2 c =
     let start = c .before .before .before .before .before .before .before in
-    stays-out (wordsOf (start .args .list .now)) (start .args .grid) (start .args .part) (wordsOf (start .args .links .now)) (start .args .k) (start .pre .begun) (start .pre .chained) (c .if2 .taken)
+    stays-out (wordsOf (start .args .list .now)) (start .args .grid) (start .args .part) (wordsOf (start .args .links .now)) (start .args .k) (start .pre .0 .begun) (start .pre .0 .chained) (c .if2 .taken)
 
 chain-of-requires : tie.Need-chain-of-requires
-chain-of-requires c κs = let start = c .before .before .before .before .before .before .before in (start .pre .aimed (start .args .k) (omega arith) .there, start .pre .fits, omega arith)
+chain-of-requires c κs = let start = c .before .before .before .before .before .before .before in (start .pre .0 .aimed (start .args .k) (omega arith) .there, start .pre .0 .fits, omega arith)
 
 -- ---- there are heads, and a link for each correction
 heads-room : (c : tie.Else2) →
     let g = c .before .before .before .before .before .before .before .args in
     (g .part .heads + (g .k - g .part .from) < length (wordsOf (g .links .now))) × (g .k - g .part .from + 1 < 2 ^ 32)
-heads-room c = let room = c .before .before .before .before .before .before .before .pre .room (omega arith) in (omega (arith, room .0), omega (arith, room .1))
+heads-room c = let room = c .before .before .before .before .before .before .before .pre .0 .room (omega arith) in (omega (arith, room .0), omega (arith, room .1))
 
 -- the head of the chain is one of them
 head-inside : (c : tie.After-chain-of) → c .chain-of .result < c .before .before .before .before .before .before .before .before .args .part .heads
@@ -74,7 +75,7 @@ returns-3 c =
     let stored = c .before .before .put-word2 .ensures .0
     ∙ ap₂ (λ w (front : ℕ). set w front (n + 1)) (c .before .before .before .before .before .before .put-word .ensures .0 ∙ ap (set links (g .part .heads + n)) last) at in
     subst (λ (w : List ℕ). Chained (wordsOf (g .list .now)) (g .grid) (g .part) w (partBefore (g .part) (g .k + 1))) (sym stored)
-    (comes-in (wordsOf (g .list .now)) (g .grid) (g .part) links (g .k) (start .pre .begun) (start .pre .chained) (omega (arith, head .before .if2 .left)) (head .before .before .before .before .if1 .left) (heads-room (head .before) .0))
+    (comes-in (wordsOf (g .list .now)) (g .grid) (g .part) links (g .k) (start .pre .0 .begun) (start .pre .0 .chained) (omega (arith, head .before .if2 .left)) (holds _ (start .pre .1)) (head .before .before .before .before .if1 .left) (heads-room (head .before) .0))
 
 pub enter-spec : {M : Type 1} → statement M
 enter-spec =

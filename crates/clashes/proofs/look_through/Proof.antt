@@ -41,30 +41,32 @@ next c =
     let long = length-words (loop .links) ∙ ap (λ n. n / 4) (loop .inv .2) ∙ sym (length-words (g .links .now)) in
     comes-next (wordsOf (g .list .now)) (g .grid) (g .part) (loop .k) (loop .inv .0) (wordsOf (g .links .now)) (g .end) (start .pre) (c .loop-test .taken) (wordsOf (loop .links)) long (loop .inv .3) (loop .inv .4)
 
-disagrees-requires : tie.Need-disagrees-requires Inv-loop μ-loop
-disagrees-requires c κs = next (c .before)
+compare-requires : tie.Need-compare-requires Inv-loop μ-loop
+compare-requires c κs = next (c .before)
+
+-- what is lent keeps its length
+kept : (c : tie.After-compare Inv-loop μ-loop) → length (c .compare .last .1 .1 .0) ≡ length (c .before .before .before .before .before .before .args .links .now)
+kept c = c .compare .kept .1 .1 .0 ∙ c .before .before .before .loop .inv .2
 
 same-length : tie.Need-same-length Inv-loop μ-loop
-same-length c = c .before .before .before .before .loop .inv .2
+same-length c = kept (c .before .before .before)
 
 returns : tie.Need-returns Inv-loop μ-loop
 returns c =
-    let g = c .before .before .before .before .before .before .before .args in
-    let loop = c .before .before .before .before .loop in
-    found-here (wordsOf (g .list .now)) (g .grid) (g .part) (loop .k) (loop .inv .0) (g .end) (c .before .before .before .loop-test .taken) (loop .inv .4) (sym (c .before .disagrees .ensures) ∙ c .if1 .taken)
-
-enter-requires : tie.Need-enter-requires Inv-loop μ-loop
-enter-requires c κs = next (c .before .before .before .before)
+    let g = c .before .before .before .before .before .before .before .before .before .args in
+    let loop = c .before .before .before .before .before .before .loop in
+    found-here (wordsOf (g .list .now)) (g .grid) (g .part) (loop .k) (loop .inv .0) (g .end) (c .before .before .before .before .before .loop-test .taken) (loop .inv .4) (sym (c .before .before .before .compare .ensures .0) ∙ c .if1 .taken)
 
 loop-again : tie.Need-loop-again Inv-loop μ-loop
 loop-again c =
-    let g = c .before .before .before .before .before .before .before .before .before .before .before .args in
-    let loop = c .before .before .before .before .before .before .before .before .loop in (
+    let g = c .before .before .before .before .before .before .before .before .before .args in
+    let loop = c .before .before .before .before .before .before .loop in
+    let compared = c .before .before .before .compare in (
       omega (arith, loop .inv .0),
       omega arith,
-      c .before .before .enter .kept .1 .1 .0 ∙ loop .inv .2,
-      c .before .before .enter .ensures,
-      searched-on (wordsOf (g .list .now)) (g .grid) (g .part) (loop .k) (loop .inv .0) (loop .inv .4) (sym (c .before .before .before .before .before .disagrees .ensures) ∙ c .before .before .before .before .if1 .left),
+      kept (c .before .before .before),
+      compared .ensures .1,
+      searched-on (wordsOf (g .list .now)) (g .grid) (g .part) (loop .k) (loop .inv .0) (loop .inv .4) (sym (compared .ensures .0) ∙ c .if1 .left),
     )
 
 same-length-2 : tie.Need-same-length-2 Inv-loop μ-loop
@@ -84,10 +86,9 @@ look-through-spec =
     Inv-loop
     μ-loop
     loop-holds
-    disagrees-requires
+    compare-requires
     same-length
     returns
-    enter-requires
     (λ c. search needs)
     (λ c. search needs)
     loop-again

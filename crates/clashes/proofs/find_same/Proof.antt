@@ -1,14 +1,12 @@
 -- From candidate to candidate, by `Walking`.
-use mathlib.Core.Path.{_≡_, sym, ap₂, _∙_}
-use mathlib.Core.Bool.{not}
+use mathlib.Core.Path.{_≡_, sym, _∙_}
 use Prim.Native.Nat.{ℕ, _+_, _-_, _<_}
 use native.Mathlib.Omega.{arith}
-use lib.Dec.{eqb}
 use borrow.Author.Needs.{needs}
 use Rattle.words.specs.Bytes.{wordsOf}
 use Rattle.clashes.proofs.Walking.{Walking, walk-start, walk-less, walk-on, walk-found, walk-over}
-use Rattle.clashes.proofs.disagrees.Statement.{statement}
-use Rattle.clashes.proofs.disagrees.Tie as tie
+use Rattle.clashes.proofs.find_same.Statement.{statement}
+use Rattle.clashes.proofs.find_same.Tie as tie
 
 abbrev Inv-loop : tie.InvT-loop
 Inv-loop list grid links part k after₀ after = Walking (wordsOf list) grid part k after
@@ -26,27 +24,17 @@ loop-holds c = let g = c .before .before .before .args in walk-start (wordsOf (g
 inside : (c : tie.In-loop Inv-loop μ-loop) → let start = c .before .before .before .before .before in start .args .part .from + (c .before .loop .after - 1) < start .args .k
 inside c = let start = c .before .before .before .before .before in omega (arith, c .before .loop .inv .inside, start .pre .begun)
 
-add-i : tie.Need-add-i Inv-loop μ-loop
-add-i c = let start = c .before .before .before .before .before .before in omega (arith, inside (c .before), start .fits .k)
+add-same-revision : tie.Need-add-same-revision Inv-loop μ-loop
+add-same-revision c = let start = c .before .before .before .before .before .before in omega (arith, inside (c .before), start .fits .k)
 
 same-revision-requires : tie.Need-same-revision-requires Inv-loop μ-loop
 same-revision-requires c κs = (c .before .before .before .before .before .before .pre .aimed, inside (c .before))
 
-value-at-requires : tie.Need-value-at-requires Inv-loop μ-loop
-value-at-requires c κs =
-    let start = c .before .before .before .before .before .before .before .before in
-    start .pre .aimed (start .args .part .from + (c .before .before .before .before .loop .after - 1)) (omega (arith, inside (c .before .before .before))) .there
-
-value-at-requires-2 : tie.Need-value-at-requires-2 Inv-loop μ-loop
-value-at-requires-2 c κs = let start = c .before .before .before .before .before .before .before .before .before in start .pre .aimed (start .args .k) (omega arith) .there
-
 returns : tie.Need-returns Inv-loop μ-loop
 returns c =
-    let start = c .before .before .before .before .before .before .before .before .before .before in
-    let loop = c .before .before .before .before .before .before .loop in
-    let same = sym (c .before .before .before .same-revision .ensures) ∙ c .before .before .if1 .taken in
-    ap₂ (λ v w. not (eqb v w)) (c .before .value-at .ensures) (c .value-at2 .ensures)
-    ∙ sym (walk-found (wordsOf (start .args .list .now)) (start .args .grid) (start .args .part) (start .args .k) (wordsOf (start .args .links .now)) (start .pre) (loop .after) (loop .inv) (loop .after - 1) (omega arith) (rw same tt))
+    let g = c .before .before .before .before .before .before .before .before .args in
+    let loop = c .before .before .before .before .loop in
+    walk-found (wordsOf (g .list .now)) (g .grid) (g .part) (g .k) (loop .after) (loop .after - 1) (loop .inv) (omega arith) (sym (c .before .same-revision .ensures) ∙ c .if1 .taken)
 
 earlier-candidate-requires : tie.Need-earlier-candidate-requires Inv-loop μ-loop
 earlier-candidate-requires c κs = λ some.
@@ -69,11 +57,11 @@ loop-again c =
 
 returns-2 : tie.Need-returns-2 Inv-loop μ-loop
 returns-2 c =
-    let start = c .before .before .before .before .before in
-    sym (walk-over (wordsOf (start .args .list .now)) (start .args .grid) (start .args .part) (start .args .k) (wordsOf (start .args .links .now)) (start .pre) (c .before .loop .after) (c .before .loop .inv) (omega arith))
+    let g = c .before .before .before .before .before .args in
+    walk-over (wordsOf (g .list .now)) (g .grid) (g .part) (g .k) (c .before .loop .after) (c .before .loop .inv) (omega arith)
 
-pub disagrees-spec : {M : Type 1} → statement M
-disagrees-spec =
+pub find-same-spec : {M : Type 1} → statement M
+find-same-spec =
     tie.close
     (tie.spec
     Inv-loop
@@ -81,10 +69,8 @@ disagrees-spec =
     last-candidate-requires
     loop-holds
     (λ c. search needs)
-    add-i
+    add-same-revision
     same-revision-requires
-    value-at-requires
-    value-at-requires-2
     returns
     earlier-candidate-requires
     loop-less
