@@ -17,7 +17,7 @@ ghost use Rattle.corrections.specs.Corrections.{sameRevision, disagreesWith, ag
 ghost use Rattle.corrections.specs.Aimed.{foundSaid, GridFits, AllAimed};
 ghost use Rattle.clashes.specs.Chains.{lastBelow, chainOf, candidate, alone, earlier, partBefore, Chained, HeadsFit, FoundSame, First, Next, PartNext, PartFits};
 
-// The most corrections that words can number, and the fewest that are worth their chains: to look at as many takes no longer.
+// The most corrections that words can number, and the fewest that are worth their chains: to look at as many takes about as long.
 const MOST_LINKED: usize = 4294967295;
 
 const FEWEST_LINKED: usize = 32;
