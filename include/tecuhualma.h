@@ -317,13 +317,13 @@ uint64_t sheet_to_narrow(const uint8_t *sheet, size_t sheet_len, uint8_t *output
  * sheet_len bytes of output are always enough.
  *
  * Time. The library has no memory but what is lent, and looks for equal revisions in
- * `output` before it writes there, in as many corrections at a time as half of its words.
- * So the time grows in proportion to the sheet and to the list, up to that length; of a
- * longer list each part is held against all that stands behind it, which for a list of
- * one correction for each sample takes about twice as long as with room for one part. A
- * correction is compared with one or two others in a part. By a list made to take long it
- * is with 510 on the average, if there is one part, and with all before it if there are
- * more. So it is too in an output of fewer than 64 words.
+ * `output` before it writes there: part by part of the list, each of as many corrections
+ * as half of the words of `output`. A list of one part takes time in proportion to the
+ * sheet and to the list. Of a longer one each part is held against all that stands behind
+ * it, so that a correction for each sample, in sheet_len bytes, takes half as long again
+ * as in twice as many. In a part a correction is compared with one or two others, and, by a
+ * list made to take long, with up to 510 in sheet_len bytes or more. In fewer than 64 words,
+ * where hardly a sheet has room, it is compared with all before it.
  *
  * judge() decides on the new sheet as on the old one: it is accepted, where as much is
  * lent. If no sample moves by more than d, no margin does, and a verdict with a margin

@@ -1,6 +1,10 @@
 // The check of each correction for itself, word by word: 19.
 use crate::correction::Found;
 use crate::correction::Grid;
+use crate::correction::place_of;
+use crate::correction::revision_of;
+use crate::correction::signal_of;
+use crate::correction::time_of;
 use checks::word::is_kind;
 use checks::word::spare_bit_zero;
 ghost use mathlib.Core.Path.{_≡_};
@@ -22,14 +26,14 @@ fn names_sample(list: &[u8], k: usize, grid: Grid) -> bool
     ensures { λ r. ⌜ r ≡ sampleNamed (wordsOf (now (list .entry))) grid k ⌝ }
 {
     let at = k * 3;
-    let first = words::word_or_zero(list, at) as usize;
+    let first = words::word_or_zero(list, at);
     if !is_kind(list, at, 11) {
         return false;
     }
-    if first / 1048576 % 256 < 1 {
+    if revision_of(first) < 1 {
         return false;
     }
-    first / 4096 % 256 < grid.signals && first % 4096 < grid.samples
+    signal_of(first) < grid.signals && time_of(first) < grid.samples
 }
 
 // The second word: a place of the sheet.
@@ -38,11 +42,11 @@ fn names_place(list: &[u8], k: usize, grid: Grid) -> bool
     ensures { λ r. ⌜ r ≡ placeNamed (wordsOf (now (list .entry))) grid k ⌝ }
 {
     let at = k * 3 + 1;
-    let second = words::word_or_zero(list, at) as usize;
+    let second = words::word_or_zero(list, at);
     if !is_kind(list, at, 12) {
         return false;
     }
-    second / 65536 % 4096 == 0 && second % 65536 < grid.places
+    second / 65536 % 4096 == 0 && place_of(second) < grid.places
 }
 
 fn check_correction(list: &[u8], k: usize, grid: Grid) -> Found

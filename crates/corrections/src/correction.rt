@@ -2,6 +2,7 @@
 ghost use mathlib.Core.Path.{_≡_};
 ghost use Prim.Native.Nat.{_+_, _*_, _<_};
 ghost use lib.ListN.{length};
+ghost use Rattle.words.specs.Word.{bits};
 ghost use Rattle.words.specs.Bytes.{wordsOf};
 ghost use Rattle.checks.specs.Checked.{wordAt};
 ghost use Rattle.corrections.specs.Corrections.{revision, value, target};
@@ -19,6 +20,32 @@ pub struct Grid {
 pub enum Found {
     Nothing,
     At(usize),
+}
+
+// The fields of a first word.
+pub(crate) fn revision_of(first: u32) -> u32
+    ensures { λ r. ⌜ r ≡ bits 20 8 first ⌝ }
+{
+    first / 1048576 % 256
+}
+
+pub(crate) fn signal_of(first: u32) -> usize
+    ensures { λ r. ⌜ r ≡ bits 12 8 first ⌝ }
+{
+    (first / 4096 % 256) as usize
+}
+
+pub(crate) fn time_of(first: u32) -> usize
+    ensures { λ r. ⌜ r ≡ bits 0 12 first ⌝ }
+{
+    (first % 4096) as usize
+}
+
+// The field of a second word.
+pub(crate) fn place_of(second: u32) -> usize
+    ensures { λ r. ⌜ r ≡ bits 0 16 second ⌝ }
+{
+    (second % 65536) as usize
 }
 
 // One of its three words.
@@ -54,7 +81,7 @@ pub fn revision_at(list: &[u8], k: usize) -> u32
     requires { ⌜ k * 3 + 2 < length (wordsOf (now list)) ⌝ }
     ensures { λ r. ⌜ r ≡ revision (wordsOf (now (list .entry))) k ⌝ }
 {
-    first_at(list, k) / 1048576 % 256
+    revision_of(first_at(list, k))
 }
 
 // The index of the sample in the sheet.
@@ -62,8 +89,8 @@ pub fn target_at(list: &[u8], k: usize, grid: Grid) -> usize
     requires { ⌜ (k * 3 + 2 < length (wordsOf (now list))) × GridFits grid ⌝ }
     ensures { λ r. ⌜ r ≡ target (wordsOf (now (list .entry))) grid k ⌝ }
 {
-    let first = first_at(list, k) as usize;
-    let place = second_at(list, k) as usize % 65536;
-    let row = first % 4096 * grid.places + place;
-    grid.start + (row * grid.signals + first / 4096 % 256)
+    let first = first_at(list, k);
+    let place = place_of(second_at(list, k));
+    let row = time_of(first) * grid.places + place;
+    grid.start + (row * grid.signals + signal_of(first))
 }

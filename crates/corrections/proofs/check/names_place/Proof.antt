@@ -2,7 +2,6 @@
 use mathlib.Core.Bool.{true}
 use mathlib.Core.Path.{_≡_, sym, _∙_}
 use Prim.Native.Nat.{_+_, _*_}
-use native.Mathlib.Nat.{div-one}
 use borrow.Author.Tests.{eq-eqb, ne-eqb, not-true, not-false}
 use borrow.Author.Needs.{needs}
 use Rattle.words.specs.Bytes.{wordsOf}
@@ -18,8 +17,8 @@ kind-12 c = sym (c .before .is-kind .ensures) ∙ not-false _ (c .if1 .left)
 
 returns-2 : tie.Need-returns-2
 returns-2 c =
-    let p = c .before .before in
-    simp (kind-12 p, div-one, ← p .before .before .word-or-zero .ensures, eq-eqb _ _ (c .before .if2 .taken))
+    let p = c .before .before .before in
+    simp (kind-12 p, ← p .before .before .word-or-zero .ensures, ← c .before .place-of .ensures, eq-eqb _ _ (c .before .before .if2 .taken))
 
 returns-3 : tie.Need-returns-3
 returns-3 c = simp (kind-12 (c .before), ← c .before .before .before .word-or-zero .ensures, ne-eqb _ _ (c .if2 .left))
@@ -31,8 +30,8 @@ names-place-spec =
     (λ c. search needs)
     (λ c. search needs)
     (λ c κs. search needs)
-    (λ c. search needs)
     (λ c κs. search needs)
     returns
+    (λ c κs. search needs)
     returns-2
     returns-3)
