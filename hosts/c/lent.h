@@ -9,7 +9,7 @@
 #include <stddef.h>
 #include <stdint.h>
 
-enum { MOST_WORDS = 72 };
+enum { MOST_WORDS = 120 };
 
 /* Those of a sheet or of a list. */
 struct words {

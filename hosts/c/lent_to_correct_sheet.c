@@ -9,6 +9,9 @@
  * A is corrected several times. */
 enum { MANY = MOST_WORDS / TECUHUALMA_CORRECTION_WORDS, SAMPLES_OF_A = 4 };
 
+/* Bytes of room for a search, but for fewer than so many corrections at a time. */
+enum { FOR_PARTS = 64 * TECUHUALMA_WORD_BYTES };
+
 /* The list of example A. */
 static const struct words LIST_OF_A = {{0xB0100001, 0xC0000000, 0x40000008, 0xB0200001, 0xC0000000,
                                         0x47FFFFF8, 0xB0100000, 0xC0000001, 0x40000003},
@@ -200,6 +203,7 @@ static void try_clash(const struct words *sheet, size_t earlier, size_t later)
     repeat(&list, later, earlier, 2);
     const struct trial t = {"a clash", &CORRECT, {sheet, &list}, NULL};
     demand_refused(&t, with(&t, length, length, RESULT), 20, place, "room enough");
+    demand_refused(&t, with(&t, length, FOR_PARTS, RESULT), 20, place, "room for parts");
     demand_refused(&t, with(&t, length, length + MORE, RESULT), 20, place, "more room");
     demand_refused(&t, with(&t, length, 0, RESULT), 20, place, "no output");
     demand_refused(&t, with_list(&t, 4 * list.count - 4), 19, list.count - 1, "cut off");
@@ -213,6 +217,7 @@ static void try_repeated(const struct words *sheet, size_t earlier, size_t later
     repeat(&list, later, earlier, TECUHUALMA_CORRECTION_WORDS);
     const struct trial t = {"a repeated correction", &CORRECT, {sheet, &list}, &written};
     demand_written(&t, with_list(&t, 4 * list.count), "exact lengths");
+    demand_written(&t, with(&t, 4 * sheet->count, FOR_PARTS, RESULT), "room for parts");
 }
 
 /* Any two corrections, also of revisions that a higher one makes of no account. */

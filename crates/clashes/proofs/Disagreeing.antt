@@ -1,7 +1,7 @@
 -- Which corrections disagree with one among the first n: where those agree, any of them that has the sample and revision of k decides about k.
 use mathlib.Core.Path.{_≡_, sym, ap, subst, _∙_}
-use mathlib.Core.Logic.{_⊎_, inl, inr, ⊎-elim}
-use mathlib.Core.Bool.{Bool, true, false, not}
+use mathlib.Core.Logic.{_⊎_, ⊎-elim}
+use mathlib.Core.Bool.{false, not}
 use mathlib.Core.List.{List}
 use Prim.Native.Nat.{ℕ, zero, suc, _<_, _≤_}
 use native.Mathlib.Nat.{lt-suc-self}
@@ -24,7 +24,7 @@ module _ (c : List ℕ) (g : Grid) where
   pub same-by : (i k : ℕ) → target c g i ≡ target c g k → revision c i ≡ revision c k → T (sameRevision c g i k)
   same-by i k sample revised = and-i (eqb (target c g i) (target c g k)) (eqb (revision c i) (revision c k)) (equal _ _ sample) (equal _ _ revised)
 
-  pub same-sym : (i k : ℕ) → T (sameRevision c g i k) → T (sameRevision c g k i)
+  same-sym : (i k : ℕ) → T (sameRevision c g i k) → T (sameRevision c g k i)
   same-sym i k same = let told = same-told i k same in same-by k i (sym (told .0)) (sym (told .1))
 
   pub same-trans : (i k m : ℕ) → T (sameRevision c g i k) → T (sameRevision c g k m) → T (sameRevision c g i m)
@@ -42,7 +42,7 @@ module _ (c : List ℕ) (g : Grid) where
       (λ r. (n, lt-suc-self n, r))
       (or-e (disagreesWith c g k n) (disagree c g n k) h)
 
-  pub disagrees-by : (k n i : ℕ) → i < n → T (disagree c g i k) → T (disagreesWith c g k n)
+  disagrees-by : (k n i : ℕ) → i < n → T (disagree c g i k) → T (disagreesWith c g k n)
   unfolding disagreesWith
   disagrees-by k zero i l h = absurd (omega arith)
   disagrees-by k (suc n) i l h = ⊎-elim

@@ -1,5 +1,5 @@
 -- One correction after the other and one part after the other: what is known when the next one comes, what its turn decides, and that values agree where all have passed.
-use mathlib.Core.Path.{_≡_, refl, sym, ap, subst, _∙_}
+use mathlib.Core.Path.{_≡_, refl, subst}
 use mathlib.Core.Logic.{⊎-elim}
 use mathlib.Core.Bool.{true, false, not}
 use mathlib.Core.List.{List}

@@ -5,22 +5,19 @@ use mathlib.Core.Path.{_≡_, sym, ap, subst, subst₂, _∙_}
 use mathlib.Core.Logic.{_⊎_, inl, inr, ⊎-elim}
 use mathlib.Core.Bool.{false}
 use mathlib.Core.List.{List}
-use Prim.Native.Nat.{ℕ, _+_, _*_, _<_, _≤_}
-use native.Mathlib.Omega.{arith}
+use Prim.Native.Nat.{ℕ, _*_, _<_, _≤_}
 use lib.Dec.{T}
 use lib.ListN.{length}
 use lib.IntN.{ℤ, natAbs, _-ℤ_}
 use lib.Signed.{leZ}
-use Rattle.counting.proofs.Tests.{holds}
 use Rattle.counting.proofs.Lists.{each-from}
-use Rattle.words.specs.Word.{sampleOf}
 use Rattle.words.proofs.Rows.{length-row, getD-row}
 use Rattle.checks.specs.Limits.{mostPlaces}
 use Rattle.checks.specs.Checked.{accepted, wordAt}
 use Rattle.checks.proofs.Checks.{bind-accepted, same-accepted}
 use Rattle.lines.specs.Lines.{hasCode}
 use Rattle.sheet.specs.Layout.{Layout, checked, validated}
-use Rattle.sheet.specs.Alike.{BothSamples, AlikeButSamples, SamplesApart, SamplesRaised}
+use Rattle.sheet.specs.Alike.{BothSamples, AlikeButSamples, SamplesRaised}
 use Rattle.sheet.proofs.Whole.{AcceptedSheet, accepted-sheet}
 use Rattle.sheet.proofs.SameLayout.{checked-alike}
 use Rattle.lookup.specs.Lookup.{saidAt}

@@ -1,6 +1,6 @@
 -- What is written of a sheet and a list fits the bytes that it stands in: each word has 32 bits, where those of both have, and there are fewer than 2^26. So a host can
 -- read it back. And no refusal of the tool has the number 0.
-use mathlib.Core.Path.{_≡_, sym, subst, _∙_}
+use mathlib.Core.Path.{_≡_, sym, subst}
 use mathlib.Core.Logic.{⊎-elim}
 use mathlib.Core.List.{List}
 use Prim.Native.Nat.{ℕ, zero, suc, _+_, _*_, _<_, _^_}
@@ -15,7 +15,7 @@ use Rattle.sheet.proofs.RefusalNumbers.{validated-numbered}
 use Rattle.sheet.proofs.Whole.{accepted-sheet, few-words}
 use Rattle.corrections.specs.declared.correction.Grid.{Grid}
 use Rattle.corrections.specs.Corrections.{count, inTurn, wellFormed, agrees, listChecked}
-use Rattle.correcting.specs.Corrected.{gridOf, wordAfter, correctedWords, corrected}
+use Rattle.correcting.specs.Corrected.{gridOf, correctedWords, corrected}
 use Rattle.correcting.proofs.Counting.{after-told}
 use Rattle.correcting.proofs.Correction.{Made, made-told, as-many-words}
 

@@ -4,7 +4,7 @@ use Prim.Native.Nat.{ℕ, _+_, _*_, _<_, _≤_, _^_}
 use native.Mathlib.Nat.{mul-le-mul}
 use native.Mathlib.Omega.{arith}
 use Rattle.corrections.specs.declared.correction.Grid.{Grid}
-use Rattle.corrections.specs.Corrections.{signal, time, place, target}
+use Rattle.corrections.specs.Corrections.{time, place, target}
 use Rattle.corrections.specs.Aimed.{GridFits}
 
 module _ (g : Grid) (fits : GridFits g) where

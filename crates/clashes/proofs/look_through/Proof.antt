@@ -6,7 +6,7 @@ use borrow.Author.Needs.{needs}
 use lib.ListN.{length}
 use Rattle.words.specs.Bytes.{wordsOf}
 use Rattle.words.proofs.Words.{length-words}
-use Rattle.clashes.specs.Chains.{partBefore, Chained, Searched, First, Next}
+use Rattle.clashes.specs.Chains.{partBefore, Chained, Searched, Next}
 use Rattle.clashes.proofs.Searching.{searched-before, comes-next, found-here, searched-on, nothing-found}
 use Rattle.clashes.proofs.look_through.Statement.{statement}
 use Rattle.clashes.proofs.look_through.Tie as tie

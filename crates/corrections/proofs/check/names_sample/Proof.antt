@@ -1,10 +1,9 @@
 -- Each test is made where those before it hold.
 use mathlib.Core.Bool.{true}
-use mathlib.Core.Path.{_≡_, sym, ap, _∙_}
-use Prim.Native.Nat.{ℕ, _*_}
+use mathlib.Core.Path.{_≡_, sym, _∙_}
+use Prim.Native.Nat.{_*_}
 use borrow.Author.Tests.{lt-ltb, le-ltb, le-leb, lt-leb, not-true, not-false}
 use borrow.Author.Needs.{needs}
-use Rattle.words.specs.Word.{bits}
 use Rattle.words.specs.Bytes.{wordsOf}
 use Rattle.checks.specs.Checked.{isKind}
 use Rattle.corrections.proofs.check.names_sample.Statement.{statement}
