@@ -119,12 +119,13 @@ fn lists_of_corrections() {
             list.iter().map(|one| (one.aim, one.revision)).collect();
         (list.len(), samples.len(), revisions.len())
     });
-    let [none, unlike, drawn, one, same, most] = counts;
+    let [none, unlike, drawn, one, same, more, every] = counts;
     assert_eq!((none, unlike), ((0, 0, 0), (10_000, 10_000, 10_000)));
     assert_eq!((one, same), ((10_000, 1, 255), (10_000, 1, 1)));
     assert!(drawn.0 == 10_000 && (9_900..10_000).contains(&drawn.1));
-    assert!(most.0 == 300_000 && (250_000..290_000).contains(&most.1) && most.2 < 300_000);
-    assert!(lists[1].1.iter().all(|one| one.revision == 1));
+    assert!(more.0 == 300_000 && (250_000..290_000).contains(&more.1) && more.2 < 300_000);
+    assert_eq!(every, (1_048_576, 1_048_576, 1_048_576));
+    assert!([1, 6].iter().all(|&at| lists[at].1.iter().all(|one| one.revision == 1)));
 }
 
 #[test]
