@@ -11,8 +11,9 @@ use Rattle.logic.specs.Table.{leastSoFar, untilSoFar, untilAt, somewhereAt, sur
 use Rattle.counting.specs.Totals.{mostBelow, sumBelow}
 use Rattle.logic.specs.Counts.{runRounds, surroundRounds, roundsAt, greatestRounds, yesCount}
 use Rattle.checks.specs.Checked.{isKind}
-use Rattle.lines.specs.Codes.{codes}
-use Rattle.lines.specs.Lines.{constantAt, boundsAt, operatorAt, lineAt, linesFrom}
+use Rattle.codes.specs.Codes.{codes}
+use Rattle.lines.specs.Lines.{lineAt, linesFrom}
+use Rattle.codes.specs.Operators.{constantAt, boundsAt, operatorAt}
 use Rattle.checks.specs.Heads.{isWide, headOf, placesOf, wideCounted, wideFollowed, headFor}
 use Rattle.sheet.specs.Layout.{sizesOf, narrowChecked, wideChecked, headChecked, samplesFrom, endChecked, checked}
 use Rattle.roads.specs.Roads.{roadChecked, roadsFrom}

@@ -16,8 +16,9 @@ use Rattle.logic.specs.Counts.{yesCount}
 use Rattle.logic.specs.Raising.{Rising, RaisedVerdicts}
 use Rattle.logic.proofs.Raising.{values-raised, yes-raised}
 use Rattle.checks.specs.Checked.{wordAt}
-use Rattle.lines.specs.Codes.{binary, unaryBounded, binaryBounded, unknown, codes, codeOf}
-use Rattle.lines.specs.Lines.{codeField, hasCode}
+use Rattle.codes.specs.Codes.{binary, unaryBounded, binaryBounded, unknown, codes, codeOf}
+use Rattle.lines.specs.Lines.{hasCode}
+use Rattle.codes.specs.Operators.{codeField}
 use Rattle.lines.proofs.AcceptedLines.{Fits, table-says, without-code}
 use Rattle.sheet.specs.Layout.{Layout}
 use Rattle.sheet.specs.Recording.{network, recording}

@@ -11,13 +11,14 @@ use Rattle.formulas.specs.Formulas.{forward, backward, Extent, span, common, lo
 use Rattle.logic.specs.Table.{Signal, untilAt, everTrue, somewhereAt, surroundAt, value}
 use Rattle.logic.specs.Counts.{surroundRounds, roundsAt}
 use Rattle.sheet.specs.declared.check.Layout.{Layout}
-use Rattle.lines.specs.declared.operator.Bounds.{Bounds}
-use Rattle.lines.specs.declared.operator.Direction.{Direction}
-use Rattle.lines.specs.declared.operator.Direction.the-variants.{Forward, Backward}
-use Rattle.lines.specs.declared.operator.Operator.{Operator}
-use Rattle.lines.specs.declared.operator.Operator.the-variants.{True, AtLeast, AtMost, Not, And, Until, Somewhere, Surrounded, Or, Eventually, Always, Everywhere}
+use Rattle.codes.specs.declared.operator.Bounds.{Bounds}
+use Rattle.codes.specs.declared.operator.Direction.{Direction}
+use Rattle.codes.specs.declared.operator.Direction.the-variants.{Forward, Backward}
+use Rattle.codes.specs.declared.operator.Operator.{Operator}
+use Rattle.codes.specs.declared.operator.Operator.the-variants.{True, AtLeast, AtMost, Not, And, Until, Somewhere, Surrounded, Or, Eventually, Always, Everywhere}
 use Rattle.lines.specs.declared.line.Line.{Line}
-use Rattle.lines.specs.Decoding.{sideSaid, operatorSaid, lineSaid}
+use Rattle.lines.specs.Decoding.{lineSaid}
+use Rattle.codes.specs.Decoding.{sideSaid, operatorSaid}
 use Rattle.lines.specs.GoodLines.{Sound}
 use Rattle.lines.specs.GoodLines as Good
 use Rattle.values.specs.Chain.{chains, chainLattice, chainOpposite, chainMargin, Valid}

@@ -11,7 +11,7 @@ use lib.Dec.{leb}
 use lib.ListN.{length, getD, set, length-set}
 use lib.Seq.{getD-set-same, getD-set-other}
 use Rattle.words.specs.Bytes.{wordsOf, numbersOf}
-use Rattle.lines.specs.declared.operator.Bounds.{Bounds}
+use Rattle.codes.specs.declared.operator.Bounds.{Bounds}
 use Rattle.logic.specs.Iteration.{masked}
 use Rattle.values.specs.Signals.{inTable}
 use Rattle.lanes.specs.Lanes.{lanes, rowCount, leftRow, rightRow, laneOf, stripOf, rowIn}

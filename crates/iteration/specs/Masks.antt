@@ -4,7 +4,7 @@ use mathlib.Core.Path.{_≡_}
 use mathlib.Core.Bool.{Bool, true, cond}
 use mathlib.Core.List.{List}
 use Prim.Native.Nat.{ℕ, _+_, _<_}
-use Rattle.lines.specs.declared.operator.Bounds.{Bounds}
+use Rattle.codes.specs.declared.operator.Bounds.{Bounds}
 use Rattle.lanes.specs.Lanes.{lanes, rowCount, leftRow, rightRow, rowIn}
 use Rattle.lanes.specs.Rows.{RowOf, KeptBelow, KeptPast, within, Marked, maskedBy}
 use Rattle.iteration.specs.WorkRows.{ringRow, xRow, LowOutside, WrittenAt}

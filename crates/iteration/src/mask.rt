@@ -8,13 +8,13 @@ ghost use Rattle.iteration.specs.WorkRows.{LowOutside, PlaceCleared, Cle
 ghost use Rattle.iteration.specs.Masks.{PlaceMasked, CentreMasked, MaskedNext};
 use crate::iteration::RING;
 use crate::iteration::X;
+use codes::operator::Bounds;
 use lanes::LEFT;
 use lanes::RIGHT;
 use lanes::ROWS;
 use lanes::rows::in_range;
 use lanes::strips::copy_strip;
 use lanes::strips::fill_strip;
-use lines::operator::Bounds;
 
 // A place inside the ball, in the ring or not.
 fn mask_place(rows: &mut [u32], place: usize, ring: bool)

@@ -8,7 +8,7 @@ use lib.Dec.{ltb}
 use lib.ListN.{length, getD}
 use Rattle.words.specs.Bytes.{wordsOf, numbersOf}
 use Rattle.logic.specs.Iteration.{masked}
-use Rattle.lines.specs.declared.operator.Bounds.{Bounds}
+use Rattle.codes.specs.declared.operator.Bounds.{Bounds}
 use Rattle.values.specs.Chain.{chainLattice}
 use Rattle.values.specs.Signals.{signalIn, inTable}
 use Rattle.lanes.specs.declared.rows.Block.{Block}

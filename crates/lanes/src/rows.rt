@@ -7,7 +7,7 @@ ghost use Rattle.lanes.specs.Strips.{Written};
 ghost use Rattle.lanes.specs.Rows.{Room, RowWritten, BlockThere, laneSignal, within, TableThere};
 use crate::LANES;
 use crate::ROWS;
-use lines::operator::Bounds;
+use codes::operator::Bounds;
 
 // Samples first to first + count - 1, side by side.
 pub struct Block {

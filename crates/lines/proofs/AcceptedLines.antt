@@ -22,8 +22,9 @@ use Rattle.counting.proofs.Lists.{each-append, each-at, all-from}
 use Rattle.formulas.specs.Formulas.{ConstantIn, LinesFit, ConstantsIn}
 use Rattle.checks.specs.Limits.{mostLines}
 use Rattle.checks.specs.Checked.{Checked, accepted, require, wordAt, isKind}
-use Rattle.lines.specs.Codes.{Code, constant, atom, unary, binary, unaryBounded, binaryBounded, unknown, codes, codeOf}
-use Rattle.lines.specs.Lines.{codeField, leftField, rightField, unused, plain, constantAt, boundsAt, withConstant, withBounds, operatorBy, operatorAt, lineAt, linesFrom, lineOf, hasCode}
+use Rattle.codes.specs.Codes.{Code, constant, atom, unary, binary, unaryBounded, binaryBounded, unknown, codes, codeOf}
+use Rattle.lines.specs.Lines.{lineAt, linesFrom, lineOf, hasCode}
+use Rattle.codes.specs.Operators.{codeField, leftField, rightField, unused, plain, constantAt, boundsAt, withConstant, withBounds, operatorBy, operatorAt}
 use Rattle.lines.specs.GoodLines.{Bounds, Sound, extentsOf, GoodLine, GoodTable, GoodLines}
 use Rattle.checks.proofs.Checks.{never, require-e, bind-accepted, same-accepted}
 use Rattle.checks.proofs.Tests.{and-rest, or-false, kind-told}

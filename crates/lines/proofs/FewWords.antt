@@ -9,9 +9,10 @@ use lib.ListN.{length}
 use Rattle.formulas.specs.Formulas.{Extent, Line}
 use Rattle.checks.specs.Checked.{Checked, accepted, refused, _>>=_, require, wordAt, isKind}
 use Rattle.checks.proofs.Checks.{never, same-accepted, require-accepted, bind-accepted}
-use Rattle.lines.specs.Codes.{Code, constant, atom, unary, binary, unaryBounded, binaryBounded, unknown, codeOf}
+use Rattle.codes.specs.Codes.{Code, constant, atom, unary, binary, unaryBounded, binaryBounded, unknown, codeOf}
 use Rattle.lines.specs.GoodLines.{extentsOf}
-use Rattle.lines.specs.Lines.{codeField, leftField, rightField, operatorBy, operatorAt, lineAt, linesFrom}
+use Rattle.lines.specs.Lines.{lineAt, linesFrom}
+use Rattle.codes.specs.Operators.{codeField, leftField, rightField, operatorBy, operatorAt}
 use Rattle.lines.proofs.Reading.{lines-stop, line-more}
 
 -- what is read ends at this index at the latest

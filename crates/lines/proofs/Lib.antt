@@ -1,4 +1,3 @@
-pub mod Operators
 pub mod Reading
 pub mod Lines
 pub mod AcceptedLines

@@ -10,8 +10,9 @@ use lib.IntN.{ℤ}
 use Rattle.formulas.specs.Formulas.{Operator, Extent, Line, lineIn}
 use Rattle.checks.specs.Checked.{between, wordAt, isKind}
 use Rattle.checks.proofs.Alike.{Alike, accept, refuse, SameUpTo, require-alike, choice-alike, bind-alike}
-use Rattle.lines.specs.Codes.{Code, constant, atom, unary, binary, unaryBounded, binaryBounded, unknown, codeOf}
-use Rattle.lines.specs.Lines.{codeField, leftField, rightField, constantAt, boundsAt, withConstant, withBounds, operatorBy, operatorAt, lineAt, linesFrom}
+use Rattle.codes.specs.Codes.{Code, constant, atom, unary, binary, unaryBounded, binaryBounded, unknown, codeOf}
+use Rattle.lines.specs.Lines.{lineAt, linesFrom}
+use Rattle.codes.specs.Operators.{codeField, leftField, rightField, constantAt, boundsAt, withConstant, withBounds, operatorBy, operatorAt}
 
 module _ (X Y : List ℕ) (Level : ℕ → ℕ → Type 0)
     (onward : (i j k : ℕ) → Level i j → Level (i + k) (j + k))

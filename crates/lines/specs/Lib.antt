@@ -1,4 +1,3 @@
-pub mod Codes
 pub mod Lines
 pub mod GoodLines
 pub mod Decoding

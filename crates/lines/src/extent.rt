@@ -1,13 +1,14 @@
 // The samples for which a line has verdicts, by their numbers in the recording, from the extents of the lines before it.
-use crate::operator::Direction;
-use crate::operator::Operator;
+use codes::operator::Direction;
+use codes::operator::Operator;
 ghost use mathlib.Core.Path.{_≡_};
 ghost use Prim.Native.Nat.{ℕ, _-_, _≤_, _<_, _^_, min, max};
 ghost use lib.ListN.{getD};
 ghost use Rattle.formulas.specs.Formulas.{span, endOf, common, looking, extentOf};
 ghost use Rattle.checks.specs.Limits.{mostSamples};
 ghost use Rattle.lines.specs.GoodLines.{Sound};
-ghost use Rattle.lines.specs.Decoding.{sideSaid, operatorSaid, extentSaid, extentIn, ExtentsWithin};
+ghost use Rattle.lines.specs.Decoding.{extentSaid, extentIn, ExtentsWithin};
+ghost use Rattle.codes.specs.Decoding.{sideSaid, operatorSaid};
 
 // So many samples from the first on.
 pub struct Extent {

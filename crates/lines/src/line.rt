@@ -1,10 +1,10 @@
 // A line of the table, decoded: its operator, and its extent from those of the lines before it.
 use crate::extent::Extent;
 use crate::extent::extent_of;
-use crate::operator::Operator;
-use crate::operator::ReadOperator;
-use crate::operator::decode_operator;
 use checks::fault::Fault;
+use codes::operator::Operator;
+use codes::operator::ReadOperator;
+use codes::operator::decode_operator;
 ghost use mathlib.Core.Path.{_≡_};
 ghost use Prim.Native.Nat.{_≤_, _<_};
 ghost use lib.ListN.{length};

@@ -6,11 +6,11 @@ use mathlib.Core.List.{List}
 use Prim.Native.Nat.{ℕ, _+_, _-_, _*_, _<_, _≤_, _^_}
 use lib.ListN.{getD}
 use Rattle.checks.specs.Limits.{mostPlaces}
-use Rattle.lines.specs.declared.operator.Bounds.{Bounds}
-use Rattle.lines.specs.declared.operator.Direction.{Direction}
-use Rattle.lines.specs.declared.operator.Direction.the-variants.{Forward, Backward}
-use Rattle.lines.specs.declared.operator.Operator.{Operator}
-use Rattle.lines.specs.declared.operator.Operator.the-variants as Read
+use Rattle.codes.specs.declared.operator.Bounds.{Bounds}
+use Rattle.codes.specs.declared.operator.Direction.{Direction}
+use Rattle.codes.specs.declared.operator.Direction.the-variants.{Forward, Backward}
+use Rattle.codes.specs.declared.operator.Operator.{Operator}
+use Rattle.codes.specs.declared.operator.Operator.the-variants as Read
 use Rattle.lines.specs.declared.line.Line.{Line}
 use Rattle.locating.specs.declared.Around.the-variants.{Surround, Range}
 use Rattle.locating.specs.declared.RowOperator.the-variants.{True, Atom, Not, Both, Until, Eventually}

@@ -1,12 +1,12 @@
 // An operator with its operands by where they stand: an operand is the number of an earlier line, and here it is the index from which the
 // signal of that line is read, looked up once for all samples. Every operand is read from the line's first sample on; an operator that looks back
 // reads from its upper bound earlier on, where once is eventually. What comes of it tells by its type which way the line goes.
+use codes::operator::Bounds;
+use codes::operator::Direction;
+use codes::operator::Operator;
 use lines::extent::less;
 use lines::extent::number_or_zero;
 use lines::line::Line;
-use lines::operator::Bounds;
-use lines::operator::Direction;
-use lines::operator::Operator;
 use ranges::Range;
 use surrounds::surround::Surround;
 use windows::until::Until;

@@ -7,7 +7,7 @@ use native.Mathlib.Numerals.{add-one}
 use native.Mathlib.Omega.{arith}
 use lib.ListN.{length}
 use Rattle.words.specs.Bytes.{wordsOf, numbersOf}
-use Rattle.lines.specs.declared.operator.Bounds.{Bounds}
+use Rattle.codes.specs.declared.operator.Bounds.{Bounds}
 use Rattle.logic.specs.Lattice.{leastOver, greatestOver}
 use Rattle.logic.specs.Table.{Signal}
 use Rattle.logic.proofs.Keeps.{same-kept, least-kept, greatest-kept}

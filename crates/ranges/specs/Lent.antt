@@ -3,7 +3,7 @@ use mathlib.Core.Bool.{Bool}
 use mathlib.Core.List.{List}
 use Prim.Native.Nat.{ℕ}
 use Rattle.words.specs.Bytes.{wordsOf, numbersOf}
-use Rattle.lines.specs.declared.operator.Bounds.{Bounds}
+use Rattle.codes.specs.declared.operator.Bounds.{Bounds}
 use Rattle.lanes.specs.declared.rows.Block.{Block}
 use Rattle.lanes.specs.Lanes.{lanes, leftRow, outRow, stripOf, rowIn}
 use Rattle.lanes.specs.Strips.{Written}

@@ -8,7 +8,7 @@ use lib.ListN.{length}
 use Rattle.logic.specs.Lattice.{leastOver, greatestOver}
 use Rattle.logic.specs.Table.{Signal}
 use Rattle.checks.specs.Limits.{mostPlaces}
-use Rattle.lines.specs.declared.operator.Bounds.{Bounds}
+use Rattle.codes.specs.declared.operator.Bounds.{Bounds}
 use Rattle.values.specs.Chain.{chains, chainLattice, highest}
 use Rattle.values.specs.Signals.{signalIn, turned, inTable}
 use Rattle.lanes.specs.Lanes.{lanes, rowCount, leftRow, outRow, Numbers, rowIn}

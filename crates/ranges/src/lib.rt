@@ -1,4 +1,5 @@
 // Somewhere and its dual, everywhere, for several samples side by side: the greatest, or the least, within range of every centre.
+use codes::operator::Bounds;
 use lanes::LEFT;
 use lanes::OUT;
 use lanes::ROWS;
@@ -7,7 +8,6 @@ use lanes::rows::in_range;
 use lanes::rows::load;
 use lanes::strips::combine_strips;
 use lanes::strips::fill_strip;
-use lines::operator::Bounds;
 ghost use mathlib.Core.Path.{_≡_};
 ghost use Prim.Native.Nat.{_<_};
 ghost use Rattle.lanes.specs.Rows.{Room, TableThere};

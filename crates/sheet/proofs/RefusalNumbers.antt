@@ -16,8 +16,9 @@ use Rattle.checks.specs.Limits.{mostPlaces, mostLines, leastDistances}
 use Rattle.checks.specs.Checked.{Checked, accepted, refused, _>>=_, require, between, wordAt, isKind}
 use Rattle.checks.proofs.Tests.{in-limits}
 use Rattle.checks.proofs.Numbered.{Numbered, accepts, refuses, someNumber, required, passed, onward, chosen, either, bound, weakened, number-told}
-use Rattle.lines.specs.Codes.{Code, constant, atom, unary, binary, unaryBounded, binaryBounded, unknown}
-use Rattle.lines.specs.Lines.{constantAt, boundsAt, operatorBy, operatorAt, lineAt, linesFrom}
+use Rattle.codes.specs.Codes.{Code, constant, atom, unary, binary, unaryBounded, binaryBounded, unknown}
+use Rattle.lines.specs.Lines.{lineAt, linesFrom}
+use Rattle.codes.specs.Operators.{constantAt, boundsAt, operatorBy, operatorAt}
 use Rattle.checks.specs.Heads.{isWide, placesOf, wideCounted}
 use Rattle.sheet.specs.Layout.{Sizes, Layout, sampleCount, sizesOf, narrowChecked, wideChecked, headChecked, samplesFrom, endChecked, checked, validated}
 use Rattle.roads.specs.Roads.{roadAt, roadChecked, roadsFrom}

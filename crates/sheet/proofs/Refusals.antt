@@ -5,8 +5,9 @@ use mathlib.Core.List.{List, [], _∷_, _++_}
 use Prim.Native.Nat.{ℕ}
 use lib.ListN.{replicate}
 use Rattle.checks.specs.Checked.{Checked, refused, isKind}
-use Rattle.lines.specs.Codes.{codes}
-use Rattle.lines.specs.Lines.{constantAt, boundsAt, operatorAt, lineAt, linesFrom}
+use Rattle.codes.specs.Codes.{codes}
+use Rattle.lines.specs.Lines.{lineAt, linesFrom}
+use Rattle.codes.specs.Operators.{constantAt, boundsAt, operatorAt}
 use Rattle.checks.specs.Heads.{isWide, headOf, placesOf, wideCounted, wideFollowed}
 use Rattle.sheet.specs.Layout.{Layout, sizesOf, narrowChecked, wideChecked, headChecked, samplesFrom, endChecked, checked}
 use Rattle.roads.specs.Roads.{roadChecked, roadsFrom}

@@ -11,7 +11,7 @@ use borrow.Author.Tests.{ne-eqb}
 use lib.Dec.{T-not, eqb, eqb→eq, eqb-refl}
 use lib.ListN.{length}
 use Rattle.words.specs.Bytes.{wordsOf, numbersOf}
-use Rattle.lines.specs.declared.operator.Bounds.{Bounds}
+use Rattle.codes.specs.declared.operator.Bounds.{Bounds}
 use Rattle.network.specs.Network as Roads
 use Rattle.network.specs.Network.{Network, joined}
 use Rattle.logic.specs.Lattice.{verdictLattice}

@@ -5,7 +5,7 @@ use mathlib.Core.Bool.{Bool, cond}
 use mathlib.Core.List.{List}
 use Prim.Native.Nat.{ℕ, _<_}
 use native.Mathlib.Omega.{arith}
-use Rattle.lines.specs.declared.operator.Bounds.{Bounds}
+use Rattle.codes.specs.declared.operator.Bounds.{Bounds}
 use Rattle.network.specs.Network.{Network, within, reached}
 use Rattle.logic.specs.Margin.{marginLattice}
 use Rattle.logic.specs.Counts.{runRounds}

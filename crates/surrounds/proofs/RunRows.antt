@@ -5,7 +5,7 @@ use Prim.Native.Nat.{ℕ, _+_, _≤_, max, zero-le}
 use native.Mathlib.Numerals.{add-one}
 use native.Mathlib.Omega.{arith}
 use borrow.Author.Count.{below-more}
-use Rattle.lines.specs.declared.operator.Bounds.{Bounds}
+use Rattle.codes.specs.declared.operator.Bounds.{Bounds}
 use Rattle.network.specs.Network.{Network, within, reached}
 use Rattle.counting.specs.Totals.{mostBelow}
 use Rattle.counting.proofs.Totals.{most-le, most-more, most-same, most-swap}

@@ -9,7 +9,7 @@ use lib.ListN.{length, getD}
 use Rattle.words.specs.Bytes.{wordsOf, numbersOf}
 use Rattle.network.specs.Distance.{none}
 use Rattle.checks.specs.Limits.{mostPlaces}
-use Rattle.lines.specs.declared.operator.Bounds.{Bounds}
+use Rattle.codes.specs.declared.operator.Bounds.{Bounds}
 use Rattle.roads.specs.Roads.{networkOf, distanceNumber, Measured}
 use Rattle.values.specs.Chain.{Valid}
 use Rattle.values.specs.Signals.{signalIn}

@@ -6,7 +6,7 @@ use Prim.Native.Nat.{ℕ, _<_, _≤_}
 use lib.ListN.{length}
 use Rattle.words.specs.Bytes.{wordsOf, numbersOf}
 use Rattle.network.specs.Network as Roads
-use Rattle.lines.specs.declared.operator.Bounds.{Bounds}
+use Rattle.codes.specs.declared.operator.Bounds.{Bounds}
 use Rattle.roads.specs.Roads.{networkOf}
 use Rattle.roads.specs.declared.road.Network.{Network}
 use Rattle.lanes.specs.declared.rows.Block.{Block}

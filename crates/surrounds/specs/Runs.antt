@@ -12,7 +12,7 @@ use Rattle.logic.specs.Surround.{surround}
 use Rattle.logic.specs.Iteration.{except}
 use Rattle.logic.specs.Counts.{runRounds, surroundRounds}
 use Rattle.counting.specs.Totals.{mostBelow}
-use Rattle.lines.specs.declared.operator.Bounds.{Bounds}
+use Rattle.codes.specs.declared.operator.Bounds.{Bounds}
 use Rattle.values.specs.Chain.{chainLattice, chainMargin}
 use Rattle.lanes.specs.Lanes.{lanes, Numbers}
 use Rattle.lanes.specs.Rows.{RowOf}

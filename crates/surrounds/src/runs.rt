@@ -10,11 +10,11 @@ ghost use Rattle.iteration.specs.WorkRows.{xRow, KeptBut};
 ghost use Rattle.surrounds.specs.Runs.{runsOf, LeftOut};
 ghost use Rattle.surrounds.specs.Blocks.{reachedBy};
 ghost use Rattle.surrounds.specs.Lent.{beyondIn, isMadeIn};
+use codes::operator::Bounds;
 use iteration::iteration::X;
 use lanes::ROWS;
 use lanes::rows::in_range;
 use lanes::strips::fill_strip;
-use lines::operator::Bounds;
 use roads::distances::NONE;
 
 // A run about every centre that has it.

@@ -10,6 +10,7 @@ use crate::runs::is_made;
 use crate::runs::leave_out;
 use crate::runs::run_count;
 use checks::limits::MOST_PLACES;
+use codes::operator::Bounds;
 use iteration::iteration::X;
 use iteration::iteration::settle;
 use iteration::mask::clear_all;
@@ -22,7 +23,6 @@ use lanes::rows::Block;
 use lanes::rows::load;
 use lanes::strips::combine_strips;
 use lanes::strips::fill_strip;
-use lines::operator::Bounds;
 use roads::road::Network;
 
 // What is asked about every centre, and whether islands count. The operands are the indices at which their signals begin.

@@ -17,7 +17,7 @@ use Rattle.windows.specs.declared.group.Group.{Group}
 use Rattle.windows.specs.Groups.{SampleReached}
 use Rattle.windows.specs.Reach.{Window, Reached}
 use Rattle.windows.specs.Rows.{ahead, sideOf}
-use Rattle.lines.specs.declared.operator.Bounds as Code
+use Rattle.codes.specs.declared.operator.Bounds as Code
 use Rattle.operators.proofs.Bounds.{bounded-kept, turned-bound, in-row}
 
 -- ---- no value is beyond `highest`

@@ -9,7 +9,7 @@ use Rattle.formulas.specs.Formulas.{Direction, forward, backward}
 use Rattle.logic.specs.Table.{Signal, untilAt, everTrue}
 use Rattle.values.specs.Chain.{chains}
 use Rattle.values.specs.Signals.{signalIn, turned}
-use Rattle.lines.specs.declared.operator.Bounds.{Bounds}
+use Rattle.codes.specs.declared.operator.Bounds.{Bounds}
 use Rattle.operators.specs.Rows.{Filled}
 use Rattle.windows.specs.declared.until.Until.{Until}
 use Rattle.windows.specs.Reach.{Window}

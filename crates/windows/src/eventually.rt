@@ -1,5 +1,5 @@
 // Code 9, eventually, and its dual, code 10, always.
-use lines::operator::Bounds;
+use codes::operator::Bounds;
 use operators::signals::turn;
 use operators::signals::turned_at;
 ghost use mathlib.Core.Path.{_≡_};

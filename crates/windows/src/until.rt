@@ -7,7 +7,7 @@ use crate::group::is_known;
 use crate::group::lower_least;
 use crate::group::put_group;
 use crate::group::raise_best;
-use lines::operator::Bounds;
+use codes::operator::Bounds;
 use operators::connectives::fill_row;
 ghost use mathlib.Core.Path.{_≡_};
 ghost use Prim.Native.Nat.{_+_, _≤_, _<_, _^_};

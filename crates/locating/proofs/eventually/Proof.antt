@@ -1,7 +1,7 @@
 -- By the direction: the start of the operand is found, to look back that of the upper bound earlier.
 use mathlib.Core.Path.{_≡_, sym, ap, ap₂, subst, _∙_}
 use Prim.Native.Nat.{ℕ, _-_}
-use Rattle.lines.specs.declared.operator.Direction.{Direction}
+use Rattle.codes.specs.declared.operator.Direction.{Direction}
 use Rattle.locating.specs.declared.Origin.{Origin}
 use Rattle.locating.specs.declared.RowOperator.the-variants.{Eventually}
 use Rattle.locating.specs.declared.Located.the-variants.{Rows}

@@ -6,7 +6,7 @@ use mir.Syntax.{w32}
 use mir.Val.{SFits}
 use mir.Facts.{toZ-ofZ}
 use borrow.Author.Needs.{needs}
-use Rattle.lines.specs.declared.operator.Operator.{Operator}
+use Rattle.codes.specs.declared.operator.Operator.{Operator}
 use Rattle.locating.specs.declared.Located.the-variants.{Rows}
 use Rattle.locating.specs.declared.RowOperator.the-variants.{Atom, Not}
 use Rattle.locating.specs.Located.{locatedBy, locatedOf}

@@ -2,7 +2,7 @@
 use mathlib.Core.Path.{_≡_, sym, ap, ap₂, subst, _∙_}
 use mathlib.Core.Bool.{true, false}
 use Prim.Native.Nat.{ℕ, _-_}
-use Rattle.lines.specs.declared.operator.Direction.{Direction}
+use Rattle.codes.specs.declared.operator.Direction.{Direction}
 use Rattle.locating.specs.declared.Origin.{Origin}
 use Rattle.locating.specs.declared.RowOperator.the-variants.{Until}
 use Rattle.locating.specs.declared.Located.the-variants.{Rows}

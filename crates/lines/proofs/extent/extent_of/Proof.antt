@@ -5,9 +5,10 @@ use mathlib.Core.List.{List}
 use native.Mathlib.Omega.{arith}
 use Rattle.formulas.specs.Formulas.{Extent, endOf, common, looking, extentOf}
 use Rattle.checks.specs.Limits.{mostSamples}
-use Rattle.lines.specs.declared.operator.Operator.{Operator}
+use Rattle.codes.specs.declared.operator.Operator.{Operator}
 use Rattle.lines.specs.GoodLines.{Sound}
-use Rattle.lines.specs.Decoding.{sideSaid, operatorSaid, extentSaid, extentIn}
+use Rattle.lines.specs.Decoding.{extentSaid, extentIn}
+use Rattle.codes.specs.Decoding.{sideSaid, operatorSaid}
 use borrow.Author.Needs.{needs}
 use Rattle.lines.proofs.extent.extent_of.Statement.{statement}
 use Rattle.lines.proofs.extent.extent_of.Tie as tie

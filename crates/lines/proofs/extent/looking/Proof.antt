@@ -2,8 +2,9 @@
 use mathlib.Core.Path.{_≡_, sym, _∙_, ap}
 use Prim.Native.Nat.{ℕ, _+_}
 use Rattle.formulas.specs.Formulas.{Extent, span, looking}
-use Rattle.lines.specs.declared.operator.Direction.{Direction}
-use Rattle.lines.specs.Decoding.{sideSaid, extentSaid}
+use Rattle.codes.specs.declared.operator.Direction.{Direction}
+use Rattle.lines.specs.Decoding.{extentSaid}
+use Rattle.codes.specs.Decoding.{sideSaid}
 use borrow.Author.Needs.{needs}
 use Rattle.lines.proofs.extent.looking.Statement.{statement}
 use Rattle.lines.proofs.extent.looking.Tie as tie

@@ -6,7 +6,7 @@ use lib.Dec.{leb}
 use borrow.Author.Tests.{le-leb, lt-leb}
 use Rattle.words.specs.Bytes.{wordsOf}
 use Rattle.lines.specs.Lines.{lineAt}
-use Rattle.lines.specs.Decoding.{operatorSaid, readSaid}
+use Rattle.codes.specs.Decoding.{operatorSaid, readSaid}
 use Rattle.lines.proofs.AcceptedLines.{operator-sound}
 use borrow.Author.Needs.{needs}
 use Rattle.lines.proofs.line.decode_line.Statement.{statement}

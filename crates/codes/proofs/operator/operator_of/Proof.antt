@@ -3,10 +3,10 @@ use Prim.Native.Nat.{ℕ, zero, suc, _≤_, zero-le}
 use mathlib.Core.Path.{_≡_, sym, ap}
 use native.Mathlib.Omega.{arith}
 use mir.Facts.{toZ-ofZ}
-use Rattle.lines.specs.Codes.{codes, codeOf}
-use Rattle.lines.specs.Decoding.{operatorWith, operatorOf}
-use Rattle.lines.proofs.operator.operator_of.Statement.{statement}
-use Rattle.lines.proofs.operator.operator_of.Tie as tie
+use Rattle.codes.specs.Codes.{codes, codeOf}
+use Rattle.codes.specs.Decoding.{operatorWith, operatorOf}
+use Rattle.codes.proofs.operator.operator_of.Statement.{statement}
+use Rattle.codes.proofs.operator.operator_of.Tie as tie
 
 by-code : (c : tie.Start) {code : ℕ} →
     let g = c .args in

@@ -6,10 +6,10 @@ use borrow.Author.Tests.{not-true, not-false}
 use Rattle.words.specs.Bytes.{wordsOf}
 use Rattle.words.proofs.Words.{words-count}
 use Rattle.checks.specs.Checked.{isKind}
-use Rattle.lines.specs.Lines.{boundsAt}
+use Rattle.codes.specs.Operators.{boundsAt}
 use borrow.Author.Needs.{needs}
-use Rattle.lines.proofs.operator.read_bounds.Statement.{statement}
-use Rattle.lines.proofs.operator.read_bounds.Tie as tie
+use Rattle.codes.proofs.operator.read_bounds.Statement.{statement}
+use Rattle.codes.proofs.operator.read_bounds.Tie as tie
 
 returns : tie.Need-returns
 unfolding boundsAt

@@ -9,9 +9,9 @@ use borrow.Author.Tests.{not-true, not-false}
 use Rattle.words.specs.Bytes.{wordsOf}
 use Rattle.words.specs.Word.{sampleOf}
 use Rattle.checks.specs.Checked.{isKind}
-use Rattle.lines.specs.Lines.{constantAt}
-use Rattle.lines.proofs.operator.read_constant.Statement.{statement}
-use Rattle.lines.proofs.operator.read_constant.Tie as tie
+use Rattle.codes.specs.Operators.{constantAt}
+use Rattle.codes.proofs.operator.read_constant.Statement.{statement}
+use Rattle.codes.proofs.operator.read_constant.Tie as tie
 
 returns : tie.Need-returns
 unfolding constantAt

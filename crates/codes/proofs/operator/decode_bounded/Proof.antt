@@ -5,11 +5,11 @@ use native.Mathlib.Omega.{arith}
 use lib.Dec.{ltb}
 use borrow.Author.Tests.{not-true, not-false}
 use Rattle.words.proofs.Words.{words-count}
-use Rattle.lines.specs.declared.operator.Fields.{Fields}
-use Rattle.lines.specs.Decoding.{boundsSaid, boundedRead}
+use Rattle.codes.specs.declared.operator.Fields.{Fields}
+use Rattle.codes.specs.Decoding.{boundsSaid, boundedRead}
 use borrow.Author.Needs.{needs}
-use Rattle.lines.proofs.operator.decode_bounded.Statement.{statement}
-use Rattle.lines.proofs.operator.decode_bounded.Tie as tie
+use Rattle.codes.proofs.operator.decode_bounded.Statement.{statement}
+use Rattle.codes.proofs.operator.decode_bounded.Tie as tie
 
 returns : tie.Need-returns
 unfolding boundedRead

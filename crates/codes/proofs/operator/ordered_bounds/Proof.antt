@@ -1,7 +1,7 @@
 -- The test of the code is that of the definition.
 use borrow.Author.Tests.{le-leb, lt-leb}
-use Rattle.lines.proofs.operator.ordered_bounds.Statement.{statement}
-use Rattle.lines.proofs.operator.ordered_bounds.Tie as tie
+use Rattle.codes.proofs.operator.ordered_bounds.Statement.{statement}
+use Rattle.codes.proofs.operator.ordered_bounds.Tie as tie
 
 returns : tie.Need-returns
 returns c = simp (lt-leb _ _ (c .if1 .taken))

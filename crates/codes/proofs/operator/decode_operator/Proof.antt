@@ -7,12 +7,12 @@ use native.Mathlib.Omega.{arith}
 use Rattle.words.specs.Bytes.{wordsOf}
 use Rattle.words.proofs.Words.{words-count}
 use Rattle.checks.specs.Checked.{wordAt}
-use Rattle.lines.specs.Codes.{lastCode}
-use Rattle.lines.specs.Decoding.{fieldsOf}
-use Rattle.lines.proofs.Operators.{OfTwoBounded, true-read, not-read, binary-read, atom-read, binary-bounded-read, somewhere-read, forward-read, backward-read, unknown-read}
+use Rattle.codes.specs.Codes.{lastCode}
+use Rattle.codes.specs.Decoding.{fieldsOf}
+use Rattle.codes.proofs.Operators.{OfTwoBounded, true-read, not-read, binary-read, atom-read, binary-bounded-read, somewhere-read, forward-read, backward-read, unknown-read}
 use borrow.Author.Needs.{needs}
-use Rattle.lines.proofs.operator.decode_operator.Statement.{statement}
-use Rattle.lines.proofs.operator.decode_operator.Tie as tie
+use Rattle.codes.proofs.operator.decode_operator.Statement.{statement}
+use Rattle.codes.proofs.operator.decode_operator.Tie as tie
 
 decode-plain-requires : tie.Need-decode-plain-requires
 decode-plain-requires c κs = omega (arith, words-count (c .before .before .before .before .args .s .now))

@@ -1,10 +1,10 @@
 -- The fields are tested, then the table says the operator.
 use mathlib.Core.Path.{sym, _∙_}
 use borrow.Author.Tests.{not-true, not-false}
-use Rattle.lines.specs.Decoding.{plainRead}
+use Rattle.codes.specs.Decoding.{plainRead}
 use borrow.Author.Needs.{needs}
-use Rattle.lines.proofs.operator.decode_plain.Statement.{statement}
-use Rattle.lines.proofs.operator.decode_plain.Tie as tie
+use Rattle.codes.proofs.operator.decode_plain.Statement.{statement}
+use Rattle.codes.proofs.operator.decode_plain.Tie as tie
 
 returns : tie.Need-returns
 unfolding plainRead

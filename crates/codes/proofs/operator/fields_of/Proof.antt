@@ -1,9 +1,9 @@
 -- The fields are read off by division and remainder.
 use native.Mathlib.Nat.{div-one}
 use borrow.Author.Needs.{needs}
-use Rattle.lines.specs.Decoding.{fieldsOf}
-use Rattle.lines.proofs.operator.fields_of.Statement.{statement}
-use Rattle.lines.proofs.operator.fields_of.Tie as tie
+use Rattle.codes.specs.Decoding.{fieldsOf}
+use Rattle.codes.proofs.operator.fields_of.Statement.{statement}
+use Rattle.codes.proofs.operator.fields_of.Tie as tie
 
 returns : tie.Need-returns
 unfolding fieldsOf

@@ -9,10 +9,10 @@ use lib.IntN.{ℤ}
 use mir.Syntax.{w32}
 use mir.Val.{SFits}
 use mir.Facts.{toZ-ofZ}
-use Rattle.lines.specs.Decoding.{operatorSaid, operatorOf, constantSaid, atomRead}
+use Rattle.codes.specs.Decoding.{operatorSaid, operatorOf, constantSaid, atomRead}
 use borrow.Author.Needs.{needs}
-use Rattle.lines.proofs.operator.decode_atom.Statement.{statement}
-use Rattle.lines.proofs.operator.decode_atom.Tie as tie
+use Rattle.codes.proofs.operator.decode_atom.Statement.{statement}
+use Rattle.codes.proofs.operator.decode_atom.Tie as tie
 
 returns : tie.Need-returns
 unfolding atomRead

@@ -6,11 +6,11 @@ use mathlib.Core.Path.{_≡_}
 use native.Mathlib.Decide.{ℕ-discrete}
 use native.Mathlib.Omega.{arith}
 use lib.ListN.{getD, List·getD-eq-default}
-use Rattle.lines.specs.declared.operator.Fields.{Fields}
+use Rattle.codes.specs.declared.operator.Fields.{Fields}
 use Rattle.checks.specs.Checked.{refused, wordAt}
-use Rattle.lines.specs.Codes.{codes, unknown}
-use Rattle.lines.specs.Lines.{operatorAt}
-use Rattle.lines.specs.Decoding.{fieldsOf, plainRead, atomRead, boundedRead}
+use Rattle.codes.specs.Codes.{codes, unknown}
+use Rattle.codes.specs.Operators.{operatorAt}
+use Rattle.codes.specs.Decoding.{fieldsOf, plainRead, atomRead, boundedRead}
 
 -- a number of a range is its lowest, or of the range without that
 lowest : {n : ℕ} (low : ℕ) → low ≤ n → (n ≡ low) ⊎ (low + 1 ≤ n)

@@ -9,9 +9,9 @@ ghost use lib.Dec.{ltb, leb};
 ghost use lib.ListN.{length};
 ghost use Rattle.words.specs.Bytes.{wordsOf};
 ghost use Rattle.checks.specs.Checked.{accepted, require};
-ghost use Rattle.lines.specs.Codes.{lastCode};
-ghost use Rattle.lines.specs.Lines.{constantAt, boundsAt, operatorAt};
-ghost use Rattle.lines.specs.Decoding.{operatorSaid, constantSaid, boundsSaid, readSaid, fieldsOf, operatorOf, plainRead, atomRead, boundedRead};
+ghost use Rattle.codes.specs.Codes.{lastCode};
+ghost use Rattle.codes.specs.Operators.{constantAt, boundsAt, operatorAt};
+ghost use Rattle.codes.specs.Decoding.{operatorSaid, constantSaid, boundsSaid, readSaid, fieldsOf, operatorOf, plainRead, atomRead, boundedRead};
 
 pub struct Bounds {
     pub lower: u32,
@@ -97,7 +97,7 @@ enum ReadBounds {
 }
 
 // An operator and the index after its words, or why there is none and where.
-pub(crate) enum ReadOperator {
+pub enum ReadOperator {
     Operator(Operator, usize),
     Refused(Fault, usize),
 }
@@ -276,7 +276,7 @@ fn decode_bounded(s: &[u8], fields: Fields, lefts: usize, rights: usize, at: usi
 }
 
 // The operator at a line word, with so many signals and earlier lines.
-pub(crate) fn decode_operator(s: &[u8], at: usize, signals: usize, lines: usize) -> ReadOperator
+pub fn decode_operator(s: &[u8], at: usize, signals: usize, lines: usize) -> ReadOperator
     requires { ⌜ at < length (wordsOf (now s)) ⌝ }
     ensures { λ r. ⌜ readSaid r ≡ operatorAt (wordsOf (now (s .entry))) signals lines at ⌝ }
 {

@@ -1,7 +1,7 @@
 -- The second test is made where the first holds.
 use borrow.Author.Tests.{lt-ltb, le-ltb}
-use Rattle.lines.proofs.operator.fields_below.Statement.{statement}
-use Rattle.lines.proofs.operator.fields_below.Tie as tie
+use Rattle.codes.proofs.operator.fields_below.Statement.{statement}
+use Rattle.codes.proofs.operator.fields_below.Tie as tie
 
 returns : tie.Need-returns
 returns c = simp (lt-ltb _ _ (c .before .if1 .taken))
