@@ -17,7 +17,8 @@ use Rattle.codes.specs.Operators.{constantAt, boundsAt, operatorAt}
 use Rattle.checks.specs.Heads.{isWide, headOf, placesOf, wideCounted, wideFollowed, headFor}
 use Rattle.sheet.specs.Layout.{sizesOf, narrowChecked, wideChecked, headChecked, samplesFrom, endChecked, checked}
 use Rattle.roads.specs.Roads.{roadChecked, roadsFrom}
-use Rattle.roads.specs.Roads.{leads, weightAmong, distanceTable}
+use Rattle.roads.specs.Roads.{leads, weightAmong}
+use Rattle.distances.specs.Distances.{distanceTable}
 use Rattle.sheet.specs.Recording.{network, recording}
 use Rattle.values.specs.Said.{said}
 use Rattle.answers.specs.Answer.{lineIndex, wordsNeeded, wordFor, lineWords, answerWords}

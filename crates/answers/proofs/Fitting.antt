@@ -24,8 +24,9 @@ use Rattle.logic.proofs.Small.{Small, margins-small}
 use Rattle.checks.specs.Limits.{mostPlaces, mostSamples, mostLines}
 use Rattle.checks.specs.Heads.{isWide, headFor}
 use Rattle.checks.proofs.Heads.{most-of-any}
-use Rattle.roads.specs.Roads.{roadAt, distanceNumber, distanceTable}
-use Rattle.roads.proofs.DistanceStart.{light}
+use Rattle.roads.specs.Roads.{roadAt}
+use Rattle.distances.specs.Distances.{distanceNumber, distanceTable}
+use Rattle.distances.proofs.StartTable.{light}
 use Rattle.sheet.specs.Layout.{Layout}
 use Rattle.sheet.specs.Recording.{network, recording}
 use Rattle.sheet.proofs.Whole.{AcceptedSheet}

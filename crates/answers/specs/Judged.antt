@@ -12,7 +12,7 @@ use Rattle.logic.specs.Counts.{greatestRounds, yesCount}
 use Rattle.checks.specs.Checked.{Checked, accepted, refused}
 use Rattle.checks.specs.Heads.{isWide}
 use Rattle.sheet.specs.Layout.{Layout, checked}
-use Rattle.roads.specs.Roads.{distanceTable}
+use Rattle.distances.specs.Distances.{distanceTable}
 use Rattle.sheet.specs.Recording.{network, recording}
 use Rattle.answers.specs.Answer.{wordsNeeded, answerWords}
 

@@ -22,7 +22,7 @@ use Rattle.checks.specs.Heads.{isWide}
 use Rattle.sheet.specs.Layout.{Layout}
 use Rattle.lines.specs.Lines.{lineAt}
 use Rattle.lines.specs.GoodLines.{GoodTable}
-use Rattle.roads.specs.Roads.{distanceNumber, distanceTable}
+use Rattle.distances.specs.Distances.{distanceNumber, distanceTable}
 use Rattle.sheet.specs.Recording.{network}
 use Rattle.lines.specs.Decoding.{lineSaid, decodedSaid, extentIn}
 use Rattle.sheet.specs.Checking.{layoutOf}

@@ -9,7 +9,7 @@ use Rattle.sheet.specs.declared.check.Layout as Code
 use Rattle.checks.specs.Checked.{Checked, accepted, refused}
 use Rattle.checks.specs.Heads.{headWords, isWide}
 use Rattle.sheet.specs.Layout.{Layout, checked}
-use Rattle.roads.specs.Roads.{distanceTable}
+use Rattle.distances.specs.Distances.{distanceTable}
 use Rattle.sheet.specs.Recording.{network, recording}
 use Rattle.sheet.specs.Checking.{layoutOf}
 use Rattle.samples.specs.declared.tally.Tally.{Tally}

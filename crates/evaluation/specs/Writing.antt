@@ -8,7 +8,7 @@ use Rattle.formulas.specs.Formulas.{Operator}
 use Rattle.logic.specs.Table.{Signal, value}
 use Rattle.logic.specs.Counts.{roundsAt}
 use Rattle.sheet.specs.declared.check.Layout.{Layout}
-use Rattle.roads.specs.Roads.{Measured}
+use Rattle.distances.specs.Distances.{Measured}
 use Rattle.values.specs.Chain.{chains, chainMargin}
 use Rattle.values.specs.Signals.{signalIn}
 use Rattle.verdicts.specs.Rows.{sheetRecording, Recorded}

@@ -1,3 +1,2 @@
 pub mod Roads
-pub mod DistanceStages
 pub mod BothWays

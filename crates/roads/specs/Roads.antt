@@ -1,5 +1,4 @@
--- The roads of a sheet, narrow or wide ("The sheet", requests M-104 and M-106; refusals 4 to 7), the network that they make, and its distances as the lent table
--- holds them ("Distance").
+-- The roads of a sheet, narrow or wide ("The sheet", requests M-104 and M-106; refusals 4 to 7), and the network that they make.
 use Prim.Native.Nat.{ℕ, zero, suc, _+_, _-_, _*_, _<_, _^_}
 use mathlib.Core.Path.{_≡_}
 use mathlib.Core.Bool.{Bool, true, false, cond, _&&_, _||_}
@@ -118,20 +117,3 @@ module _ (s : List ℕ) where
   -- the network of so many places and roads
   abbrev pub networkOf : ℕ → ℕ → Network
   networkOf places roads = record { places = places; weight = weightAmong roads }
-
--- 2^64 - 1 for none
-abbrev pub distanceNumber : Distance → ℕ
-distanceNumber (dist x) = x
-distanceNumber none = 2 ^ 64 - 1
-
--- row by row: a row has the distances from its place (M-106)
-unfoldable pub distanceTable : Network → List ℕ
-distanceTable N = rows (λ a b. distanceNumber (distanceIn N a b)) (N.places) (N.places)
-
--- those of the network that the first roads of a sheet make
-abbrev pub distancesAlong : List ℕ → ℕ → ℕ → List ℕ
-distancesAlong s places roads = distanceTable (networkOf s places roads)
-
--- a table has the distances of a network, row by row
-pub record Measured (N : Network) (table : List ℕ) : Type 0 where
-  pub number : (a b : ℕ) → a < N.places → b < N.places → getD table (a * N.places + b) 0 ≡ distanceNumber (distanceIn N a b)

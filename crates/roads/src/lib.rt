@@ -1,4 +1,3 @@
-// The roads of a sheet: their check with the refusals 4 to 7, the network that they make, and its distances.
+// The roads of a sheet: their check with the refusals 4 to 7, and the network that they make.
 pub mod check;
-pub mod distances;
 pub mod road;

@@ -106,7 +106,7 @@ pub(crate) fn place_pair(road: u32, wide: bool) -> usize
 }
 
 // The weight in the word after the first, as wide as a distance.
-pub(crate) fn weight(s: &[u8], at: usize) -> u64
+pub fn weight(s: &[u8], at: usize) -> u64
     requires { ⌜ at < length (wordsOf (now s)) ⌝ }
     ensures { λ w. ⌜ w ≡ payloadOf (wordAt (wordsOf (now (s .entry))) at) ⌝ }
 {

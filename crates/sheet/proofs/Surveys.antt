@@ -7,7 +7,8 @@ use Rattle.words.specs.Rows.{padded}
 use Rattle.sheet.specs.declared.check.Layout as F
 use Rattle.checks.specs.Checked.{accepted, refused, mapped}
 use Rattle.sheet.specs.Layout.{Layout, checked}
-use Rattle.roads.specs.Roads.{GoodRoad, networkOf, distanceTable}
+use Rattle.roads.specs.Roads.{GoodRoad, networkOf}
+use Rattle.distances.specs.Distances.{distanceTable}
 use Rattle.sheet.specs.Recording.{network}
 use Rattle.sheet.specs.Checking.{layoutOf}
 use Rattle.sheet.specs.Survey.{surveyedBy, surveyed}

@@ -6,7 +6,7 @@ use lib.ListN.{replicate}
 use Rattle.words.specs.Rows.{padded}
 use Rattle.checks.specs.Checked.{Checked, accepted, refused}
 use Rattle.sheet.specs.Layout.{Layout, checked}
-use Rattle.roads.specs.Roads.{distanceTable}
+use Rattle.distances.specs.Distances.{distanceTable}
 use Rattle.sheet.specs.Recording.{network}
 
 abbrev pub surveyedBy : List ℕ → ℕ → Checked Layout → List ℕ

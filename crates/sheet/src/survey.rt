@@ -1,7 +1,7 @@
 // The survey of a sheet: its check, and the distances of its network in the lent table.
 use crate::check::Check;
 use crate::check::check_sheet;
-use roads::distances::fill_distances;
+use distances::fill_distances;
 ghost use mathlib.Core.Path.{_≡_};
 ghost use lib.ListN.{length, replicate};
 ghost use Rattle.words.specs.Bytes.{wordsOf, numbersOf, afterNumbers};

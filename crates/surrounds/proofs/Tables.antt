@@ -13,8 +13,9 @@ use Rattle.network.specs.Network.{Network, isRoad, distanceIn, within, reached}
 use Rattle.network.proofs.Reach.{distance-bound}
 use Rattle.counting.proofs.Tests.{holds}
 use Rattle.checks.specs.Limits.{mostPlaces}
-use Rattle.roads.specs.Roads.{weightAmong, networkOf, distanceNumber, Measured}
-use Rattle.roads.proofs.DistanceStart.{light}
+use Rattle.roads.specs.Roads.{weightAmong, networkOf}
+use Rattle.distances.specs.Distances.{distanceNumber, Measured}
+use Rattle.distances.proofs.StartTable.{light}
 use Rattle.values.specs.Signals.{inTable}
 use Rattle.surrounds.specs.Blocks.{reachedBy}
 

@@ -10,7 +10,8 @@ use Rattle.words.specs.Bytes.{wordsOf, numbersOf}
 use Rattle.network.specs.Distance.{none}
 use Rattle.checks.specs.Limits.{mostPlaces}
 use Rattle.codes.specs.declared.operator.Bounds.{Bounds}
-use Rattle.roads.specs.Roads.{networkOf, distanceNumber, Measured}
+use Rattle.roads.specs.Roads.{networkOf}
+use Rattle.distances.specs.Distances.{distanceNumber, Measured}
 use Rattle.values.specs.Chain.{Valid}
 use Rattle.values.specs.Signals.{signalIn}
 use Rattle.lanes.specs.Lanes.{lanes, Numbers, leftRow, rightRow, outRow, rowIn}

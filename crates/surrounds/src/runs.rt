@@ -11,11 +11,11 @@ ghost use Rattle.surrounds.specs.Runs.{runsOf, LeftOut};
 ghost use Rattle.surrounds.specs.Blocks.{reachedBy};
 ghost use Rattle.surrounds.specs.Lent.{beyondIn, isMadeIn};
 use codes::operator::Bounds;
+use distances::NONE;
 use iteration::iteration::X;
 use lanes::ROWS;
 use lanes::rows::in_range;
 use lanes::strips::fill_strip;
-use roads::distances::NONE;
 
 // A run about every centre that has it.
 pub struct Run {

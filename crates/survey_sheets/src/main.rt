@@ -9,9 +9,9 @@
 //     refused NUMBER PLACE                           then `table not zero` if the survey left anything in the lent table
 //     cut off                                        the input ends within a count or a sheet; nothing is read after it
 use checks::fault::Fault;
+use distances::NONE;
 use libc::STDIN_FILENO;
 use libc::STDOUT_FILENO;
-use roads::distances::NONE;
 use sheet::check::Check;
 use sheet::check::Layout;
 ghost use Prim.Native.Nat.{_+_, _*_, _≤_};

@@ -7,7 +7,8 @@ use Rattle.words.specs.Bytes.{wordsOf, numbersOf}
 use Rattle.words.specs.Rows.{rows, put}
 use Rattle.counting.specs.Totals.{count, sumBelow, mostBelow}
 use Rattle.network.specs.Network.{Network}
-use Rattle.roads.specs.Roads.{networkOf, Measured}
+use Rattle.roads.specs.Roads.{networkOf}
+use Rattle.distances.specs.Distances.{Measured}
 use Rattle.sheet.specs.declared.check.Layout as Code
 use Rattle.checks.specs.Limits.{mostPlaces, mostSamples}
 use Rattle.values.specs.Chain.{highest, chainWord, chainVerdict, Valid}
