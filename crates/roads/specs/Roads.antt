@@ -1,14 +1,11 @@
 -- The roads of a sheet, narrow or wide ("The sheet", requests M-104 and M-106; refusals 4 to 7), and the network that they make.
-use Prim.Native.Nat.{ℕ, zero, suc, _+_, _-_, _*_, _<_, _^_}
-use mathlib.Core.Path.{_≡_}
+use Prim.Native.Nat.{ℕ, zero, suc, _+_, _-_, _*_, _<_}
 use mathlib.Core.Bool.{Bool, true, false, cond, _&&_, _||_}
 use mathlib.Core.List.{List}
 use lib.Dec.{T, eqb, ltb}
-use lib.ListN.{getD}
 use Rattle.words.specs.Word.{bits, payloadOf}
-use Rattle.words.specs.Rows.{rows}
 use Rattle.network.specs.Distance.{Distance, dist, none}
-use Rattle.network.specs.Network.{Network, distanceIn}
+use Rattle.network.specs.Network.{Network}
 use Rattle.checks.specs.Checked.{Checked, accepted, _>>=_, require, wordAt, isKind}
 use Rattle.checks.specs.Heads.{headWords, isWide}
 use Rattle.roads.specs.declared.road.Way.{Way}
