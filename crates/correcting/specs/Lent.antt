@@ -68,6 +68,10 @@ module _ (c : List ℕ) (g : Grid) where
   abbrev pub AllCorrected : (before after : List ℕ) → Type 0
   AllCorrected before after = (index : ℕ) → wordAt after index ≡ wordAfter c g index (wordAt before index) (count c)
 
+  -- whatever stood before all were raised, the values have taken the places of their revisions
+  abbrev pub AllSettled : (raised after : List ℕ) → Type 0
+  AllSettled raised after = (before : List ℕ) → AllRaised before raised → AllCorrected before after
+
 -- a valid sheet with a list that has passed, and room for it
 pub record Ready (sheet list output : List ℕ) (g : Grid) : Type 0 where
   pub targets : Targets (wordsOf list) g (wordsOf sheet)

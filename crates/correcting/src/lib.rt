@@ -15,13 +15,12 @@ use tool::Told;
 use tool::finish;
 use tool::refuse;
 ghost use mathlib.Core.Path.{_≡_};
-ghost use mathlib.Core.List.{List};
-ghost use Prim.Native.Nat.{ℕ, _<_};
+ghost use Prim.Native.Nat.{_<_};
 ghost use lib.ListN.{length, take, replicate};
 ghost use Rattle.words.specs.Bytes.{wordsOf, afterWords};
 ghost use Rattle.corrections.specs.Corrections.{count};
 ghost use Rattle.correcting.specs.Corrected.{correctedWords};
-ghost use Rattle.correcting.specs.Lent.{correctedIn, appliedIn, gridIn, raisedTo, givenWay, raisedOnce, settledOnce, Targets, NoRevisions, AllRaised, AllCorrected, Ready};
+ghost use Rattle.correcting.specs.Lent.{correctedIn, appliedIn, gridIn, raisedTo, givenWay, raisedOnce, settledOnce, Targets, NoRevisions, AllRaised, AllSettled, Ready};
 
 // Told of a correction that is ill-formed or aimed outside the sheet, and of two that disagree.
 const CORRECTION_FAULTY: u64 = 19;
@@ -94,7 +93,7 @@ fn raise_all(list: &[u8], grid: Grid, output: &mut [u8])
 // Puts the value in place of each highest revision, from the last correction on, so that the last of equal ones is taken.
 fn settle_all(list: &[u8], grid: Grid, output: &mut [u8])
     requires { ⌜ Targets (wordsOf (now list)) grid (wordsOf (now output)) ⌝ }
-    ensures { λ _. ⌜ ((before : List ℕ) → AllRaised (wordsOf (now (list .entry))) grid before (wordsOf (now (output .entry))) → AllCorrected (wordsOf (now (list .entry))) grid before (wordsOf (now (output .exit)))) ⌝ }
+    ensures { λ _. ⌜ (AllSettled (wordsOf (now (list .entry))) grid (wordsOf (now (output .entry))) (wordsOf (now (output .exit)))) ⌝ }
 {
     let mut left = correction_count(list);
     while 0 < left {
