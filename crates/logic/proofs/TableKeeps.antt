@@ -1,12 +1,13 @@
 -- One induction over the lines of a table, for every relation that the operations keep and every one into which the opposite turns it. Steadiness, the
 -- agreement of margin and verdict and the rise of margins with the samples (M-103) are its instances.
 use mathlib.Core.Bool.{Bool}
-use mathlib.Core.List.{List, [], ◌∷◌}
+use mathlib.Core.List.{List, [], ◌∷◌, ◌++◌}
 use Prim.Native.Nat.{ℕ, ◌-◌, ◌<◌}
+use lib.ListN.{get_or}
 use lib.IntN.{ℤ, ◌-ℤ◌}
 use Rattle.network.specs.Network.{Network, joined, within}
 use Rattle.formulas.specs.Formulas.{Direction, Operator, True, AtLeast, AtMost, Not, And, Until, Somewhere, Surrounded, Or, Eventually, Always, Everywhere, Line, Recording, LinesFit}
-use Rattle.logic.specs.Table.{Reading, Signal, away, until_at, somewhere_at, surround_at, value, values_after, value_at}
+use Rattle.logic.specs.Table.{Reading, Signal, away, until_at, somewhere_at, surround_at, ever_true, value, values_after, value_at}
 use Rattle.counting.specs.Lists.{Each, none, more}
 use Rattle.counting.proofs.Lists.{each_append, each_at}
 use Rattle.logic.proofs.Keeps.{Keeps, greatest_kept, surround_kept}
@@ -65,7 +66,8 @@ module _ (R M : Reading) (N : Network) (Rel Turned : R.lattice.Value → M.latti
   unfolding values_after
   values_turned known known' h [] fits = h
   values_turned known known' h (line ∷ lines) (more fit fits) =
-      values_turned _ _ (each_append h (more (value_turned _ _ (λ i. each_at h i _ _ (λ t l b. K.keeps_top)) line.operator fit) none)) lines fits
+      values_turned (known ++ (value R N x (λ i. get_or known i (ever_true R)) line.operator ∷ [])) _
+          (each_append h (more (value_turned _ _ (λ i. each_at h i _ _ (λ t l b. K.keeps_top)) line.operator fit) none)) lines fits
 
   pub value_at_turned : (lines : List Line) → LinesFit Fits lines → (i t l : ℕ) → l < N.places → Rel (value_at R N x lines i t l) (value_at M N y lines i t l)
   unfolding value_at
