@@ -5,7 +5,7 @@ ghost use Rattle.words.specs.Rows.{put};
 ghost use Rattle.checks.specs.Heads.{head_words, head_for, HeadFits};
 
 // What they say: the head's kind, the places, what the head counts in bits 19..12 (the signals of a sheet, the lines of an answer) and the samples.
-#[derive(Drop)]
+#[derive(Clone, Copy)]
 pub struct Beginning {
     pub kind: u32,
     pub places: usize,

@@ -3,7 +3,7 @@ ghost use Rattle.std.specs.Prelude.{◌≡◌};
 ghost use Rattle.checks.specs.Faults.{fault_number};
 
 // A case for each refusal of the sheet itself, in the order of their numbers, 1 to 14 and 17.
-#[derive(Drop)]
+#[derive(Clone, Copy)]
 pub enum Fault {
     DistancesShort,
     NotHead,

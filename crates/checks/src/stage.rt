@@ -2,7 +2,7 @@
 use crate::fault::Fault;
 
 // One number, such as the index after the part, or its first fault and the place of it.
-#[derive(Drop)]
+#[derive(Clone, Copy)]
 pub enum Stage {
     Passed(usize),
     Refused(Fault, usize),

@@ -18,7 +18,7 @@ const FEWEST_LINKED: usize = 32;
 const SPREAD: usize = 65537;
 
 // The corrections that are chained at a time, so many from one on, and in how many chains.
-#[derive(Drop)]
+#[derive(Clone, Copy)]
 struct Part {
     pub from: usize,
     pub size: usize,

@@ -9,14 +9,14 @@ ghost use Rattle.codes.specs.Decoding.{operator_said, constant_said, bounds_said
 use checks::fault::Fault;
 use checks::word::{is_kind, spare_bit_zero};
 
-#[derive(Drop)]
+#[derive(Clone, Copy)]
 pub struct Bounds {
     pub lower: u32,
     pub upper: u32,
 }
 
 // Where an operator over time looks from a sample.
-#[derive(Drop)]
+#[derive(Clone, Copy)]
 pub enum Direction {
     Forward,
     Backward,
@@ -24,7 +24,7 @@ pub enum Direction {
 
 // In the order of the codes 0 to 11; 12 to 14 are until, eventually and always backward, 15 is surrounded where islands count. `signal` is the number
 // of a signal; `left` and `right` are numbers of earlier lines.
-#[derive(Drop)]
+#[derive(Clone, Copy)]
 pub enum Operator {
     True,
     AtLeast {
@@ -79,27 +79,27 @@ pub enum Operator {
 }
 
 // The fields of a line word.
-#[derive(Drop)]
+#[derive(Clone, Copy)]
 struct Fields {
     pub code: u32,
     pub left: usize,
     pub right: usize,
 }
 
-#[derive(Drop)]
+#[derive(Clone, Copy)]
 enum ReadConstant {
     Constant(i32),
     Refused(Fault, usize),
 }
 
-#[derive(Drop)]
+#[derive(Clone, Copy)]
 enum ReadBounds {
     Bounds(Bounds),
     Refused(Fault, usize),
 }
 
 // An operator and the index after its words, or why there is none and where.
-#[derive(Drop)]
+#[derive(Clone, Copy)]
 pub enum ReadOperator {
     Operator(Operator, usize),
     Refused(Fault, usize),

@@ -7,7 +7,7 @@ ghost use Rattle.corrections.specs.Corrections.{revision, value, target};
 ghost use Rattle.corrections.specs.Aimed.{GridFits};
 
 // The samples of a sheet: the index at which they begin, and how many places, signals and samples there are.
-#[derive(Drop)]
+#[derive(Clone, Copy)]
 pub struct Grid {
     pub start: usize,
     pub places: usize,
@@ -16,7 +16,7 @@ pub struct Grid {
 }
 
 // What a look through a list finds: no fault, or the index of the word at which one is told.
-#[derive(Drop)]
+#[derive(Clone, Copy)]
 pub enum Found {
     Nothing,
     At(usize),

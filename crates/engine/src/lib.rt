@@ -14,7 +14,7 @@ mod answer;
 
 // What a host is told: the refusal's number, 0 for none, and its place; the words of the answer; the greatest rounds of a surround; how many
 // verdicts are yes.
-#[derive(Drop)]
+#[derive(Clone, Copy)]
 pub struct Result {
     pub number: u64,
     pub place: u64,

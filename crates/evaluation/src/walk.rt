@@ -11,7 +11,7 @@ use samples::tally::Tally;
 use sheet::check::Layout;
 
 // The index after the last line, and what the lines add to the result.
-#[derive(Drop)]
+#[derive(Clone, Copy)]
 pub struct Written {
     pub end: usize,
     pub tally: Tally,

@@ -9,7 +9,7 @@ use crate::{LANES, ROWS};
 use codes::operator::Bounds;
 
 // Samples first to first + count - 1, side by side.
-#[derive(Drop)]
+#[derive(Clone, Copy)]
 pub struct Block {
     pub first: usize,
     pub count: usize,

@@ -9,7 +9,7 @@ ghost use Rattle.codes.specs.Decoding.{side_said, operator_said};
 use codes::operator::{Direction, Operator};
 
 // So many samples from the first on.
-#[derive(Drop)]
+#[derive(Clone, Copy)]
 pub struct Extent {
     pub first: u32,
     pub length: u32,

@@ -9,14 +9,14 @@ use crate::extent::{Extent, extent_of};
 use checks::fault::Fault;
 use codes::operator::{Operator, ReadOperator, decode_operator};
 
-#[derive(Drop)]
+#[derive(Clone, Copy)]
 pub struct Line {
     pub extent: Extent,
     pub operator: Operator,
 }
 
 // A line and the index after its words, or why there is none and where.
-#[derive(Drop)]
+#[derive(Clone, Copy)]
 pub enum Decoded {
     Line(Line, usize),
     Refused(Fault, usize),

@@ -12,7 +12,7 @@ use checks::limits::MOST_LINES;
 use checks::word::is_kind;
 
 // How many lines there are, and the index after the last.
-#[derive(Drop)]
+#[derive(Clone, Copy)]
 pub enum Table {
     Lines(usize, usize),
     Refused(Fault, usize),

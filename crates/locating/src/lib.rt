@@ -12,7 +12,7 @@ use surrounds::surround::Surround;
 use windows::until::Until;
 
 // What is asked about every centre.
-#[derive(Drop)]
+#[derive(Clone, Copy)]
 pub enum Around {
     Surround(Surround),
     Range(Range),
@@ -20,7 +20,7 @@ pub enum Around {
 
 // What is evaluated sample by sample. Operands are the indices from which their signals are read. Since is until looking back, or the dual of and,
 // always that of eventually.
-#[derive(Drop)]
+#[derive(Clone, Copy)]
 pub enum RowOperator {
     True,
     Atom {
@@ -45,14 +45,14 @@ pub enum RowOperator {
 }
 
 // How the verdicts of a line are found: sample by sample, or, over space, in blocks of samples.
-#[derive(Drop)]
+#[derive(Clone, Copy)]
 pub enum Located {
     Rows(RowOperator),
     Blocks(Around),
 }
 
 // Operands are read from this sample of the recording on, with so many words to a sample.
-#[derive(Drop)]
+#[derive(Clone, Copy)]
 struct Origin {
     pub sample: u32,
     pub places: usize,

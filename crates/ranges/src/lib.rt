@@ -10,7 +10,7 @@ use lanes::strips::{combine_strips, fill_strip};
 use lanes::{LEFT, OUT, ROWS};
 
 // What is asked about every centre. The operand is the index at which its signal begins.
-#[derive(Drop)]
+#[derive(Clone, Copy)]
 pub struct Range {
     pub left: usize,
     pub bounds: Bounds,

@@ -8,14 +8,14 @@ ghost use Rattle.roads.specs.Roads.{road_at, first_place, second_place, spare_bi
 use checks::head::head_words;
 
 // How many places a sheet has, and how many roads among them.
-#[derive(Drop)]
+#[derive(Clone, Copy)]
 pub struct Network {
     pub places: usize,
     pub roads: usize,
 }
 
 // One of the two ways of a road: from which place it leads to which, and whether the road runs so.
-#[derive(Drop)]
+#[derive(Clone, Copy)]
 pub struct Way {
     pub from: usize,
     pub to: usize,

@@ -15,7 +15,7 @@ use roads::check::check_roads;
 
 // What stands where: the sizes of the head, how many roads and lines there are, and the indices at which the recording (the samples) and the
 // table (the lines) begin.
-#[derive(Drop)]
+#[derive(Clone, Copy)]
 pub struct Layout {
     pub places: usize,
     pub signals: usize,
@@ -27,7 +27,7 @@ pub struct Layout {
 }
 
 // The layout of a sheet, or its first fault and the place of it.
-#[derive(Drop)]
+#[derive(Clone, Copy)]
 pub enum Check {
     Accepted(Layout),
     Refused(Fault, usize),

@@ -13,14 +13,14 @@ use checks::limits::{LEAST_DISTANCES, MOST_NARROW, MOST_SAMPLES, MOST_SIGNALS, w
 use checks::stage::Stage;
 use checks::word::{is_kind, spare_bit_zero};
 
-#[derive(Drop)]
+#[derive(Clone, Copy)]
 pub(crate) struct Sizes {
     pub places: usize,
     pub signals: usize,
     pub samples: usize,
 }
 
-#[derive(Drop)]
+#[derive(Clone, Copy)]
 pub(crate) enum Head {
     Sizes(Sizes),
     Refused(Fault, usize),

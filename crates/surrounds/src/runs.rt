@@ -17,7 +17,7 @@ use lanes::rows::in_range;
 use lanes::strips::fill_strip;
 
 // A run about every centre that has it.
-#[derive(Drop)]
+#[derive(Clone, Copy)]
 pub struct Run {
     pub bounds: Bounds,
     pub islands: bool,

@@ -16,7 +16,7 @@ use lanes::{LEFT, OUT, RIGHT, ROWS};
 use roads::road::Network;
 
 // What is asked about every centre, and whether islands count. The operands are the indices at which their signals begin.
-#[derive(Drop)]
+#[derive(Clone, Copy)]
 pub struct Surround {
     pub left: usize,
     pub right: usize,

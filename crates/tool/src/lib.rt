@@ -4,7 +4,7 @@ ghost use Rattle.words.specs.Bytes.{words_of, after_words};
 ghost use Rattle.words.specs.Rows.{padded};
 
 // The refusal's number, 0 for none, and its place; the words that were written.
-#[derive(Drop)]
+#[derive(Clone, Copy)]
 pub struct Told {
     pub number: u64,
     pub place: u64,

@@ -7,7 +7,7 @@ ghost use Rattle.values.specs.Chain.{margin_code, margin_at, highest, chain_of, 
 ghost use Rattle.values.specs.Signals.{signal_in};
 
 // A margin by its place in the order of margins: 0 is minus infinity, 2^27 + z the number z, 2^28 plus infinity.
-#[derive(Drop)]
+#[derive(Clone, Copy)]
 pub struct Margin {
     pub code: u32,
 }

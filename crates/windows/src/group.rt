@@ -10,7 +10,7 @@ use values::signal_at;
 pub(crate) const GROUP: usize = 16;
 
 // So many places from the first on.
-#[derive(Drop)]
+#[derive(Clone, Copy)]
 pub(crate) struct Group {
     pub first: usize,
     pub count: usize,

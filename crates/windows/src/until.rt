@@ -14,7 +14,7 @@ use codes::operator::Bounds;
 use operators::connectives::fill_row;
 
 // `left` and `right` are the indices at which the signals of the operands begin.
-#[derive(Drop)]
+#[derive(Clone, Copy)]
 pub struct Until {
     pub left: usize,
     pub right: usize,
