@@ -1,4 +1,6 @@
 // Words of 32 bits and numbers of 64 bits in bytes, lowest byte first, and the fields of a word.
+#![tactic(auto)]
+
 ghost use Rattle.std.specs.Prelude.{◌≡◌, [], ◌∷◌, ◌+◌, ◌*◌, ◌<◌, ◌≤◌, ◌^◌, length, get_or, take, set, replicate};
 ghost use Rattle.words.specs.Word.{kind_of, payload_of, sample_of};
 ghost use Rattle.words.specs.Bytes.{word_of_bytes, words_of, numbers_of, bytes_of, halves_of, after_words};

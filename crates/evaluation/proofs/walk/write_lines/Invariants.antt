@@ -1,0 +1,19 @@
+-- Each turn passes one line and writes it behind those before.
+use mathlib.Core.Path.{◌≡◌}
+use Prim.Native.Nat.{◌-◌}
+use lib.ListN.{length}
+use Rattle.words.specs.Bytes.{words_of, after_words}
+use Rattle.lines.proofs.Walk.{Walk}
+use Rattle.evaluation.proofs.AcceptedTable.{lines_of}
+use Rattle.evaluation.proofs.LinesDone.{LinesDone}
+use Rattle.evaluation.proofs.walk.write_lines.Given as goal
+
+abbrev pub invariant-loop-k : goal.invariant-loop-k
+invariant-loop-k l =
+    Walk (words_of l.sheet) l.layout.signals l.layout.samples (lines_of l.sheet l.distances) l.k l.at l.firsts l.lengths
+    × (length l.answer ≡ length l.initial.answer)
+    × LinesDone (words_of l.sheet) l.layout (lines_of l.sheet l.distances) (words_of l.initial.answer) l.k (words_of l.answer) l.starts l.to l.tally
+    × (after_words l.answer ≡ after_words l.initial.answer)
+
+abbrev pub decreases-loop-k : goal.decreases-loop-k
+decreases-loop-k l = l.layout.lines - l.k

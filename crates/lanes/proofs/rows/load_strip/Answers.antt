@@ -1,0 +1,12 @@
+-- Each turn decodes one lane more.
+use Prim.Native.Nat.{◌-◌}
+use native.Mathlib.Omega.{arith}
+use Rattle.lanes.specs.Rows.{lane_signal}
+use Rattle.lanes.proofs.StripLaws.{writing_more, writing_all}
+use Rattle.lanes.proofs.rows.load_strip.Goals as goal
+
+pub loop-lane-preserved : goal.loop-lane-preserved
+loop-lane-preserved c = writing_more c.loop-lane.invariant (omega arith) (omega arith) c.lane_signal.ensures
+
+pub returns : goal.returns
+returns c = writing_all c.loop-lane.invariant (omega arith)

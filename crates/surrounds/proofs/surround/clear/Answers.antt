@@ -1,0 +1,18 @@
+-- Each turn clears the strip of one place more.
+use Prim.Native.Nat.{◌-◌}
+use mathlib.Core.Path.{◌≡◌}
+use native.Mathlib.Omega.{arith}
+use Rattle.lanes.proofs.RowLaws.{row_written_none, row_written_more, row_written_all}
+use Rattle.std.proofs.Common.{rules}
+use Rattle.surrounds.proofs.surround.clear.Goals as goal
+
+pub loop-place-init : goal.loop-place-init
+loop-place-init c = (search rules, row_written_none _ _ _)
+
+pub loop-place-preserved : goal.loop-place-preserved
+loop-place-preserved c =
+    let strip = c.fill_strip in
+    (search rules, row_written_more c.loop-place.invariant.1 (omega arith) strip.ensures strip.auto.rows (λ _ _. c.bottom.ensures))
+
+pub returns : goal.returns
+returns c = let ended : c.loop-place.place ≡ c.args.places = omega arith in row_written_all c.loop-place.invariant.1 ended

@@ -1,0 +1,18 @@
+-- Each turn puts one row more after those of the line, and adds its yes verdicts. The words before the line stay as they are.
+use mathlib.Core.Path.{◌≡◌}
+use Prim.Native.Nat.{ℕ, suc, ◌-◌, ◌≤◌}
+use lib.ListN.{length}
+use Rattle.checks.specs.Limits.{most_places}
+use Rattle.operators.specs.Rows.{Filled}
+use Rattle.verdicts.specs.Rows.{value_in}
+use Rattle.samples.proofs.LineRows.{RowsDone}
+use Rattle.verdicts.proofs.row.write_rows.Given as goal
+
+abbrev pub invariant-loop-t : goal.invariant-loop-t
+invariant-loop-t l =
+    (l.t ≤ l.samples) × RowsDone (value_in l.sheet l.layout l.initial.answer l.begin l.operator) l.layout.places l.initial.answer l.begin l.t l.answer l.to l.yes
+    × (length l.held ≡ most_places)
+    × ((u : ℕ) → l.t ≡ suc u → Filled l.layout.places (value_in l.sheet l.layout l.initial.answer l.begin l.operator u) l.held)
+
+abbrev pub decreases-loop-t : goal.decreases-loop-t
+decreases-loop-t l = l.samples - l.t
