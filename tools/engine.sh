@@ -15,12 +15,12 @@ named() {
 
 engine_library() {
     if [ -n "${TECUHUALMA_LIBRARY:-}" ]; then named TECUHUALMA_LIBRARY; return; fi
-    (cd "$root" && rt staticlib host) >&2 || return
-    echo "$root/target/staticlib/libhost.a"
+    (cd "$root/crates/host_c" && rt lib) >&2 || return
+    echo "$root/crates/host_c/out/libhost_c.a"
 }
 
 printing_program() {
     if [ -n "${TECUHUALMA_PRINT:-}" ]; then named TECUHUALMA_PRINT; return; fi
-    (cd "$root" && rt check print_verdicts) >&2 || return
-    echo "$root/target/bin/print_verdicts"
+    (cd "$root/crates/print_verdicts" && rt run < /dev/null) >&2 || return
+    echo "$root/crates/print_verdicts/out/print_verdicts"
 }

@@ -1,15 +1,7 @@
-// The engine, the lookup and the tools over bytes and numbers, for a host written in C: each slice is a pointer and a length there. Nothing is
-// asked of what is lent but that no two parts of it overlap.
-//
-//     uint64_t judge(const uint8_t *sheet, size_t sheet_length, uint8_t *distances, size_t distances_length, uint8_t *answer,
-//         size_t answer_length, uint8_t *result, size_t result_length);
-//     uint64_t lookup(const uint8_t *answer, size_t answer_length, uint64_t line, uint64_t sample, uint64_t place);
-//     uint64_t sheet_to_wide(const uint8_t *sheet, size_t sheet_length, uint8_t *output, size_t output_length, uint8_t *result,
-//         size_t result_length);
-//     uint64_t sheet_to_narrow(const uint8_t *sheet, size_t sheet_length, uint8_t *output, size_t output_length, uint8_t *result,
-//         size_t result_length);
-//     uint64_t correct_sheet(const uint8_t *sheet, size_t sheet_length, const uint8_t *corrections, size_t corrections_length,
-//         uint8_t *output, size_t output_length, uint8_t *result, size_t result_length);
+// The engine, the lookup and the tools over bytes and numbers, as a host calls them, one written in C through the static library host_c: a
+// slice may have any length, and what is wrong with it is told.
+#![tactic(auto)]
+
 ghost use Rattle.std.specs.Prelude.{◌≡◌, length};
 ghost use Rattle.engine.specs.Result.{result_said};
 ghost use Rattle.host.specs.Host.{result_size, result_bytes, lent_whole, not_whole, host_judged, host_looked_up};
@@ -18,6 +10,8 @@ use engine::Result;
 use tools::BYTES_REFUSED;
 
 mod tool_calls;
+
+pub use tool_calls::{correct_sheet, sheet_to_narrow, sheet_to_wide};
 
 // Five numbers of eight bytes.
 const RESULT_BYTES: usize = 40;
@@ -64,13 +58,7 @@ fn refuse(distances: &mut [u8], answer: &mut [u8], res: &mut [u8]) -> u64
 }
 
 // Judges a sheet and returns the number of its refusal, 0 for none. Lengths that are not whole are 16, before all else.
-#[unsafe(no_mangle)]
-pub extern "C" fn judge(
-    sheet: &[u8],
-    distances: &mut [u8],
-    answer: &mut [u8],
-    res: &mut [u8],
-) -> u64
+pub fn judge(sheet: &[u8], distances: &mut [u8], answer: &mut [u8], res: &mut [u8]) -> u64
     ensures told { result ≡ (host_judged sheet.now distances.old answer.old res.old).number }
     ensures said { answer.new ≡ (host_judged sheet.now distances.old answer.old res.old).answer }
     ensures measured { distances.new ≡ (host_judged sheet.now distances.old answer.old res.old).distances }
@@ -85,8 +73,7 @@ pub extern "C" fn judge(
 }
 
 // 1 yes, 2 no, 0 no verdict: bytes past the last whole word are no part of an answer.
-#[unsafe(no_mangle)]
-pub extern "C" fn lookup(answer: &[u8], line: u64, sample: u64, place: u64) -> u64
+pub fn lookup(answer: &[u8], line: u64, sample: u64, place: u64) -> u64
     ensures { result ≡ host_looked_up answer.now line sample place }
 {
     if answer.len() % 4 != 0 {

@@ -1,10 +1,9 @@
-// The tools for a host written in C.
+// The tools for a host.
 ghost use Rattle.std.specs.Prelude.{◌≡◌, true, false};
 ghost use Rattle.tools.specs.Tools.{host_converted, host_corrected};
 
 // Lays a sheet out wide.
-#[unsafe(no_mangle)]
-pub extern "C" fn sheet_to_wide(sheet: &[u8], output: &mut [u8], res: &mut [u8]) -> u64
+pub fn sheet_to_wide(sheet: &[u8], output: &mut [u8], res: &mut [u8]) -> u64
     ensures told { result ≡ (host_converted true sheet.now output.old res.old).number }
     ensures said { output.new ≡ (host_converted true sheet.now output.old res.old).output }
     ensures held { res.new ≡ (host_converted true sheet.now output.old res.old).result }
@@ -13,8 +12,7 @@ pub extern "C" fn sheet_to_wide(sheet: &[u8], output: &mut [u8], res: &mut [u8])
 }
 
 // Lays a sheet of at most 64 places out narrow.
-#[unsafe(no_mangle)]
-pub extern "C" fn sheet_to_narrow(sheet: &[u8], output: &mut [u8], res: &mut [u8]) -> u64
+pub fn sheet_to_narrow(sheet: &[u8], output: &mut [u8], res: &mut [u8]) -> u64
     ensures told { result ≡ (host_converted false sheet.now output.old res.old).number }
     ensures said { output.new ≡ (host_converted false sheet.now output.old res.old).output }
     ensures held { res.new ≡ (host_converted false sheet.now output.old res.old).result }
@@ -23,8 +21,7 @@ pub extern "C" fn sheet_to_narrow(sheet: &[u8], output: &mut [u8], res: &mut [u8
 }
 
 // Replaces samples by late corrections; for one sample the highest revision counts.
-#[unsafe(no_mangle)]
-pub extern "C" fn correct_sheet(sheet: &[u8], list: &[u8], output: &mut [u8], res: &mut [u8]) -> u64
+pub fn correct_sheet(sheet: &[u8], list: &[u8], output: &mut [u8], res: &mut [u8]) -> u64
     ensures told { result ≡ (host_corrected sheet.now list.now output.old res.old).number }
     ensures said { output.new ≡ (host_corrected sheet.now list.now output.old res.old).output }
     ensures held { res.new ≡ (host_corrected sheet.now list.now output.old res.old).result }

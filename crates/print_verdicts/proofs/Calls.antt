@@ -1,8 +1,6 @@
 -- Example A of document 01 in the printing program: every call of `judge_input` on its 76 bytes returns what the program prints first, 20 words, 1 round
 -- and 11 yes verdicts, and leaves the words of the verdicts that it prints then.
 use mathlib.Core.Path.{◌≡◌, ap, ◌∙◌}
-use mathlib.Core.List.{List}
-use Prim.Native.Nat.{ℕ}
 use contract.Lifetimes
 use borrow.Fn.Kinds.{Dens, ended_of}
 use denote.Triple.Clauses.{AtExit}

@@ -9,14 +9,20 @@
 //     end ROWS                           how many such rows there are
 // where it is refused:
 //     refused NUMBER PLACE
-ghost use Rattle.std.specs.Prelude.{◌≡◌, ◌+◌, ◌*◌, ◌^◌, ◌<◌, ◌≤◌, length};
+#![tactic(auto)]
+
+ghost use Rattle.std.specs.Prelude.{◌≡◌, ◌+◌, ◌*◌, ◌^◌, ◌<◌, ◌≤◌, length, IfOk};
 ghost use Rattle.words.specs.Bytes.{words_of, numbers_of};
+ghost use Rattle.words.specs.Word.{payload_of, signed};
 ghost use Rattle.engine.specs.Result.{result_said};
 ghost use Rattle.host.specs.Host.{program_distances, program_words, input_taken, program_judged};
 
 use engine::Result;
-use libc::{STDIN_FILENO, STDOUT_FILENO};
+use std::io;
 use tools::BYTES_REFUSED;
+
+// What is read at most: more than is taken, so that an input that is too long is seen.
+const READ_BYTES: usize = 65536;
 
 // What is taken, and what is lent: 4,096 distances and 16,384 answer words.
 const INPUT_BYTES: usize = 32768;
@@ -25,96 +31,70 @@ const DISTANCES_BYTES: usize = 32768;
 
 const ANSWER_BYTES: usize = 65536;
 
-fn print_number(x: u64) {
-    io::write_all(STDOUT_FILENO, b" ");
-    io::print_decimal(STDOUT_FILENO, x);
-}
-
 // The margin of a word of kind 9 or 10: its payload in two's complement.
-fn print_margin(w: u32) {
-    let payload = words::payload(w);
+fn margin(word: u32) -> i32
+    ensures { result ≡ signed 28 (payload_of word) }
+{
+    let payload = words::payload(word) as i32;
     if payload < 134217728 {
-        io::print_decimal(STDOUT_FILENO, payload as u64);
+        payload
     } else {
-        io::write_all(STDOUT_FILENO, b"-");
-        io::print_decimal(STDOUT_FILENO, 268435456 - payload as u64);
+        payload - 268435456
     }
 }
 
 // A word of an answer, of kind 9 to 12.
-fn print_verdict(w: u32) {
-    match words::kind(w) {
-        9 => {
-            io::write_all(STDOUT_FILENO, b" yes ");
-            print_margin(w);
-        }
-        10 => {
-            io::write_all(STDOUT_FILENO, b" no ");
-            print_margin(w);
-        }
-        11 => {
-            io::write_all(STDOUT_FILENO, b" yes +inf");
-        }
+fn print_verdict(rt: &impl Print, word: u32) -> io::Result<()> {
+    match words::kind(word) {
+        9 => print!(rt; " yes {}", margin(word)),
+        10 => print!(rt; " no {}", margin(word)),
+        11 => print!(rt; " yes +inf"),
         // 12: an answer has no other
-        _ => {
-            io::write_all(STDOUT_FILENO, b" no -inf");
-        }
+        _ => print!(rt; " no -inf"),
     }
 }
 
 // The verdicts of all places at one sample, the first at index `at`.
-fn print_places(answer: &[u8], at: usize, places: usize)
+fn print_places(rt: &impl Print, answer: &[u8], at: usize, places: usize) -> io::Result<()>
     requires { at + places ≤ 2 ^ 40 }
 {
     for place in 0..places {
-        print_verdict(words::word_or_zero(answer, at + place));
+        print_verdict(rt, words::word_or_zero(answer, at + place))?;
     }
-    io::write_all(STDOUT_FILENO, b"\n");
+    println!(rt)
 }
 
 // The rows of the line whose first word stands at index `at`, from its first sample on. Tells the index after the line.
-fn print_line(answer: &[u8], line: usize, at: usize, places: usize) -> usize
+fn print_line(
+    rt: &impl Print,
+    answer: &[u8],
+    line: usize,
+    at: usize,
+    places: usize,
+) -> io::Result<usize>
     requires { (at < 2 ^ 36) × (places < 2 ^ 16) }
-    ensures { result ≤ at + 2 ^ 28 }
+    ensures { IfOk result (λ next. next ≤ at + 2 ^ 28) }
 {
     let first = lookup::first_at(answer, at);
     let mut next = at + 1;
     for row in 0..lookup::length_at(answer, at) {
-        io::print_decimal(STDOUT_FILENO, line as u64);
-        print_number((first + row) as u64);
-        print_places(answer, next, places);
+        print!(rt; "{line} {}", first + row)?;
+        print_places(rt, answer, next, places)?;
         next += places;
     }
-    next
+    Ok(next)
 }
 
 // The rows of all lines, and last how many they are. The fields of 8, 12 and 16 bits keep every index small, whatever the words are.
-fn print_lines(answer: &[u8]) {
+fn print_lines(rt: &impl Print, answer: &[u8]) -> io::Result<()> {
     let places = checks::head::places(answer);
     let mut at: usize = checks::head::head_words(checks::head::is_wide(answer));
     let mut rows: usize = 0;
     for line in 0..lookup::lines(answer) {
         rows += lookup::length_at(answer, at);
-        at = print_line(answer, line, at, places);
+        at = print_line(rt, answer, line, at, places)?;
     }
-    io::write_all(STDOUT_FILENO, b"end");
-    print_number(rows as u64);
-    io::write_all(STDOUT_FILENO, b"\n");
-}
-
-fn print_refused(number: u64, place: u64) {
-    io::write_all(STDOUT_FILENO, b"refused");
-    print_number(number);
-    print_number(place);
-    io::write_all(STDOUT_FILENO, b"\n");
-}
-
-fn print_accepted(res: Result) {
-    io::write_all(STDOUT_FILENO, b"accepted");
-    print_number(res.words);
-    print_number(res.rounds);
-    print_number(res.yes);
-    io::write_all(STDOUT_FILENO, b"\n");
+    println!(rt; "end {rows}")
 }
 
 fn input_taken(bytes: usize) -> bool
@@ -141,21 +121,19 @@ fn judge_input(input: &[u8], distances: &mut [u8], answer: &mut [u8]) -> Result
     engine::judge(input, distances, answer)
 }
 
-fn print_judged(input: &[u8]) {
+fn print_judged(rt: &impl Print, input: &[u8]) -> io::Result<()> {
     let mut distances = [0u8; DISTANCES_BYTES];
     let mut answer = [0u8; ANSWER_BYTES];
-    let result = judge_input(input, &mut distances, &mut answer);
-    if result.number == 0 {
-        print_accepted(result);
-        print_lines(&answer);
-    } else {
-        print_refused(result.number, result.place);
+    let told = judge_input(input, &mut distances, &mut answer);
+    if told.number != 0 {
+        return println!(rt; "refused {} {}", told.number, told.place);
     }
+    println!(rt; "accepted {} {} {}", told.words, told.rounds, told.yes)?;
+    print_lines(rt, &answer)
 }
 
-// More bytes are read than are taken, so that an input that is too long is seen.
-fn main() {
-    let mut input = io::large_buffer();
-    let n = io::read_full(STDIN_FILENO, &mut input);
-    print_judged(&input[..n]);
+fn main(rt: HostRuntime) -> io::Result<()> {
+    let mut buf = [0u8; READ_BYTES];
+    let count = input::read_full(&mut rt.stdin(), &mut buf)?;
+    print_judged(&rt, &buf[..count])
 }

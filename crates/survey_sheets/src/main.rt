@@ -8,87 +8,80 @@
 //     accepted PLACES SIGNALS SAMPLES ROADS LINES    then a row for each place: its distances to all places, `none` where no path is
 //     refused NUMBER PLACE                           then `table not zero` if the survey left anything in the lent table
 //     cut off                                        the input ends within a count or a sheet; nothing is read after it
-ghost use Rattle.std.specs.Prelude.{◌+◌, ◌*◌, ◌≤◌, length};
+#![tactic(auto)]
+
+ghost use Rattle.std.specs.Prelude.{◌≡◌, ◌+◌, ◌*◌, ◌≤◌, ◌↔◌, length, IsTrue, slice_index, EachIndex};
 ghost use Rattle.words.specs.Bytes.{words_of, numbers_of};
 
 use checks::fault::Fault;
 use distances::NONE;
-use libc::{STDIN_FILENO, STDOUT_FILENO};
 use sheet::check::{Check, Layout};
+use std::io;
 
-fn print_distance(distance: u64) {
+// What is read at most.
+const READ_BYTES: usize = 65536;
+
+fn print_distance(rt: &impl Print, distance: u64) -> io::Result<()> {
     if distance == NONE {
-        io::write_all(STDOUT_FILENO, b"none");
+        print!(rt; "none")
     } else {
-        io::print_decimal(STDOUT_FILENO, distance);
+        print!(rt; "{distance}")
     }
 }
 
 // So many distances of the table, from the one at `first` on.
-fn print_row(table: &[u8], first: usize, count: usize)
+fn print_row(rt: &impl Print, table: &[u8], first: usize, count: usize) -> io::Result<()>
     requires { first + count ≤ length (numbers_of (words_of table.now)) }
 {
     for i in 0..count {
         if 0 < i {
-            io::write_all(STDOUT_FILENO, b" ");
+            print!(rt; " ")?;
         }
-        print_distance(words::number_at(table, first + i));
+        print_distance(rt, words::number_at(table, first + i))?;
     }
-    io::write_all(STDOUT_FILENO, b"\n");
+    println!(rt)
 }
 
-fn print_rows(table: &[u8], places: usize)
+fn print_rows(rt: &impl Print, table: &[u8], places: usize) -> io::Result<()>
     requires { places * places ≤ length (numbers_of (words_of table.now)) }
 {
     for place in 0..places {
-        print_row(table, place * places, places);
+        print_row(rt, table, place * places, places)?;
     }
+    Ok(())
 }
 
-fn print_size(size: usize) {
-    io::write_all(STDOUT_FILENO, b" ");
-    io::print_decimal(STDOUT_FILENO, size as u64);
+fn print_accepted(rt: &impl Print, layout: Layout) -> io::Result<()> {
+    println!(rt;
+        "accepted {} {} {} {} {}",
+        layout.places, layout.signals, layout.samples, layout.roads, layout.lines
+    )
 }
 
-fn print_accepted(layout: Layout) {
-    io::write_all(STDOUT_FILENO, b"accepted");
-    print_size(layout.places);
-    print_size(layout.signals);
-    print_size(layout.samples);
-    print_size(layout.roads);
-    print_size(layout.lines);
-    io::write_all(STDOUT_FILENO, b"\n");
-}
-
-fn print_refused(fault: Fault, place: usize) {
-    io::write_all(STDOUT_FILENO, b"refused ");
-    io::print_decimal(STDOUT_FILENO, checks::fault::number(fault));
-    print_size(place);
-    io::write_all(STDOUT_FILENO, b"\n");
+fn print_refused(rt: &impl Print, fault: Fault, place: usize) -> io::Result<()> {
+    println!(rt; "refused {} {place}", checks::fault::number(fault))
 }
 
 // A refusal must leave nothing behind. That it doesn't is proved of the survey; here it is seen in a run.
-fn is_zero(table: &[u8]) -> bool {
-    for i in 0..table.len() {
-        if table[i] != 0 {
-            return false;
-        }
-    }
-    true
+fn is_zero(table: &[u8]) -> bool
+    ensures { IsTrue result ↔ EachIndex table.now (λ k. slice_index table.now k ≡ 0) }
+{
+    table.iter().all(|byte| *byte == 0)
 }
 
 // The table need not be clean: the survey writes all of it.
-fn survey_one(sheet_bytes: &[u8], table: &mut [u8]) {
+fn survey_one(rt: &impl Print, sheet_bytes: &[u8], table: &mut [u8]) -> io::Result<()> {
     match sheet::survey::survey(sheet_bytes, table) {
         Check::Accepted(layout) => {
-            print_accepted(layout);
-            print_rows(table, layout.places);
+            print_accepted(rt, layout)?;
+            print_rows(rt, table, layout.places)
         }
         Check::Refused(fault, place) => {
-            print_refused(fault, place);
+            print_refused(rt, fault, place)?;
             if !is_zero(table) {
-                io::write_all(STDOUT_FILENO, b"table not zero\n");
+                println!(rt; "table not zero")?;
             }
+            Ok(())
         }
     }
 }
@@ -104,24 +97,24 @@ fn size_with_count(rest: &[u8]) -> usize
 }
 
 // Each sheet is lent a table of 4,096 distances in which every byte is set: its zeros are then the survey's.
-fn survey_all(input: &[u8]) {
+fn survey_all(rt: &impl Print, input: &[u8]) -> io::Result<()> {
     let mut at = 0;
     while at < input.len() {
         let size = size_with_count(&input[at..]);
         if input.len() - at < size {
-            io::write_all(STDOUT_FILENO, b"cut off\n");
-            return;
+            return println!(rt; "cut off");
         }
         let start = at + 4;
         let end = at + size;
         let mut table = [255u8; 32768];
-        survey_one(&input[start..end], &mut table);
+        survey_one(rt, &input[start..end], &mut table)?;
         at = end;
     }
+    Ok(())
 }
 
-fn main() {
-    let mut input = io::large_buffer();
-    let n = io::read_full(STDIN_FILENO, &mut input);
-    survey_all(&input[..n]);
+fn main(rt: HostRuntime) -> io::Result<()> {
+    let mut buf = [0u8; READ_BYTES];
+    let count = input::read_full(&mut rt.stdin(), &mut buf)?;
+    survey_all(&rt, &buf[..count])
 }
