@@ -12,7 +12,7 @@ use Rattle.words.proofs.Rows.{same_index}
 use Rattle.checks.specs.Checked.{word_at}
 use Rattle.checks.proofs.Tests.{equal}
 use Rattle.corrections.specs.declared.correction.Grid.{Grid}
-use Rattle.corrections.specs.Corrections.{signal, time, place, revision, target, same_revision}
+use Rattle.corrections.specs.Corrections.{signal, time, place, target, same_revision}
 use Rattle.corrections.specs.Aimed.{Aimed}
 use Rattle.clashes.proofs.Disagreeing.{same_told, same_by}
 

@@ -1,6 +1,8 @@
 // Two corrections of one sample with equal revision and unlike values: 20. The list is gone through in parts. Chains through lent words lead from a correction to
 // earlier ones of the part, the first of its sample and revision among them and few others. It is compared with that one alone: those between agree with it, or they would have
 // been found. Where there is no room for chains, all of the list is one part and every earlier one is looked at.
+#![tactic(auto)]
+
 ghost use Rattle.std.specs.Prelude.{◌≡◌, ◌+◌, ◌*◌, ◌<◌, ◌≤◌, min, T, length, replicate};
 ghost use Rattle.words.specs.Bytes.{words_of};
 ghost use Rattle.corrections.specs.Corrections.{same_revision, disagrees_with, agrees, in_turn};

@@ -1,4 +1,6 @@
 // The converter: a valid sheet laid out narrow or wide (M-105). Head, roads and the end's count are written anew, all other words are copied.
+#![tactic(auto)]
+
 ghost use Rattle.std.specs.Prelude.{◌≡◌, ◌≤◌, length, replicate};
 ghost use Rattle.words.specs.Bytes.{words_of, after_words};
 ghost use Rattle.words.specs.Rows.{concat, put};

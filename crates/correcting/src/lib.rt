@@ -1,4 +1,6 @@
 // The tool for late corrections (M-107): a valid sheet is written with each corrected sample replaced; for one sample the highest revision counts.
+#![tactic(auto)]
+
 ghost use Rattle.std.specs.Prelude.{◌≡◌, ◌<◌, length, take, replicate};
 ghost use Rattle.words.specs.Bytes.{words_of, after_words};
 ghost use Rattle.corrections.specs.Corrections.{count};

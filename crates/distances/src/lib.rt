@@ -1,6 +1,8 @@
 // The distances of all places, computed within the lent table: n * n numbers of 64 bits, row by row, 2^64 - 1 for none.
 // Paths are let through one more place at a time (Floyd and Warshall). Within one table this is right because the row and the
 // column of the place that is let in do not change in its turn.
+#![tactic(auto)]
+
 ghost use Rattle.std.specs.Prelude.{◌≡◌, ℕ, ◌+◌, ◌-◌, ◌*◌, ◌<◌, ◌≤◌, ◌^◌, min, length, drop, replicate};
 ghost use Rattle.words.specs.Bytes.{words_of, numbers_of};
 ghost use Rattle.words.specs.Rows.{padded};

@@ -1,4 +1,6 @@
 // The engine: from a sheet to its whole answer, or to a refusal that leaves zeros.
+#![tactic(auto)]
+
 ghost use Rattle.std.specs.Prelude.{◌≡◌, ◌≤◌, length, replicate};
 ghost use Rattle.words.specs.Bytes.{words_of, numbers_of, after_words, after_numbers};
 ghost use Rattle.evaluation.specs.Lent.{AcceptingIn, needed_in};

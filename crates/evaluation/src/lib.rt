@@ -1,3 +1,5 @@
 // Every line of an accepted sheet, one after the other: how many words their answer needs, and their verdicts.
+#![tactic(auto)]
+
 mod line;
 pub mod walk;

@@ -1,4 +1,6 @@
 // Rows of lanes, all in one buffer: several samples lie side by side in a strip, and each place has a strip for each row.
+#![tactic(auto)]
+
 pub mod rows;
 pub mod strips;
 

@@ -1,6 +1,8 @@
 // An operator with its operands by where they stand: an operand is the number of an earlier line, and here it is the index from which the
 // signal of that line is read, looked up once for all samples. Every operand is read from the line's first sample on; an operator that looks back
 // reads from its upper bound earlier on, where once is eventually. What comes of it tells by its type which way the line goes.
+#![tactic(auto)]
+
 ghost use Rattle.std.specs.Prelude.{◌≡◌, ◌-◌, get_or};
 ghost use Rattle.locating.specs.Located.{StartsLow, start_at, both_located, until_located, eventually_located, surround_located, range_located, located_of};
 

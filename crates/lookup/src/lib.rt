@@ -1,6 +1,8 @@
 // The lookup: whether bytes hold a whole answer, and the verdict that it has at a line, sample and place. Every slice of bytes is taken: a word
 // that is missing is read as 0, which is no word of an answer up to its end. First samples and lengths are fields of 12 bits, counts of 8, and
 // places of at most 16, so even by words that are no answer the index of a line stays below 2^36, and none wraps.
+#![tactic(auto)]
+
 ghost use Rattle.std.specs.Prelude.{◌≡◌, ◌+◌, ◌*◌, ◌<◌, ◌^◌, ltb, eqb, length};
 ghost use Rattle.words.specs.Bytes.{words_of};
 ghost use Rattle.logic.specs.Lattice.{verdict_lattice, least_over};

@@ -1,4 +1,6 @@
 // Somewhere and its dual, everywhere, for several samples side by side: the greatest, or the least, within range of every centre.
+#![tactic(auto)]
+
 ghost use Rattle.std.specs.Prelude.{◌≡◌, ◌<◌};
 ghost use Rattle.lanes.specs.Rows.{Room, TableThere};
 ghost use Rattle.ranges.specs.Ranges.{of_none};

@@ -13,7 +13,7 @@ use Rattle.words.specs.Word.{bits}
 use Rattle.counting.proofs.Tests.{and_l, and_r, or_l, or_r, or_e}
 use Rattle.formulas.specs.Formulas.{Extent, Line, line_in}
 use Rattle.checks.specs.Limits.{most_places, most_lines, least_distances}
-use Rattle.checks.specs.Checked.{Checked, accepted, refused, ◌>>=◌, require, between, word_at, is_kind}
+use Rattle.checks.specs.Checked.{Checked, refused, ◌>>=◌, between, word_at, is_kind}
 use Rattle.checks.proofs.Tests.{in_limits}
 use Rattle.checks.proofs.Numbered.{Numbered, accepts, refuses, some_number, required, passed, onward, chosen, either, bound, weakened, number_told}
 use Rattle.codes.specs.Codes.{Code, constant, atom, unary, binary, unary_bounded, binary_bounded, unknown}

@@ -1,4 +1,6 @@
 // What every tool leaves: the words that it made and zeros behind them, or a refusal and zeros alone.
+#![tactic(auto)]
+
 ghost use Rattle.std.specs.Prelude.{◌≡◌, ◌≤◌, length, take, replicate};
 ghost use Rattle.words.specs.Bytes.{words_of, after_words};
 ghost use Rattle.words.specs.Rows.{padded};

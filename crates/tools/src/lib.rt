@@ -1,4 +1,6 @@
 // The tools over bytes, for hosts, and what they have in common: the test of the lengths, the refusal of bytes, and the numbers that are told.
+#![tactic(auto)]
+
 ghost use Rattle.std.specs.Prelude.{◌≡◌, ◌&&◌, length};
 ghost use Rattle.tools.specs.Tools.{multiple, tool_result_size, told_bytes, tool_whole, tool_not_whole, host_converted, host_corrected};
 

@@ -1,4 +1,6 @@
 // A verdict with its margin: as one number in the order of both, and as the word of an answer; and signals of such words.
+#![tactic(auto)]
+
 ghost use Rattle.std.specs.Prelude.{◌≡◌, ◌+◌, ◌*◌, ◌≤◌, ◌<◌, ◌^◌, ◌-ℤ◌, nat_abs, length};
 ghost use Rattle.words.specs.Bytes.{words_of};
 ghost use Rattle.logic.specs.Margin.{finite, negate};

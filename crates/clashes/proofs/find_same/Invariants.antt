@@ -1,5 +1,4 @@
 -- From candidate to candidate, by `Walking`.
-use Prim.Native.Nat.{◌-◌}
 use Rattle.words.specs.Bytes.{words_of}
 use Rattle.clashes.proofs.Walking.{Walking}
 use Rattle.clashes.proofs.find_same.Given as goal

@@ -1,6 +1,6 @@
 -- `correcting::raise_all` meets its contract. The loop's invariant: the first k corrections have been raised, and there are as many bytes.
 use mathlib.Core.Path.{◌≡◌, refl, subst, sym}
-use Prim.Native.Nat.{◌+◌, ◌-◌, ◌<◌}
+use Prim.Native.Nat.{◌+◌, ◌<◌}
 use native.Mathlib.Nat.{le_of_eq}
 use native.Mathlib.Omega.{arith}
 use Rattle.words.specs.Bytes.{words_of}

@@ -2,7 +2,7 @@
 -- many bytes.
 use mathlib.Core.Path.{◌≡◌}
 use mathlib.Core.List.{List}
-use Prim.Native.Nat.{ℕ, ◌-◌, ◌≤◌}
+use Prim.Native.Nat.{ℕ, ◌≤◌}
 use lib.ListN.{length}
 use Rattle.words.specs.Bytes.{words_of}
 use Rattle.corrections.specs.Corrections.{count}

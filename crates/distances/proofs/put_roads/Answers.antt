@@ -1,5 +1,5 @@
 -- The loop's invariant: the table is that of the first r roads.
-use Prim.Native.Nat.{ℕ, ◌-◌}
+use Prim.Native.Nat.{ℕ}
 use mathlib.Core.Path.{◌≡◌, refl, ◌∙◌, ap}
 use native.Mathlib.Omega.{arith}
 use Rattle.words.specs.Bytes.{words_of}

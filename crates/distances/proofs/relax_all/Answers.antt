@@ -1,5 +1,4 @@
 -- The loop's invariant, for every network whose table this is: the places before k are let in.
-use Prim.Native.Nat.{◌-◌}
 use mathlib.Core.Path.{◌≡◌, refl, ◌∙◌, ap}
 use native.Mathlib.Omega.{arith}
 use Rattle.words.proofs.Numbers.{same_count}

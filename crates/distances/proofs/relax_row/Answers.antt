@@ -1,6 +1,6 @@
 -- The loop's invariant, for every network whose table this is: k is let in at the entries before a * n + b. The distance from a to k that
 -- was read before the loop is the same after it.
-use Prim.Native.Nat.{ℕ, suc, ◌+◌, ◌-◌, ◌*◌, ◌<◌}
+use Prim.Native.Nat.{ℕ, suc, ◌+◌, ◌*◌, ◌<◌}
 use mathlib.Core.Path.{◌≡◌, refl, sym, ◌∙◌, ap}
 use mathlib.Core.List.{List}
 use native.Mathlib.Omega.{arith}

@@ -1,6 +1,6 @@
 -- By the direction: the start of the operand is found, to look back that of the upper bound earlier.
 use mathlib.Core.Path.{◌≡◌, sym, ap, ap₂, subst, ◌∙◌}
-use Prim.Native.Nat.{ℕ, ◌-◌}
+use Prim.Native.Nat.{ℕ}
 use Rattle.codes.specs.declared.operator.Direction.{Direction}
 use Rattle.locating.specs.declared.Origin.{Origin}
 use Rattle.locating.specs.declared.RowOperator.TheVariants.{Eventually}

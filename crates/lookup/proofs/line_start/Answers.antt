@@ -1,7 +1,7 @@
 -- Each turn goes from the start of a line to that of the next.
 use mathlib.Core.Path.{◌≡◌, ap, ◌∙◌}
 use mathlib.Core.List.{List}
-use Prim.Native.Nat.{ℕ, ◌-◌}
+use Prim.Native.Nat.{ℕ}
 use native.Mathlib.Omega.{arith}
 use Rattle.words.specs.Bytes.{words_of}
 use Rattle.checks.specs.Heads.{head_words}

@@ -1,7 +1,6 @@
 -- Each turn finds one zero more.
 use mathlib.Core.Path.{sym, ◌∙◌}
-use mathlib.Core.Bool.{true}
-use Prim.Native.Nat.{◌-◌, ◌<◌}
+use Prim.Native.Nat.{◌<◌}
 use native.Mathlib.Omega.{arith}
 use lib.Dec.{ltb, eqb, lt→ltb, ltb→lt}
 use lib.ListN.{length}

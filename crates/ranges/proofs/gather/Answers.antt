@@ -1,6 +1,5 @@
 -- Each turn takes in one place more, if it is in range.
 use mathlib.Core.Path.{◌≡◌, ◌∙◌}
-use Prim.Native.Nat.{◌-◌}
 use native.Mathlib.Omega.{arith}
 use Rattle.lanes.proofs.StripLaws.{written_already}
 use Rattle.ranges.proofs.Ranges.{gathered_none, gathering_more, gathering_past, gathering_all}

@@ -1,6 +1,5 @@
 -- Each turn gathers about one centre more.
 use mathlib.Core.Path.{◌≡◌}
-use Prim.Native.Nat.{◌-◌}
 use native.Mathlib.Omega.{arith}
 use Rattle.lanes.proofs.RowLaws.{row_written_none, row_written_all}
 use Rattle.ranges.proofs.Ranges.{gathered_all_more}

@@ -3,7 +3,7 @@ use mathlib.Core.Path.{◌≡◌}
 use Prim.Native.Nat.{◌-◌, ◌≤◌}
 use Rattle.words.specs.Bytes.{words_of}
 use Rattle.checks.specs.Checked.{accepted}
-use Rattle.corrections.specs.Corrections.{count, well_formed, in_turn}
+use Rattle.corrections.specs.Corrections.{well_formed, in_turn}
 use Rattle.corrections.proofs.check.check_corrections.Given as goal
 
 abbrev pub invariant-loop-k : goal.invariant-loop-k

@@ -1,7 +1,5 @@
 -- Each turn decodes one lane more.
-use Prim.Native.Nat.{◌-◌}
 use native.Mathlib.Omega.{arith}
-use Rattle.lanes.specs.Rows.{lane_signal}
 use Rattle.lanes.proofs.StripLaws.{writing_more, writing_all}
 use Rattle.lanes.proofs.rows.load_strip.Goals as goal
 

@@ -1,6 +1,5 @@
 -- Each turn fills one lane more.
 use mathlib.Core.Path.{refl}
-use Prim.Native.Nat.{◌-◌}
 use native.Mathlib.Omega.{arith}
 use Rattle.lanes.proofs.StripLaws.{writing_more, writing_all}
 use Rattle.lanes.proofs.strips.fill_strip.Goals as goal

@@ -1,6 +1,4 @@
 -- Each turn takes the lesser, or the greater, in one lane more.
-use Prim.Native.Nat.{◌-◌}
-use Rattle.lanes.specs.Strips.{of_two}
 use Rattle.lanes.proofs.StripLaws.{held_none, held_more, held_all}
 use Rattle.std.proofs.Common.{rules}
 use Rattle.lanes.proofs.strips.of_two_strips.Goals as goal

@@ -1,6 +1,5 @@
 -- Each turn writes one lane more.
 use mathlib.Core.Path.{refl}
-use Prim.Native.Nat.{◌-◌}
 use native.Mathlib.Omega.{arith}
 use Rattle.lanes.proofs.StripLaws.{writing_more, writing_all}
 use Rattle.lanes.proofs.strips.put_strip.Goals as goal

@@ -1,6 +1,5 @@
 -- Each turn reads one lane more.
 use mathlib.Core.Path.{refl}
-use Prim.Native.Nat.{◌-◌}
 use Rattle.lanes.proofs.StripLaws.{held_none, held_more, held_all}
 use Rattle.std.proofs.Common.{rules}
 use Rattle.lanes.proofs.strips.strip_at.Goals as goal

@@ -1,6 +1,6 @@
 -- Each turn compares one lane more.
 use mathlib.Core.Path.{◌≡◌, subst}
-use Prim.Native.Nat.{◌-◌, ◌/◌}
+use Prim.Native.Nat.{◌/◌}
 use native.Mathlib.Omega.{arith}
 use Rattle.lanes.specs.Lanes.{lanes}
 use Rattle.lanes.specs.Strips.{StripsApart}

@@ -1,6 +1,6 @@
 -- Each turn writes one place more.
 use mathlib.Core.Path.{◌≡◌, ap, ap₂, ◌∙◌}
-use Prim.Native.Nat.{ℕ, ◌-◌, ◌≤◌}
+use Prim.Native.Nat.{ℕ, ◌≤◌}
 use native.Mathlib.Omega.{arith}
 use Rattle.words.specs.Bytes.{words_of}
 use Rattle.values.specs.Chain.{chain_lattice, highest}

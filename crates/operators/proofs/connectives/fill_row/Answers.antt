@@ -1,6 +1,5 @@
 -- Each turn writes one place more.
 use mathlib.Core.Path.{refl}
-use Prim.Native.Nat.{◌-◌}
 use Rattle.operators.proofs.RowLaws.{none_passed, one_passed, all_passed}
 use Rattle.operators.proofs.connectives.fill_row.Goals as goal
 

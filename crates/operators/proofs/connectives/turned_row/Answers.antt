@@ -1,5 +1,4 @@
 -- Each turn writes one place more.
-use Prim.Native.Nat.{◌-◌}
 use native.Mathlib.Omega.{arith}
 use Rattle.operators.proofs.Bounds.{in_row}
 use Rattle.operators.proofs.RowLaws.{none_passed, one_passed, all_passed}

@@ -1,6 +1,6 @@
 -- Distances, kind, places, then the other sizes: each test of the code decides one of the definition's.
 use mathlib.Core.Path.{◌≡◌, sym, ◌∙◌}
-use mathlib.Core.Bool.{Bool, true, ◌&&◌}
+use mathlib.Core.Bool.{Bool, ◌&&◌}
 use borrow.Author.Tests.{le-leb, lt-leb, not-true}
 use Rattle.words.specs.Bytes.{words_of}
 use Rattle.checks.specs.Limits.{most_narrow, most_signals, most_samples}

@@ -1,6 +1,5 @@
 -- What is left to check decides the whole.
 use mathlib.Core.Path.{◌≡◌}
-use Prim.Native.Nat.{◌-◌}
 use Rattle.words.specs.Bytes.{words_of}
 use Rattle.sheet.specs.Layout.{samples_from}
 use Rattle.sheet.proofs.stages.check_samples.Given as goal

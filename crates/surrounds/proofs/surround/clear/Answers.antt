@@ -1,5 +1,4 @@
 -- Each turn clears the strip of one place more.
-use Prim.Native.Nat.{◌-◌}
 use mathlib.Core.Path.{◌≡◌}
 use native.Mathlib.Omega.{arith}
 use Rattle.lanes.proofs.RowLaws.{row_written_none, row_written_more, row_written_all}

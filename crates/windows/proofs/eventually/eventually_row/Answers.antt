@@ -1,6 +1,5 @@
 -- Each turn writes one place more; what stands there before is the value at the sample before.
 use mathlib.Core.Path.{◌∙◌}
-use Prim.Native.Nat.{◌-◌}
 use native.Mathlib.Omega.{arith}
 use Rattle.operators.proofs.RowLaws.{none_passed, one_passed, all_passed}
 use Rattle.windows.proofs.eventually.eventually_row.Goals as goal

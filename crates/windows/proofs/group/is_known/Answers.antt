@@ -1,7 +1,6 @@
 -- Each turn compares one place more.
 use mathlib.Core.Path.{sym}
 use mathlib.Core.Bool.{false≢true}
-use Prim.Native.Nat.{◌-◌}
 use native.Mathlib.Omega.{arith}
 use borrow.Author.Count.{below_more}
 use Rattle.std.proofs.Common.{rules}

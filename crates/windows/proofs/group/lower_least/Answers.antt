@@ -1,6 +1,5 @@
 -- Each turn takes the sample at one place more into the least.
 use mathlib.Core.Path.{ap₂, ◌∙◌}
-use Prim.Native.Nat.{◌-◌}
 use native.Mathlib.Nat.{le_refl}
 use Rattle.values.specs.Chain.{chain_lattice}
 use Rattle.windows.proofs.Bounds.{sample_reached}

@@ -1,6 +1,5 @@
 -- Each turn writes one place more.
 use mathlib.Core.Path.{refl}
-use Prim.Native.Nat.{◌-◌}
 use native.Mathlib.Omega.{arith}
 use Rattle.windows.proofs.Parts.{part_none, part_more, part_all}
 use Rattle.std.proofs.Common.{rules}

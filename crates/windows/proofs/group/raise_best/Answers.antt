@@ -1,6 +1,6 @@
 -- Each turn takes what the sample offers at one place more into the greatest.
 use mathlib.Core.Path.{ap, ap₂, ◌∙◌}
-use Prim.Native.Nat.{ℕ, ◌-◌}
+use Prim.Native.Nat.{ℕ}
 use native.Mathlib.Nat.{le_refl}
 use lib.ListN.{get_or}
 use Rattle.values.specs.Chain.{chain_lattice}

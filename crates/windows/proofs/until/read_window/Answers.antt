@@ -1,7 +1,6 @@
 -- What is carried is carried on by each turn. Once the least of left is no more than until so far at every place, or all samples are read, until so far
 -- is until.
 use mathlib.Core.Path.{refl, ◌∙◌}
-use Prim.Native.Nat.{◌-◌}
 use native.Mathlib.Omega.{arith}
 use Rattle.windows.proofs.Carried.{all_read, enough_read}
 use Rattle.std.proofs.Common.{rules}

@@ -1,6 +1,6 @@
 -- Each turn writes the places of one group more.
 use mathlib.Core.Path.{◌≡◌, ap}
-use Prim.Native.Nat.{◌+◌, ◌-◌, ◌≤◌}
+use Prim.Native.Nat.{◌+◌, ◌≤◌}
 use native.Mathlib.Omega.{arith}
 use Rattle.windows.specs.declared.group.Group.{Group}
 use Rattle.operators.proofs.RowLaws.{none_passed, all_passed}
