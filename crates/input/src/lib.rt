@@ -1,17 +1,23 @@
 // What a program reads of its input, into memory that it lends.
 #![tactic(auto)]
 
-ghost use Rattle.std.specs.Prelude.{◌<◌, length, take, IfOk};
+ghost use Rattle.std.specs.Prelude.{◌<◌, length, take, IfOk, IfErr};
 ghost use Rattle.std.specs.Io.{ReadsAtMost};
 ghost use Rattle.std.specs.Io.KnownBytes.{Consumes, IsAtEnd};
+ghost use Rattle.input.specs.Reading.{HeldAtStart};
 
 use std::io::{self, Read};
 
-// Reads until `buf` is full or the input ends, and tells how many bytes stand at the start of `buf`. A read that fails is told.
+#[cfg(test)]
+mod tests;
+
+// Reads until `buf` is full or the input ends, and tells how many bytes stand at the start of `buf`. An error is the reader's own: nothing is
+// read after it, and what was read before it stands at the start of `buf`.
 pub fn read_full<R: Read>(input: &mut R, buf: &mut [u8]) -> io::Result<usize>
     ensures within { ReadsAtMost result buf.new }
     ensures bytes { IfOk result (λ n. Consumes (R.remaining input.old) (R.remaining input.new) (take n buf.new)) }
     ensures end { IfOk result (λ n. n < length buf.new → IsAtEnd (R.remaining input.new)) }
+    ensures failed { IfErr result (λ _. HeldAtStart (R.remaining input.old) (R.remaining input.new) buf.new) }
 {
     let mut done = 0;
     while done < buf.len() {

@@ -1,8 +1,10 @@
--- What the reads before gave, and then what this one gave, is what the reader lost.
+-- What the reads before gave, and then what this one gave, is what the reader lost; a read that fails gives nothing.
 use Rattle.std.proofs.Common.{◌≡◌, ℕ, ◌+◌, ◌-◌, ◌≤◌, List, ◌++◌, rules, arith, length, take, slice_range, sym, ap, ◌∙◌, subst, le_refl, drop_at, length-take-le}
 use Rattle.std.proofs.lemmas.Slice.{take-put_mid_below}
 use Rattle.std.specs.Io.KnownBytes.{Consumes}
-use Rattle.std.proofs.KnownBytes.{Consumes-trans}
+use Rattle.std.proofs.KnownBytes.{Consumes-trans, Consumes-kept}
+use Rattle.std.specs.Prelude.{Result, Ok, Err, IfErr}
+use Rattle.input.specs.Reading.{HeldAtStart}
 use borrow.Rule.Slice.PartMut.{put_mid, post_of}
 use lib.Seq.{take-add, take-append-le}
 use Rattle.input.proofs.read_full.Goals as goal
@@ -29,3 +31,19 @@ loop-done-preserved g c =
     let part = slice_range-put_mid from room more c.loop-done.buf c.read.new.buf within c.in_ok-n.ensures.bound.0 in
     let joined = take_split from (from + more) c.loop-done.buf (put_mid from room c.loop-done.buf c.read.new.buf) (omega arith) (take-put_mid_below _ _ _ _ _ (le_refl _) within) in
     (search rules, subst (Consumes _ _) (ap (λ l. take from c.loop-done.buf ++ l) (sym part) ∙ joined) (Consumes-trans _ _ _ _ _ c.loop-done.invariant.1 c.in_ok-n.ensures.bytes.0))
+
+told_of_any : {A E : Type 0} (r : Result A E) (P : Type 0) → P → IfErr r (λ _. P)
+told_of_any (Ok a) P p = tt
+told_of_any (Err e) P p = p
+
+pub returns-in_err-n-clause-failed : goal.returns-in_err-n-clause-failed
+returns-in_err-n-clause-failed g c =
+    let from = c.loop-done.done in
+    let within = c.loop-done.invariant.0 in
+    let kept = take-put_mid_below _ _ _ _ _ (le_refl _) within in
+    let before = c.loop-done.invariant.1 in
+    told_of_any _ (HeldAtStart _ _ _) (record {
+      count = from;
+      within = search rules;
+      bytes = Consumes-kept _ _ _ _ (subst (Consumes _ _) (sym kept) before) c.in_err-n.ensures.bytes;
+    })
