@@ -97,6 +97,14 @@ fn print_lines(rt: &impl Print, answer: &[u8]) -> io::Result<()> {
     println!(rt; "end {rows}")
 }
 
+fn print_refused(rt: &impl Print, number: u64, place: u64) -> io::Result<()> {
+    println!(rt; "refused {number} {place}")
+}
+
+fn print_accepted(rt: &impl Print, told: Result) -> io::Result<()> {
+    println!(rt; "accepted {} {} {}", told.words, told.rounds, told.yes)
+}
+
 fn input_taken(bytes: usize) -> bool
     ensures { result ≡ input_taken bytes }
 {
@@ -125,11 +133,12 @@ fn print_judged(rt: &impl Print, input: &[u8]) -> io::Result<()> {
     let mut distances = [0u8; DISTANCES_BYTES];
     let mut answer = [0u8; ANSWER_BYTES];
     let told = judge_input(input, &mut distances, &mut answer);
-    if told.number != 0 {
-        return println!(rt; "refused {} {}", told.number, told.place);
+    if told.number == 0 {
+        print_accepted(rt, told)?;
+        print_lines(rt, &answer)
+    } else {
+        print_refused(rt, told.number, told.place)
     }
-    println!(rt; "accepted {} {} {}", told.words, told.rounds, told.yes)?;
-    print_lines(rt, &answer)
 }
 
 fn main(rt: HostRuntime) -> io::Result<()> {
