@@ -1,13 +1,14 @@
 -- The samples one by one: what one more adds, what acceptance tells of each, and that a recording has numbers of 27 bits.
 use Prim.Native.Nat.{ℕ, zero, suc, ◌+◌, ◌-◌, ◌*◌, ◌<◌}
 use mathlib.Core.List.{List}
-use mathlib.Core.Path.{◌≡◌}
+use mathlib.Core.Bool.{true, false}
+use mathlib.Core.Path.{◌≡◌, ◌∙◌}
 use native.Mathlib.Omega.{arith}
 use lib.Dec.{eqb}
 use borrow.Author.Tests.{eqb-true}
 use Rattle.words.specs.Word.{bits}
 use Rattle.formulas.specs.Formulas.{InBits}
-use Rattle.checks.specs.Checked.{accepted, require, word_at, is_kind}
+use Rattle.checks.specs.Checked.{accepted, refused, require, word_at, is_kind}
 use Rattle.checks.proofs.Checks.{require_accepted}
 use Rattle.checks.proofs.Tests.{kind_told}
 use Rattle.lines.proofs.AcceptedLines.{sample_bits}
@@ -20,6 +21,17 @@ pub sample_more : (s : List ℕ) (left at : ℕ) → 0 < left
 unfolding samples_from
 sample_more s zero at some = absurd (omega arith)
 sample_more s (suc left) at some = let one_less : suc left - 1 ≡ left = omega arith in rw one_less
+
+-- the first sample that is left is at fault, or nothing is left of it
+pub not_sample : (s : List ℕ) (left at : ℕ) → 0 < left → is_kind 4 s at ≡ false → samples_from s left at ≡ refused 8 at
+not_sample s left at some other = sample_more s left at some ∙ simp other
+
+pub spare_bit_set : (s : List ℕ) (left at : ℕ) → 0 < left → is_kind 4 s at ≡ true → eqb (bits 27 1 (word_at s at)) 0 ≡ false → samples_from s left at ≡ refused 9 at
+spare_bit_set s left at some right set = sample_more s left at some ∙ simp (right, set)
+
+pub one_less : (s : List ℕ) (left at : ℕ) → 0 < left → is_kind 4 s at ≡ true → eqb (bits 27 1 (word_at s at)) 0 ≡ true
+    → samples_from s left at ≡ samples_from s (left - 1) (at + 1)
+one_less s left at some right clear = sample_more s left at some ∙ simp (right, clear)
 
 -- each word of samples that are accepted is one
 pub samples_told : (s : List ℕ) (count at : ℕ) {next : ℕ} → samples_from s count at ≡ accepted next → (i : ℕ) → i < count → IsSample (word_at s (at + i))

@@ -94,6 +94,7 @@ pub(crate) fn check_head(s: &[u8], distances: usize) -> Head
 }
 
 // So many samples from an index on.
+#[tactic(auto, using(crate::proofs::Samples::not_sample, crate::proofs::Samples::spare_bit_set, crate::proofs::Samples::one_less))]
 pub(crate) fn check_samples(s: &[u8], start: usize, count: usize) -> Stage
     ensures { stage_said result ≡ samples_from (words_of s.now) count start }
 {
