@@ -9,6 +9,7 @@
 //     end ROWS                           how many such rows there are
 // where it is refused:
 //     refused NUMBER PLACE
+// A read or a write that fails ends it: with an error on standard error, and status 1.
 #![tactic(auto)]
 
 ghost use Rattle.std.specs.Prelude.{◌≡◌, ◌+◌, ◌*◌, ◌^◌, ◌<◌, ◌≤◌, length, IfOk};

@@ -8,6 +8,7 @@
 //     accepted PLACES SIGNALS SAMPLES ROADS LINES    then a row for each place: its distances to all places, `none` where no path is
 //     refused NUMBER PLACE                           then `table not zero` if the survey left anything in the lent table
 //     cut off                                        the input ends within a count or a sheet; nothing is read after it
+// A read or a write that fails ends it: with an error on standard error, and status 1.
 #![tactic(auto)]
 
 ghost use Rattle.std.specs.Prelude.{◌≡◌, ◌+◌, ◌*◌, ◌≤◌, ◌↔◌, length, IsTrue, slice_index, EachIndex};
