@@ -1,4 +1,4 @@
--- Calls of the functions that C calls, by their contracts alone, over bytes: where `judge` returned 0, the bytes that it left, read as words and numbers,
+-- Calls of the functions for hosts, by their contracts alone, over bytes: where `judge` returned 0, the bytes that it left, read as words and numbers,
 -- are what is judged. So the starred examples hold of calls, the rounds are at most the places, `lookup` in the bytes that a call left gives the
 -- verdicts that are meant, sheets without one-way roads keep every byte, and demand 3 and request M-103 hold of any two calls, whatever was lent to either.
 use mathlib.Core.Path.{◌≡◌, refl, sym, ap, subst, subst₂, ◌∙◌}
