@@ -45,6 +45,7 @@ pub fn word_count(s: &[u8]) -> usize
     s.len() / 4
 }
 
+#[tactic(auto, using(crate::proofs::Words::words_count))]
 pub fn word_at(s: &[u8], i: usize) -> u32
     requires { i < length (words_of s.now) }
     ensures { result ≡ get_or (words_of s.now) i 0 }
@@ -61,6 +62,7 @@ pub fn word_or_zero(s: &[u8], i: usize) -> u32
 }
 
 // The words do not tell of bytes past the last whole word, so the bytes are promised too.
+#[tactic(auto, using(crate::proofs::Words::words_count, std::proofs::lemmas::Grind::common_steps))]
 pub fn put_word(s: &mut [u8], i: usize, w: u32)
     requires { i < length (words_of s.old) }
     ensures stored { words_of s.new ≡ set (words_of s.old) i w }
@@ -86,6 +88,7 @@ pub fn number_count(s: &[u8]) -> usize
     s.len() / 8
 }
 
+#[tactic(auto, using(crate::proofs::Words::words_count, crate::proofs::Numbers::numbers_count))]
 pub fn number_at(s: &[u8], i: usize) -> u64
     requires { i < length (numbers_of (words_of s.now)) }
     ensures { result ≡ get_or (numbers_of (words_of s.now)) i 0 }
@@ -94,6 +97,7 @@ pub fn number_at(s: &[u8], i: usize) -> u64
     number_of_words(word_at(s, at), word_at(s, at + 1))
 }
 
+#[tactic(auto, using(crate::proofs::Words::words_count, crate::proofs::Numbers::numbers_count))]
 pub fn put_number(s: &mut [u8], i: usize, x: u64)
     requires { i < length (numbers_of (words_of s.old)) }
     ensures stored { numbers_of (words_of s.new) ≡ set (numbers_of (words_of s.old)) i x }
@@ -105,6 +109,7 @@ pub fn put_number(s: &mut [u8], i: usize, x: u64)
 }
 
 // Stores numbers one after the other in bytes that have room for just them.
+#[tactic(auto, using(crate::proofs::Numbers::length_numbers))]
 pub fn put_numbers(s: &mut [u8], numbers: &[u64])
     requires { length s.old ≡ length numbers.now * 8 }
     ensures { s.new ≡ bytes_of (halves_of numbers.now) }
@@ -126,6 +131,7 @@ pub fn fill_zero(s: &mut [u8])
 }
 
 // Keeps the first words and sets every byte behind them to zero.
+#[tactic(auto, using(crate::proofs::Words::words_count))]
 pub fn clear_behind(s: &mut [u8], count: usize)
     requires { count ≤ length (words_of s.old) }
     ensures kept { words_of s.new ≡ padded (take count (words_of s.old)) (length (words_of s.old)) }

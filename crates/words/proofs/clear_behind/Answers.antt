@@ -9,26 +9,14 @@ use Rattle.words.proofs.Parts.{tail_list, tail_back}
 use Rattle.words.proofs.Words.{words_count}
 use Rattle.words.proofs.Zeros.{cleared_words, cleared_words_tail}
 use Rattle.words.proofs.clear_behind.Goals as goal
-use Rattle.words.proofs.clear_behind.Goals.{Start}
-
-inside : (c : Start) → c.args.count * 4 ≤ length c.args.s.now
-inside c = omega (arith, c.requires, words_count c.args.s.now)
-
-pub overflow_mul-after : goal.overflow_mul-after
-overflow_mul-after c = omega (arith, inside (goal.at.overflow_mul-after c).Start)
-
-pub slice_bounds-fill_zero-count : goal.slice_bounds-fill_zero-count
-slice_bounds-fill_zero-count c = omega (arith, inside (goal.at.slice_bounds-fill_zero-count c).Start)
-
-pub slice_bounds-fill_zero-start : goal.slice_bounds-fill_zero-start
-slice_bounds-fill_zero-start c = omega (arith, inside (goal.at.slice_bounds-fill_zero-start c).Start)
 
 pub returns : goal.returns
 returns c =
     let b = c.args.s.now in
     let from = c.args.count * 4 in
-    let zeros = c.fill_zero.ensures ∙ ap (λ n. replicate n 0) (ap length (tail_list b from (inside (goal.at.returns c).Start)) ∙ length-drop from b) in
-    let cleared = tail_back b c.fill_zero.new.s from (inside (goal.at.returns c).Start) ∙ ap (λ z. take from b ++ z) zeros in
+    let inside : from ≤ length b = omega (arith, c.requires, words_count b) in
+    let zeros = c.fill_zero.ensures ∙ ap (λ n. replicate n 0) (ap length (tail_list b from inside) ∙ length-drop from b) in
+    let cleared = tail_back b c.fill_zero.new.s from inside ∙ ap (λ z. take from b ++ z) zeros in
     record {
       kept = ap words_of cleared ∙ cleared_words b c.args.count c.requires;
       tail = cleared_words_tail b _ from (omega (arith, c.requires)) cleared;
