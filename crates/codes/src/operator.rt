@@ -105,6 +105,7 @@ pub enum ReadOperator {
     Refused(Fault, usize),
 }
 
+#[tactic(auto, unfolding(crate::specs::Decoding::fields_of))]
 fn fields_of(w: u32) -> Fields
     ensures { result ≡ fields_of w }
 {
