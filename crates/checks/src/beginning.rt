@@ -16,6 +16,7 @@ pub struct Beginning {
 // The kind 10, in bits 31..28.
 const WIDE: u32 = 2684354560;
 
+#[tactic(auto, using(words::proofs::Words::words_count, crate::proofs::Heads::few_head_words))]
 pub fn put_head(s: &mut [u8], head: Beginning, wide: bool)
     requires { HeadFits head.kind wide head.places head.count head.samples × (head_words wide ≤ length (words_of s.old)) }
     ensures stored { words_of s.new ≡ put (words_of s.old) 0 (head_for head.kind wide head.places head.count head.samples) }

@@ -7,6 +7,7 @@ ghost use Rattle.checks.specs.Heads.{head_words, is_wide, head_of, places_of, wi
 use crate::limits::{MOST_PLACES, within};
 use crate::word::is_kind;
 
+#[tactic(auto, unfolding(crate::specs::Heads::is_wide))]
 pub fn is_wide(s: &[u8]) -> bool
     ensures { result ≡ is_wide (words_of s.now) }
 {
@@ -21,6 +22,7 @@ pub fn head_words(wide: bool) -> usize
 }
 
 // The word of the sizes.
+#[tactic(auto, unfolding(crate::specs::Heads::head_of))]
 pub fn head(s: &[u8]) -> u32
     ensures { result ≡ head_of (words_of s.now) }
 {
@@ -37,6 +39,7 @@ fn wide_places(first: u32) -> usize
     (first % 65536) as usize
 }
 
+#[tactic(auto, unfolding(crate::specs::Heads::places_of))]
 pub fn places(s: &[u8]) -> usize
     ensures { result ≡ places_of (words_of s.now) }
 {
@@ -48,6 +51,7 @@ pub fn places(s: &[u8]) -> usize
 }
 
 // Whether the first word of a wide one has places in their limits, and nothing else.
+#[tactic(auto, unfolding(crate::specs::Heads::wide_counted))]
 pub fn wide_counted(s: &[u8]) -> bool
     ensures { result ≡ wide_counted (words_of s.now) }
 {
@@ -56,6 +60,7 @@ pub fn wide_counted(s: &[u8]) -> bool
 }
 
 // Whether a head of this kind, with places 0, follows it.
+#[tactic(auto, unfolding(crate::specs::Heads::wide_followed))]
 pub fn wide_followed(s: &[u8], kind: u32) -> bool
     requires { 0 < kind }
     ensures { result ≡ wide_followed (words_of s.now) kind }

@@ -4,6 +4,7 @@ ghost use Rattle.words.specs.Word.{bits, payload_of};
 ghost use Rattle.words.specs.Bytes.{words_of};
 ghost use Rattle.checks.specs.Checked.{word_at, is_kind};
 
+#[tactic(auto, using(crate::proofs::Tests::kind_read))]
 pub fn is_kind(s: &[u8], at: usize, kind: u32) -> bool
     requires { 0 < kind }
     ensures { result ≡ is_kind kind (words_of s.now) at }

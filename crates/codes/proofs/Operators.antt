@@ -75,3 +75,6 @@ module _ (s : List ℕ) (v lines at : ℕ) {f : Fields} (read : f ≡ fields_of 
       let above : 16 ≤ (fields_of (word_at s at)).code = rw read at least in
       let none : get_or codes (fields_of (word_at s at)).code unknown ≡ unknown = get_or-eq_default codes unknown above in
       simp none
+
+-- the law of each code
+pub ruleset code_laws = (true_read, not_read, binary_read, atom_read_lem, binary_bounded_read, somewhere_read, forward_read, backward_read, unknown_read)

@@ -105,6 +105,7 @@ pub enum ReadOperator {
     Refused(Fault, usize),
 }
 
+#[tactic(auto, unfolding(crate::specs::Decoding::fields_of))]
 fn fields_of(w: u32) -> Fields
     ensures { result ≡ fields_of w }
 {
@@ -116,6 +117,7 @@ fn fields_of(w: u32) -> Fields
 }
 
 // The constant of codes 1 and 2.
+#[tactic(auto, unfolding(crate::specs::Operators::constant_at))]
 fn read_constant(s: &[u8], at: usize) -> ReadConstant
     ensures { constant_said result ≡ constant_at (words_of s.now) at }
 {
@@ -139,6 +141,7 @@ fn ordered_bounds(lower: u32, upper: u32, place: usize) -> ReadBounds
 }
 
 // The lower and the upper bound of codes 5 to 7 and 9 to 15.
+#[tactic(auto, using(words::proofs::Words::words_count), unfolding(crate::specs::Operators::bounds_at))]
 fn read_bounds(s: &[u8], at: usize) -> ReadBounds
     requires { at ≤ length (words_of s.now) }
     ensures { bounds_said result ≡ bounds_at (words_of s.now) at }
@@ -156,6 +159,7 @@ fn read_bounds(s: &[u8], at: usize) -> ReadBounds
 }
 
 // The table of codes. A parameter that a code does not have counts for nothing.
+#[tactic(auto, unfolding(crate::specs::Codes::codes))]
 fn operator_of(fields: Fields, constant: i32, bounds: Bounds) -> Operator
     requires { fields.code ≤ last_code }
     ensures { operator_said result ≡ operator_of fields constant bounds.lower bounds.upper }
@@ -233,6 +237,7 @@ fn fields_below(fields: Fields, lefts: usize, rights: usize) -> bool
 }
 
 // A code with no parameter.
+#[tactic(auto, using(words::proofs::Words::words_count), unfolding(crate::specs::Decoding::plain_read))]
 fn decode_plain(fields: Fields, lefts: usize, rights: usize, at: usize) -> ReadOperator
     requires { (fields.code ≤ last_code) × (at + 1 < 2 ^ 64) }
     ensures { read_said result ≡ plain_read fields lefts rights at }
@@ -245,6 +250,7 @@ fn decode_plain(fields: Fields, lefts: usize, rights: usize, at: usize) -> ReadO
 }
 
 // A code with a constant.
+#[tactic(auto, using(words::proofs::Words::words_count), unfolding(crate::specs::Decoding::atom_read))]
 fn decode_atom(s: &[u8], fields: Fields, signals: usize, at: usize) -> ReadOperator
     requires { (fields.code ≤ last_code) × (at < length (words_of s.now)) }
     ensures { read_said result ≡ atom_read (words_of s.now) fields signals at }
@@ -262,6 +268,7 @@ fn decode_atom(s: &[u8], fields: Fields, signals: usize, at: usize) -> ReadOpera
 }
 
 // A code with bounds.
+#[tactic(auto, using(words::proofs::Words::words_count), unfolding(crate::specs::Decoding::bounded_read))]
 fn decode_bounded(s: &[u8], fields: Fields, lefts: usize, rights: usize, at: usize) -> ReadOperator
     requires { (fields.code ≤ last_code) × (at < length (words_of s.now)) }
     ensures { read_said result ≡ bounded_read (words_of s.now) fields lefts rights at }
@@ -279,6 +286,7 @@ fn decode_bounded(s: &[u8], fields: Fields, lefts: usize, rights: usize, at: usi
 }
 
 // The operator at a line word, with so many signals and earlier lines.
+#[tactic(auto, using(words::proofs::Words::words_count, crate::proofs::Operators::code_laws))]
 pub fn decode_operator(s: &[u8], at: usize, signals: usize, lines: usize) -> ReadOperator
     requires { at < length (words_of s.now) }
     ensures { read_said result ≡ operator_at (words_of s.now) signals lines at }

@@ -18,6 +18,7 @@ use roads::road::{Way, road_at, way_back, way_forth, weight};
 pub const NONE: u64 = 18446744073709551615;
 
 // Every distance none.
+#[tactic(auto, using(words::proofs::Numbers::same_count))]
 fn fill_none(table: &mut [u8])
     ensures { numbers_of (words_of table.new) ≡ replicate (length (numbers_of (words_of table.old))) (2 ^ 64 - 1) }
 {
@@ -28,6 +29,7 @@ fn fill_none(table: &mut [u8])
 }
 
 // No road yet: a place is at distance 0 from itself, by the empty path.
+#[tactic(auto, using(words::proofs::Numbers::same_count, words::proofs::Numbers::length_numbers, words::proofs::Rows::in_table, crate::proofs::StartTable::begun_none, crate::proofs::StartTable::begun_more, crate::proofs::StartTable::begun_all))]
 fn start(n: usize, table: &mut [u8])
     requires { length (numbers_of (words_of table.old)) ≡ n * n }
     ensures { numbers_of (words_of table.new) ≡ stage (λ _ _. none) n 0 }
@@ -39,6 +41,7 @@ fn start(n: usize, table: &mut [u8])
 }
 
 // A road's weight one way, if the road runs so.
+#[tactic(auto, using(words::proofs::Numbers::length_numbers, words::proofs::Rows::in_table))]
 fn put_way(n: usize, way: Way, weight: u64, table: &mut [u8])
     requires { (way.from < n) × (way.to < n) × (length (numbers_of (words_of table.old)) ≡ n * n) }
     ensures { numbers_of (words_of table.new) ≡ way_put n way weight (numbers_of (words_of table.old)) }
@@ -49,6 +52,7 @@ fn put_way(n: usize, way: Way, weight: u64, table: &mut [u8])
 }
 
 // One road more.
+#[tactic(auto, using(crate::proofs::StartTable::road_put, crate::proofs::Stages::length_stage, checks::proofs::Checks::kind_inside, words::proofs::Words::words_count))]
 fn put_road(s: &[u8], n: usize, r: usize, table: &mut [u8])
     requires { GoodRoad (words_of s.now) n r × (numbers_of (words_of table.old) ≡ stage (weight_among (words_of s.now) r) n 0) }
     ensures { numbers_of (words_of table.new) ≡ stage (weight_among (words_of s.now) (r + 1)) n 0 }
@@ -62,6 +66,7 @@ fn put_road(s: &[u8], n: usize, r: usize, table: &mut [u8])
 }
 
 // All roads, in order.
+#[tactic(auto, using(crate::proofs::StartTable::no_roads))]
 fn put_roads(s: &[u8], n: usize, roads: usize, table: &mut [u8])
     requires { ((r : ℕ) → r < roads → GoodRoad (words_of s.now) n r) × (numbers_of (words_of table.old) ≡ stage (λ _ _. none) n 0) }
     ensures { numbers_of (words_of table.new) ≡ stage (weight_among (words_of s.now) roads) n 0 }
@@ -96,6 +101,7 @@ fn relax(x: u64, from: usize, to: usize, table: &mut [u8])
 }
 
 // The distances from a, by way of k where that is less. Where k has none from a, none is.
+#[tactic(auto, using(words::proofs::Numbers::same_count, words::proofs::Numbers::length_numbers, words::proofs::Rows::in_table, crate::proofs::Stages::relaxing_to, crate::proofs::Stages::relaxing_unreached))]
 fn relax_row(n: usize, k: usize, a: usize, table: &mut [u8])
     requires { (k < n) × (a < n) × (length (numbers_of (words_of table.old)) ≡ n * n) }
     ensures { Advances (λ weight. relaxing weight n k (a * n)) (λ weight. relaxing weight n k (a * n + n)) table.old table.new }
@@ -112,6 +118,7 @@ fn relax_row(n: usize, k: usize, a: usize, table: &mut [u8])
 }
 
 // Paths may pass through k too.
+#[tactic(auto, using(words::proofs::Numbers::same_count))]
 fn relax_through(n: usize, k: usize, table: &mut [u8])
     requires { (k < n) × (length (numbers_of (words_of table.old)) ≡ n * n) }
     ensures { Advances (λ weight. stage weight n k) (λ weight. stage weight n (k + 1)) table.old table.new }
@@ -122,6 +129,7 @@ fn relax_through(n: usize, k: usize, table: &mut [u8])
 }
 
 // Paths may pass through every place.
+#[tactic(auto, using(words::proofs::Numbers::same_count))]
 fn relax_all(n: usize, table: &mut [u8])
     requires { length (numbers_of (words_of table.old)) ≡ n * n }
     ensures { Advances (λ weight. stage weight n 0) (λ weight. stage weight n n) table.old table.new }
@@ -132,6 +140,7 @@ fn relax_all(n: usize, table: &mut [u8])
 }
 
 // The distances alone, in a table of just their size.
+#[tactic(auto, using(words::proofs::Numbers::same_count))]
 fn find_distances(s: &[u8], places: usize, roads: usize, table: &mut [u8])
     requires { ((r : ℕ) → r < roads → GoodRoad (words_of s.now) places r) × (length (numbers_of (words_of table.old)) ≡ places * places) }
     ensures { numbers_of (words_of table.new) ≡ distances_along (words_of s.now) places roads }
@@ -142,6 +151,7 @@ fn find_distances(s: &[u8], places: usize, roads: usize, table: &mut [u8])
 }
 
 // The distances of all places along a sheet's roads, row by row, and zeros in all the bytes after them, whatever these held.
+#[tactic(auto, using(words::proofs::Numbers::length_numbers, std::proofs::lemmas::Grind::common_steps))]
 pub fn fill_distances(s: &[u8], places: usize, roads: usize, table: &mut [u8])
     requires { ((r : ℕ) → r < roads → GoodRoad (words_of s.now) places r) × (places * places ≤ length (numbers_of (words_of table.old))) }
     ensures numbers { numbers_of (words_of table.new) ≡ padded (distances_along (words_of s.now) places roads) (length (numbers_of (words_of table.old))) }

@@ -23,6 +23,7 @@ pub enum Decoded {
 }
 
 // The line whose word is at an index, after so many earlier lines of these extents.
+#[tactic(auto, unfolding(crate::specs::Lines::line_at))]
 pub fn decode_line(
     s: &[u8],
     at: usize,

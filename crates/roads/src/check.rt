@@ -13,6 +13,7 @@ use checks::stage::Stage;
 use checks::word::is_kind;
 
 // One road, after a road of the pair `last`: its own pair.
+#[tactic(auto, using(words::proofs::Words::words_count), unfolding(crate::specs::Roads::road_checked))]
 fn check_road(s: &[u8], at: usize, places: usize, last: usize) -> Stage
     requires { at < length (words_of s.now) }
     ensures { stage_said result ≡ road_checked (words_of s.now) places at last }
@@ -44,6 +45,7 @@ fn check_road(s: &[u8], at: usize, places: usize, last: usize) -> Stage
 }
 
 // The roads, from the word after the head on: the first word of another kind ends them.
+#[tactic(auto, using(words::proofs::Words::words_count, crate::proofs::Passing::road_there))]
 pub fn check_roads(s: &[u8], places: usize) -> Stage
     ensures { stage_said result ≡ mapped (road_at (is_wide (words_of s.now))) (roads_from (words_of s.now) places (length (words_of s.now)) 0 0) }
 {

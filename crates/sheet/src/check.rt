@@ -34,6 +34,7 @@ pub enum Check {
 }
 
 // The end word, at its index, and nothing after it: then what was found is the layout.
+#[tactic(auto, using(words::proofs::Words::words_count, checks::proofs::Tests::kind_told), unfolding(crate::specs::Layout::end_checked))]
 fn check_end(s: &[u8], at: usize, found: Layout) -> Check
     ensures { check_said result ≡ end_checked (words_of s.now) at found }
 {
@@ -48,6 +49,7 @@ fn check_end(s: &[u8], at: usize, found: Layout) -> Check
 }
 
 // Checks a sheet front to back, given how many distances are lent.
+#[tactic(auto, using(crate::proofs::Accepted::head_accepted, checks::proofs::Checks::mapped_accepted, checks::proofs::Checks::mapped_refused, checks::proofs::Heads::few_head_words, crate::proofs::Whole::lines_refused), unfolding(crate::specs::Layout::checked))]
 pub fn check_sheet(s: &[u8], distances: usize) -> Check
     ensures { check_said result ≡ mapped (layout_of (words_of s.now)) (checked (words_of s.now) distances) }
 {
@@ -84,6 +86,7 @@ pub fn check_sheet(s: &[u8], distances: usize) -> Check
 }
 
 // Checks a sheet for those that ask for no distance.
+#[tactic(auto, unfolding(crate::specs::Layout::validated))]
 pub fn check_words(s: &[u8]) -> Check
     ensures { check_said result ≡ mapped (layout_of (words_of s.now)) (validated (words_of s.now)) }
 {

@@ -26,6 +26,7 @@ pub(crate) enum Head {
     Refused(Fault, usize),
 }
 
+#[tactic(auto, unfolding(crate::specs::Layout::sizes_of))]
 fn sizes_of(s: &[u8]) -> Sizes
     ensures { sizes_said result ≡ sizes_of (words_of s.now) }
 {
@@ -44,6 +45,7 @@ fn is_recorded(sizes: Sizes) -> bool
     within(sizes.signals, MOST_SIGNALS) && within(sizes.samples, MOST_SAMPLES)
 }
 
+#[tactic(auto, unfolding(crate::specs::Layout::narrow_checked))]
 fn check_narrow(s: &[u8], distances: usize) -> Head
     ensures { head_said result ≡ narrow_checked (words_of s.now) distances }
 {
@@ -64,6 +66,7 @@ fn check_narrow(s: &[u8], distances: usize) -> Head
 }
 
 // The word of the places, the head behind it, and only then what is lent: before, the places are not known.
+#[tactic(auto, using(checks::proofs::Heads::places_few), unfolding(crate::specs::Layout::wide_checked, crate::specs::Layout::sizes_of))]
 fn check_wide(s: &[u8], distances: usize) -> Head
     ensures { head_said result ≡ wide_checked (words_of s.now) distances }
 {
@@ -84,6 +87,7 @@ fn check_wide(s: &[u8], distances: usize) -> Head
 }
 
 // The head, given how many distances are lent.
+#[tactic(auto, unfolding(crate::specs::Layout::head_checked))]
 pub(crate) fn check_head(s: &[u8], distances: usize) -> Head
     ensures { head_said result ≡ head_checked (words_of s.now) distances }
 {

@@ -10,6 +10,7 @@ use crate::check::{Check, check_sheet};
 use distances::fill_distances;
 
 // On a refusal the whole table is zero, whatever it held.
+#[tactic(auto, using(crate::proofs::Surveys::accepting, words::proofs::Zeros::numbers_tail, words::proofs::Zeros::zero_numbers_tail))]
 pub fn survey(s: &[u8], distances: &mut [u8]) -> Check
     ensures decided { check_said result ≡ mapped (layout_of (words_of s.now)) (checked (words_of s.now) (length (numbers_of (words_of distances.old)))) }
     ensures measured { numbers_of (words_of distances.new) ≡ surveyed (words_of s.now) (length (numbers_of (words_of distances.old))) }

@@ -39,12 +39,14 @@ fn word_of_bytes(a: u8, b: u8, c: u8, d: u8) -> u32
 }
 
 // How many whole words there are.
+#[tactic(auto, using(crate::proofs::Words::length_words))]
 pub fn word_count(s: &[u8]) -> usize
     ensures { result ≡ length (words_of s.now) }
 {
     s.len() / 4
 }
 
+#[tactic(auto, using(crate::proofs::Words::words_count, crate::proofs::Words::get_or_words))]
 pub fn word_at(s: &[u8], i: usize) -> u32
     requires { i < length (words_of s.now) }
     ensures { result ≡ get_or (words_of s.now) i 0 }
@@ -61,6 +63,7 @@ pub fn word_or_zero(s: &[u8], i: usize) -> u32
 }
 
 // The words do not tell of bytes past the last whole word, so the bytes are promised too.
+#[tactic(auto, using(crate::proofs::Words::words_count, std::proofs::lemmas::Grind::common_steps, crate::proofs::Words::words_set, crate::proofs::Words::word_bytes))]
 pub fn put_word(s: &mut [u8], i: usize, w: u32)
     requires { i < length (words_of s.old) }
     ensures stored { words_of s.new ≡ set (words_of s.old) i w }
@@ -80,12 +83,14 @@ fn number_of_words(low: u32, high: u32) -> u64
 }
 
 // How many whole numbers there are.
+#[tactic(auto, using(crate::proofs::Numbers::length_numbers))]
 pub fn number_count(s: &[u8]) -> usize
     ensures { result ≡ length (numbers_of (words_of s.now)) }
 {
     s.len() / 8
 }
 
+#[tactic(auto, using(crate::proofs::Words::words_count, crate::proofs::Numbers::numbers_count, crate::proofs::Numbers::get_or_numbers))]
 pub fn number_at(s: &[u8], i: usize) -> u64
     requires { i < length (numbers_of (words_of s.now)) }
     ensures { result ≡ get_or (numbers_of (words_of s.now)) i 0 }
@@ -94,6 +99,7 @@ pub fn number_at(s: &[u8], i: usize) -> u64
     number_of_words(word_at(s, at), word_at(s, at + 1))
 }
 
+#[tactic(auto, using(crate::proofs::Words::words_count, crate::proofs::Numbers::numbers_count, crate::proofs::Numbers::numbers_set, crate::proofs::Numbers::number_words))]
 pub fn put_number(s: &mut [u8], i: usize, x: u64)
     requires { i < length (numbers_of (words_of s.old)) }
     ensures stored { numbers_of (words_of s.new) ≡ set (numbers_of (words_of s.old)) i x }
@@ -105,6 +111,7 @@ pub fn put_number(s: &mut [u8], i: usize, x: u64)
 }
 
 // Stores numbers one after the other in bytes that have room for just them.
+#[tactic(auto, using(crate::proofs::Numbers::length_numbers, std::proofs::lemmas::Grind::common_steps))]
 pub fn put_numbers(s: &mut [u8], numbers: &[u64])
     requires { length s.old ≡ length numbers.now * 8 }
     ensures { s.new ≡ bytes_of (halves_of numbers.now) }
@@ -126,6 +133,7 @@ pub fn fill_zero(s: &mut [u8])
 }
 
 // Keeps the first words and sets every byte behind them to zero.
+#[tactic(auto, using(crate::proofs::Words::words_count, crate::proofs::Parts::tail_list, crate::proofs::Parts::tail_back, crate::proofs::Zeros::cleared_words, crate::proofs::Zeros::cleared_words_tail))]
 pub fn clear_behind(s: &mut [u8], count: usize)
     requires { count ≤ length (words_of s.old) }
     ensures kept { words_of s.new ≡ padded (take count (words_of s.old)) (length (words_of s.old)) }
@@ -136,6 +144,7 @@ pub fn clear_behind(s: &mut [u8], count: usize)
 }
 
 // Puts bytes in place of as many others, from an index on.
+#[tactic(auto, using(crate::proofs::Puts::put_nil))]
 pub fn copy_bytes(from: &[u8], to: &mut [u8], at: usize)
     requires { at + length from.now ≤ length to.old }
     ensures { to.new ≡ put to.old at from.now }

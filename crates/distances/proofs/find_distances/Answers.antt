@@ -1,19 +1,13 @@
 -- A table in memory has so few places that no finite distance is too large, so the last stage is the table of the distances.
 use Prim.Native.Nat.{◌*◌, ◌<◌, ◌^◌}
-use mathlib.Core.Path.{◌∙◌, ap}
+use mathlib.Core.Path.{◌∙◌}
 use native.Mathlib.Omega.{arith}
-use lib.ListN.{length}
 use Rattle.words.specs.Bytes.{words_of}
 use Rattle.words.proofs.Numbers.{length_numbers}
 use Rattle.roads.specs.Roads.{weight_among}
-use Rattle.distances.proofs.Stages.{length_stage, few_places, stage_all}
+use Rattle.distances.proofs.Stages.{few_places, stage_all}
 use Rattle.distances.proofs.StartTable.{light}
 use Rattle.distances.proofs.find_distances.Goals as goal
-
-pub relax_all-requires : goal.relax_all-requires
-relax_all-requires c =
-    let g = c.args in
-    ap length c.put_roads.ensures ∙ length_stage (weight_among (words_of g.s.now) g.roads) g.places 0
 
 pub returns : goal.returns
 returns c =

@@ -1,9 +1,8 @@
--- The loop's invariant, for every network whose table this is: k is let in at the rows before a.
-use Prim.Native.Nat.{ℕ, ◌+◌, ◌*◌}
+-- What the loop's invariant says of every network: before the first row k is let in nowhere, and after the last one everywhere.
+use Prim.Native.Nat.{ℕ, ◌*◌}
 use mathlib.Core.Path.{◌≡◌, refl, sym, ◌∙◌, ap}
 use native.Mathlib.Numerals.{add-one}
 use native.Mathlib.Omega.{arith}
-use Rattle.words.proofs.Numbers.{same_count}
 use Rattle.distances.specs.Stages.{stage, relaxing}
 use Rattle.distances.proofs.Stages.{relaxing_none, relaxing_all}
 use Rattle.std.proofs.Common.{rules}
@@ -14,20 +13,6 @@ loop-a-init c =
     let g = c.args in
     let z : 0 ≡ 0 * g.n = omega arith in
     (search rules, refl, λ w e. e ∙ sym (relaxing_none w g.n g.k) ∙ ap (relaxing w g.n g.k) z)
-
-pub relax_row-requires : goal.relax_row-requires
-relax_row-requires c =
-    let p = c.requires in
-    let h = c.loop-a in
-    (p.0, c.loop-a-test.true, same_count h.table c.args.table.now h.invariant.1 ∙ p.1)
-
-pub loop-a-preserved : goal.loop-a-preserved
-loop-a-preserved c =
-    let g = c.args in
-    let h = c.loop-a in
-    let r = c.relax_row in
-    let z : h.a * g.n + g.n ≡ (h.a + 1) * g.n = omega arith in
-    (omega arith, r.auto.table ∙ h.invariant.1, λ w e. r.ensures w (h.invariant.2 w e) ∙ ap (relaxing w g.n g.k) z)
 
 pub returns : goal.returns
 returns c =

@@ -1,58 +1,23 @@
--- The two halves are stored one after the other, and give the number.
-use Prim.Native.Nat.{ℕ, ◌+◌, ◌*◌, ◌/◌, ◌%◌, ◌<◌, ◌^◌}
+-- The bytes of the two halves are put one after the other.
+use Prim.Native.Nat.{ℕ, ◌+◌, ◌*◌, ◌/◌, ◌%◌, ◌^◌}
 use mathlib.Core.Path.{◌≡◌, ◌∙◌, ap, ap₂}
 use mathlib.Core.List.{List, [], ◌∷◌}
 use native.Mathlib.Omega.{arith}
-use lib.ListN.{length, set, length-set}
-use Rattle.words.specs.Bytes.{words_of, numbers_of, bytes_of, halves_of}
+use Rattle.words.specs.Bytes.{words_of, bytes_of, halves_of}
 use Rattle.words.specs.Rows.{put}
 use Rattle.words.proofs.Words.{words_count}
-use Rattle.words.proofs.Numbers.{numbers_count, numbers_set, number_words}
+use Rattle.words.proofs.Numbers.{numbers_count}
 use Rattle.words.proofs.Puts.{put-append}
 use Rattle.words.proofs.put_number.Goals as goal
-use Rattle.words.proofs.put_number.Goals.{After-slice_known-1}
 
--- both words of the number are there
-inside : (c : After-slice_known-1) → c.args.i * 2 + 1 < length (words_of c.args.s.now)
-inside c = omega (arith, numbers_count (words_of c.args.s.now))
-
-pub overflow_mul-at : goal.overflow_mul-at
-overflow_mul-at c = omega (arith, inside c, words_count c.args.s.now)
-
-pub put_word-requires : goal.put_word-requires
-put_word-requires c =
-    let g = c.args in
-    let l : g.i * 2 < length (words_of g.s.now) = omega (arith, inside (goal.at.put_word-requires c).After-slice_known-1) in
-    l
-
-pub overflow_add-at : goal.overflow_add-at
-overflow_add-at c =
-    omega (arith, inside (goal.at.overflow_add-at c).After-slice_known-1, words_count c.args.s.now)
-
-pub put_word-requires-2 : goal.put_word-requires-2
-put_word-requires-2 c =
-    let g = c.args in
-    let p = c.put_word in
-    let e : length (words_of p.new.s) ≡ length (words_of g.s.now) = ap length p.ensures.stored ∙ simp length-set in
-    let l : g.i * 2 + 1 < length (words_of p.new.s) = omega (arith, inside (goal.at.put_word-requires-2 c).After-slice_known-1) in
-    l
-
-pub returns : goal.returns
+pub returns-clause-bytes : goal.returns-clause-bytes
 unfolding bytes_of halves_of
-returns c =
+returns-clause-bytes c =
     let g = c.args in
-    let h = c.requires in
-    let low = c.put_word in
-    let high = c.put_word-2 in
     let b = g.s.now in
-    let w = words_of b in
     let front : g.i * 2 * 4 ≡ g.i * 8 = omega arith in
     let back : (g.i * 2 + 1) * 4 ≡ g.i * 8 + 4 = omega arith in
     let lower = bytes_of (g.x % 2 ^ 32 ∷ []) in
-    let upper = bytes_of (g.x / 2 ^ 32 ∷ []) in record {
-      stored = ap numbers_of (high.ensures.stored ∙ ap (λ (t : List ℕ). set t (g.i * 2 + 1) (g.x / 2 ^ 32)) low.ensures.stored)
-          ∙ numbers_set w g.i (g.x % 2 ^ 32) (g.x / 2 ^ 32) h
-          ∙ ap (set (numbers_of w) g.i) (number_words g.x);
-      bytes = high.ensures.bytes ∙ ap₂ (λ (t : List ℕ) (k : ℕ). put t k upper) (low.ensures.bytes ∙ ap (λ (k : ℕ). put b k lower) front) back
-          ∙ put-append b (g.i * 8) lower upper (omega (arith, words_count b, numbers_count w));
-    }
+    let upper = bytes_of (g.x / 2 ^ 32 ∷ []) in
+    c.put_word-2.ensures.bytes ∙ ap₂ (λ (t : List ℕ) (k : ℕ). put t k upper) (c.put_word.ensures.bytes ∙ ap (λ (k : ℕ). put b k lower) front) back
+    ∙ put-append b (g.i * 8) lower upper (omega (arith, words_count b, numbers_count (words_of b)))

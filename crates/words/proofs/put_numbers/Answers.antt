@@ -1,44 +1,14 @@
--- The numbers that are stored already are the first ones of the list; once all are, they pin every byte.
-use Prim.Native.Nat.{ℕ, ◌<◌, ◌+◌, ◌*◌}
+-- Once all the numbers of the list are stored, they pin every byte.
+use Prim.Native.Nat.{ℕ, ◌*◌}
 use mathlib.Core.Path.{◌≡◌, sym, ◌∙◌, ap}
-use mathlib.Core.List.{List, [], ◌∷◌, ◌++◌}
-use native.Mathlib.Numerals.{add-one}
+use mathlib.Core.List.{List}
 use native.Mathlib.Omega.{arith}
-use lib.ListN.{length, get_or, take, set}
-use lib.Seq.{take_all, take-suc, take-suc-set}
+use lib.ListN.{length, take}
+use lib.Seq.{take_all}
 use Rattle.words.specs.Bytes.{words_of, numbers_of, bytes_of, halves_of}
 use Rattle.words.proofs.Numbers.{length_numbers}
 use Rattle.words.proofs.RoundTrips.{numbers_bytes}
-use Rattle.std.proofs.Common.{rules}
 use Rattle.words.proofs.put_numbers.Goals as goal
-use Rattle.words.proofs.put_numbers.Goals.{In-loop-i}
-
-one_more : (stored numbers : List ℕ) (i : ℕ) → i < length stored → i < length numbers → take i stored ≡ take i numbers
-    → take (i + 1) (set stored i (get_or numbers i 0)) ≡ take (i + 1) numbers
-one_more stored numbers i h k e =
-    rw (add-one i) (take-suc-set stored i (get_or numbers i 0) h ∙ ap (λ (t : List ℕ). t ++ (get_or numbers i 0 ∷ [])) e ∙ sym (take-suc numbers i 0 k))
-
--- the next number has room
-room : (c : In-loop-i) → c.loop-i.i < length (numbers_of (words_of c.loop-i.s))
-room c = omega (arith, length_numbers c.loop-i.s)
-
-pub loop-i-init : goal.loop-i-init
-loop-i-init c = (search rules, search rules, λ i. (c.slice_known-1.given i).fits, search rules)
-
-pub put_number-requires : goal.put_number-requires
-put_number-requires c = room (goal.at.put_number-requires c).In-loop-i
-
-pub loop-i-preserved : goal.loop-i-preserved
-loop-i-preserved c =
-    let numbers = c.args.numbers.now in
-    let stored = numbers_of (words_of c.loop-i.s) in
-    let e = c.put_number.ensures.stored in (
-      search rules,
-      search rules,
-      λ i. (c.slice_known-in-loop-i-1.given i).fits,
-      ap (take (c.loop-i.i + 1)) e
-          ∙ one_more stored numbers c.loop-i.i (room (goal.at.loop-i-preserved c).In-loop-i) (search rules) c.loop-i.invariant.3,
-    )
 
 pub returns : goal.returns
 returns c =

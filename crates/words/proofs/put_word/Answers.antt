@@ -3,45 +3,17 @@ use Prim.Native.Nat.{ℕ, ◌*◌, ◌/◌, ◌%◌, ◌^◌}
 use mathlib.Core.Path.{◌≡◌, ◌∙◌, ap}
 use mathlib.Core.List.{[], ◌∷◌}
 use native.Mathlib.Omega.{arith}
-use lib.ListN.{set, length-set}
-use Rattle.words.specs.Bytes.{words_of, bytes_of}
+use Rattle.words.specs.Bytes.{bytes_of}
 use Rattle.words.specs.Rows.{put}
-use Rattle.words.proofs.Words.{words_count, words_set, word_bytes}
+use Rattle.words.proofs.Words.{words_count}
 use Rattle.words.proofs.Puts.{put_four}
 use Rattle.words.proofs.put_word.Goals as goal
 
-pub overflow_mul-at : goal.overflow_mul-at
-overflow_mul-at c = omega (arith, words_count c.args.s.now)
-
-pub bounds-s-at : goal.bounds-s-at
-bounds-s-at c = omega (arith, words_count c.args.s.now)
-
-pub overflow_add-s : goal.overflow_add-s
-overflow_add-s c = omega (arith, words_count c.args.s.now)
-
-pub bounds-s-at-2 : goal.bounds-s-at-2
-bounds-s-at-2 c = simp length-set (omega (arith, words_count c.args.s.now))
-
-pub overflow_add-s-2 : goal.overflow_add-s-2
-overflow_add-s-2 c = omega (arith, words_count c.args.s.now)
-
-pub bounds-s-at-3 : goal.bounds-s-at-3
-bounds-s-at-3 c = simp length-set (omega (arith, words_count c.args.s.now))
-
-pub overflow_add-s-3 : goal.overflow_add-s-3
-overflow_add-s-3 c = omega (arith, words_count c.args.s.now)
-
-pub bounds-s-at-4 : goal.bounds-s-at-4
-bounds-s-at-4 c = simp length-set (omega (arith, words_count c.args.s.now))
-
-pub returns : goal.returns
+pub returns-clause-bytes : goal.returns-clause-bytes
 unfolding bytes_of
-returns c =
+returns-clause-bytes c =
     let g = c.args in
     let b = g.s.now in
-    let top : g.w / 16777216 ≡ g.w / 2 ^ 24 % 2 ^ 8 = omega (arith, c.ranges.w) in record {
-      stored = words_set b g.i (g.w % 256) (g.w / 256 % 256) (g.w / 65536 % 256) (g.w / 16777216) c.requires
-          ∙ ap (set (words_of b) g.i) (word_bytes g.w);
-      bytes = put_four b (g.i * 4) (g.w % 256) (g.w / 256 % 256) (g.w / 65536 % 256) (g.w / 16777216) (omega (arith, words_count b))
-          ∙ ap (λ (z : ℕ). put b (g.i * 4) (g.w % 256 ∷ (g.w / 256 % 256) ∷ (g.w / 65536 % 256) ∷ z ∷ [])) top;
-    }
+    let top : g.w / 16777216 ≡ g.w / 2 ^ 24 % 2 ^ 8 = omega (arith, c.ranges.w) in
+    put_four b (g.i * 4) (g.w % 256) (g.w / 256 % 256) (g.w / 65536 % 256) (g.w / 16777216) (omega (arith, words_count b))
+    ∙ ap (λ (z : ℕ). put b (g.i * 4) (g.w % 256 ∷ (g.w / 256 % 256) ∷ (g.w / 65536 % 256) ∷ z ∷ [])) top

@@ -1,7 +1,7 @@
 -- One word of a narrow one, and two of a wide one.
 use mathlib.Core.Path.{◌≡◌, ap, ap₂, ◌∙◌}
 use mathlib.Core.List.{List, [], ◌∷◌}
-use mathlib.Core.Bool.{Bool, true, false, cond}
+use mathlib.Core.Bool.{true, false}
 use Prim.Native.Nat.{ℕ, ◌+◌, ◌*◌, ◌<◌, ◌^◌}
 use native.Mathlib.Omega.{arith}
 use lib.ListN.{length, set}
@@ -15,7 +15,6 @@ use Rattle.checks.specs.Heads.{head_words, head_for}
 use Rattle.checks.proofs.Heads.{few_head_words}
 use Rattle.checks.proofs.beginning.put_head.Goals as goal
 
--- ---- the words that are put
 narrow_put : (w : List ℕ) (kind places count samples a : ℕ) → 0 < length w → a ≡ word_of kind (places * 2 ^ 20 + count * 2 ^ 12 + samples)
     → set w 0 a ≡ put w 0 (head_for kind false places count samples)
 unfolding head_for
@@ -27,30 +26,6 @@ unfolding head_for
 wide_put w m e kind places count samples a b room first second told head =
     second ∙ ap₂ (λ v h. set v 1 h) (first ∙ ap (set w 0) told ∙ put_one w 0 (word_of 10 places) (omega arith)) head
     ∙ put_snoc w 0 (word_of 10 places ∷ []) (word_of kind (count * 2 ^ 12 + samples)) (omega arith)
-
--- ---- the places fit their field
-some_field : (wide : Bool) {n : ℕ} → n < cond wide (2 ^ 16) (2 ^ 8) → n < 2 ^ 16
-some_field true h = h
-some_field false h = omega (arith, h)
-
-narrow_field : (wide : Bool) {n : ℕ} → wide ≡ false → n < cond wide (2 ^ 16) (2 ^ 8) → n < 2 ^ 8
-narrow_field wide e h = rw e at h
-
-pub overflow_cast-places : goal.overflow_cast-places
-overflow_cast-places c = omega (arith, some_field c.args.wide c.requires.0.places_fit)
-
--- ---- wide
-pub overflow_add-places : goal.overflow_add-places
-overflow_add-places c =
-    omega (arith, some_field c.args.wide c.requires.0.places_fit)
-
-pub put_word-requires : goal.put_word-requires
-put_word-requires c = omega (arith, few_head_words c.args.wide)
-
-pub put_word-requires-then-wide : goal.put_word-requires-then-wide
-put_word-requires-then-wide c =
-    let first = c.put_word in
-    omega (arith, ap head_words c.if-wide.true, first.auto.s, words_count c.args.s.now, words_count first.new.s)
 
 pub returns-then-wide : goal.returns-then-wide
 returns-then-wide c =
@@ -64,16 +39,6 @@ returns-then-wide c =
           (wide_put (words_of g.s.now) _ _ g.head.kind g.head.places g.head.count g.head.samples _ _ two first.ensures.stored second.ensures.stored (omega arith) (omega arith));
       tail = word_tail first.new.s _ 1 _ (omega arith) second.ensures.bytes ∙ word_tail g.s.now _ 0 _ (omega arith) first.ensures.bytes;
     }
-
--- ---- narrow
-pub overflow_mul-places : goal.overflow_mul-places
-overflow_mul-places c = omega (arith, narrow_field _ c.if-wide.false c.requires.0.places_fit)
-
-pub overflow_add-word-3 : goal.overflow_add-word-3
-overflow_add-word-3 c = omega (arith, narrow_field _ c.if-wide.false c.requires.0.places_fit)
-
-pub put_word-requires-2 : goal.put_word-requires-2
-put_word-requires-2 c = omega (arith, few_head_words c.args.wide)
 
 pub returns : goal.returns
 returns c =
