@@ -6,7 +6,6 @@ use native.Mathlib.Omega.{arith}
 use lib.ListN.{length, take, set}
 use Rattle.words.specs.Bytes.{words_of, numbers_of, after_words}
 use Rattle.words.proofs.Tails.{word_tail}
-use Rattle.words.proofs.Words.{words_count}
 use Rattle.lines.specs.Decoding.{line_said}
 use Rattle.locating.specs.declared.Located.{Located}
 use Rattle.locating.specs.declared.Located.TheVariants.{Rows, Blocks}
@@ -48,17 +47,6 @@ reads c {located = located} found = rw (before_line c) ((here c) found).reads
 -- the bytes past the last word
 tail : (c : After-locate) → after_words c.put_word.new.s ≡ after_words c.args.answer.now
 tail c = word_tail c.args.answer.now _ c.args.to _ (room c) c.put_word.ensures.bytes
-
-pub first_word-requires : goal.first_word-requires
-first_word-requires c =
-    omega (arith, c.requires.0.good.ends, c.requires.0.surveyed.sheet.samples)
-
-pub locate-requires : goal.locate-requires
-locate-requires c =
-    record { few_places = c.requires.0.surveyed.sheet.places.1; low = λ j. omega (arith, c.requires.0.low j) }
-
-pub overflow_add-begin : goal.overflow_add-begin
-overflow_add-begin c = omega (arith, words_count c.args.answer.now, c.requires.1)
 
 pub write_rows-requires : goal.write_rows-requires
 write_rows-requires c =
