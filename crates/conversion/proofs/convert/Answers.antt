@@ -17,8 +17,8 @@ write_sheet-requires c =
     let g = c.args in
     let layout = c.in-Accepted.layout in
     let accepts = sym c.check_words.ensures ∙ ap check_said c.in-Accepted.is in
-    let few : layout.places ≤ most_of g.to = omega (arith, c.most_places.ensures, c.if-most_places-layout.false) in
-    let room : words_in g.to g.sheet.now layout ≤ length (words_of g.output.now) = omega (arith, c.road_at.ensures, c.word_count.ensures, c.word_count-in-Accepted.ensures, c.if-word_count-count.false) in
+    let few : layout.places ≤ most_of g.to = omega arith in
+    let room : words_in g.to g.sheet.now layout ≤ length (words_of g.output.now) = omega arith in
     ready g.to g.sheet.now g.output.now layout accepts few room
 
 pub returns-else-word_count-count : goal.returns-else-word_count-count
@@ -26,8 +26,8 @@ returns-else-word_count-count c =
     let g = c.args in
     let layout = c.in-Accepted.layout in
     let accepts = sym c.check_words.ensures ∙ ap check_said c.in-Accepted.is in
-    let few : layout.places ≤ most_of g.to = omega (arith, c.most_places.ensures, c.if-most_places-layout.false) in
-    let room : words_in g.to g.sheet.now layout ≤ length (words_of g.output.now) = omega (arith, c.road_at.ensures, c.word_count.ensures, c.word_count-in-Accepted.ensures, c.if-word_count-count.false) in
+    let few : layout.places ≤ most_of g.to = omega arith in
+    let room : words_in g.to g.sheet.now layout ≤ length (words_of g.output.now) = omega arith in
     let made = relaid_in g.to g.sheet.now layout in
     let bytes = c.write_sheet.new.output in
     let kept : length bytes ≡ length g.output.now = c.write_sheet.auto.output in
