@@ -54,6 +54,7 @@ fn first_part(count: usize, room: usize) -> Part
 }
 
 // Whether two corrections have the same sample and revision: their first two words are then the same.
+#[tactic(auto, using(crate::proofs::OneSample::same_words))]
 fn same_revision(list: &[u8], grid: Grid, i: usize, k: usize) -> bool
     requires { AllAimed (words_of list.now) grid (k + 1) × (i < k) }
     ensures { result ≡ same_revision (words_of list.now) grid i k }
@@ -65,6 +66,7 @@ fn same_revision(list: &[u8], grid: Grid, i: usize, k: usize) -> bool
 }
 
 // The chain of a correction, by its sample and its revision.
+#[tactic(auto, using(corrections::proofs::Small::target_small))]
 fn chain_of(list: &[u8], grid: Grid, heads: usize, k: usize) -> usize
     requires { (k * 3 + 2 < length (words_of list.now)) × GridFits grid × (0 < heads) }
     ensures { result ≡ chain_of (words_of list.now) grid heads k }
@@ -73,6 +75,7 @@ fn chain_of(list: &[u8], grid: Grid, heads: usize, k: usize) -> usize
 }
 
 // The last candidate before a correction, by one more than its number in the part, 0 for none.
+#[tactic(auto, using(crate::proofs::Chaining::chain_inside, crate::proofs::Chaining::all_candidates, crate::proofs::Chaining::head_last))]
 fn last_candidate(list: &[u8], grid: Grid, links: &[u8], part: Part, k: usize) -> usize
     requires { Next (words_of list.now) grid part (words_of links.now) k }
     ensures { result ≡ last_below (candidate (words_of list.now) grid part k) (part_before part k) }
@@ -84,6 +87,7 @@ fn last_candidate(list: &[u8], grid: Grid, links: &[u8], part: Part, k: usize) -
 }
 
 // The candidate before one, in the same way.
+#[tactic(auto, using(words::proofs::Words::words_count))]
 fn earlier_candidate(links: &[u8], heads: usize, j: usize) -> usize
     requires { HeadsFit heads (j + 1) (length (words_of links.now)) }
     ensures { result ≡ earlier heads (words_of links.now) j }
@@ -95,6 +99,7 @@ fn earlier_candidate(links: &[u8], heads: usize, j: usize) -> usize
 }
 
 // An earlier correction of the part that has the same sample and revision, by one more than its number there, 0 for none.
+#[tactic(auto, using(crate::proofs::Walking::walk_start, crate::proofs::Walking::walk_less, crate::proofs::Walking::walk_found, crate::proofs::Walking::walk_over))]
 fn find_same(list: &[u8], grid: Grid, links: &[u8], part: Part, k: usize) -> usize
     requires { Next (words_of list.now) grid part (words_of links.now) k }
     ensures { FoundSame (words_of list.now) grid part k result }
@@ -111,6 +116,7 @@ fn find_same(list: &[u8], grid: Grid, links: &[u8], part: Part, k: usize) -> usi
 }
 
 // Puts a correction at the front of its chain, if it is one of the part.
+#[tactic(auto, using(words::proofs::Words::words_count, crate::proofs::Chaining::chain_inside, crate::proofs::Chaining::without_heads, crate::proofs::Chaining::comes_in, crate::proofs::Chaining::stays_out))]
 fn enter(list: &[u8], grid: Grid, links: &mut [u8], part: Part, k: usize)
     requires { Next (words_of list.now) grid part (words_of links.old) k × T (alone (words_of list.now) grid part k (part_before part k)) }
     ensures { Chained (words_of list.now) grid part (words_of links.new) (part_before part (k + 1)) }
@@ -129,6 +135,7 @@ fn enter(list: &[u8], grid: Grid, links: &mut [u8], part: Part, k: usize)
 }
 
 // Whether a correction disagrees with one before it, up to the end of the part, where those agree. It is put into its chain, unless there is one like it.
+#[tactic(auto, using(crate::proofs::Walking::alone_agrees))]
 fn compare(list: &[u8], grid: Grid, links: &mut [u8], part: Part, k: usize) -> bool
     requires { Next (words_of list.now) grid part (words_of links.old) k }
     ensures told { result ≡ disagrees_with (words_of list.now) grid k (part.from + part_before part k) }
@@ -143,6 +150,7 @@ fn compare(list: &[u8], grid: Grid, links: &mut [u8], part: Part, k: usize) -> b
 }
 
 // One after the other, those of the part and those behind it, from no chains on: the first that disagrees with one before it, up to the end of the part.
+#[tactic(auto, using(crate::proofs::Searching::searched_before, crate::proofs::Searching::found_here, crate::proofs::Searching::searched_on, crate::proofs::Searching::nothing_found))]
 fn look_through(list: &[u8], grid: Grid, part: Part, end: usize, links: &mut [u8]) -> usize
     requires { PartNext (words_of list.now) grid part (words_of links.old) end }
     ensures { First (words_of list.now) grid (part.from + part.size) end result }
@@ -157,6 +165,7 @@ fn look_through(list: &[u8], grid: Grid, part: Part, end: usize, links: &mut [u8
 }
 
 // Part by part, each time among those before what has been found.
+#[tactic(auto, using(words::proofs::Words::words_count, crate::proofs::Searching::first_on))]
 fn first_clash(list: &[u8], grid: Grid, count: usize, first: Part, links: &mut [u8]) -> usize
     requires { AllAimed (words_of list.now) grid count × GridFits grid × PartFits first count (length (words_of links.old)) }
     ensures { First (words_of list.now) grid count count result }
@@ -177,6 +186,7 @@ fn first_clash(list: &[u8], grid: Grid, count: usize, first: Part, links: &mut [
 }
 
 // The first correction that disagrees with an earlier one. What is lent serves for chains, and is zero in the end.
+#[tactic(auto, using(words::proofs::Words::words_count, crate::proofs::Searching::clash_told, crate::proofs::Searching::none_told))]
 pub fn find_clash(list: &[u8], grid: Grid, count: usize, links: &mut [u8]) -> Found
     requires { AllAimed (words_of list.now) grid count × GridFits grid }
     ensures found { found_said 20 result ≡ in_turn (agrees (words_of list.now) grid) count }

@@ -43,6 +43,7 @@ fn lay_out(road: u32, from: bool, to: bool) -> u32
 }
 
 // Writes the two words of each road behind the words of the head.
+#[tactic(auto, using(words::proofs::Words::words_count, checks::proofs::Heads::few_head_words))]
 fn write_roads(sheet: &[u8], roads: usize, to: bool, output: &mut [u8])
     requires { (road_at (is_wide (words_of sheet.now)) roads ≤ length (words_of sheet.now)) × (road_at to roads ≤ length (words_of output.old)) }
     ensures { words_of output.new ≡ put (words_of output.old) (head_words to) (concat (road_relaid to (words_of sheet.now)) roads) }
@@ -57,6 +58,7 @@ fn write_roads(sheet: &[u8], roads: usize, to: bool, output: &mut [u8])
 }
 
 // Writes a valid sheet in the layout that is asked for, where there is room.
+#[tactic(auto, using(words::proofs::Words::words_count, checks::proofs::Heads::few_head_words))]
 fn write_sheet(sheet: &[u8], layout: Layout, to: bool, output: &mut [u8])
     requires { Ready to sheet.now layout output.old }
     ensures { words_of output.new ≡ put (words_of output.old) 0 (relaid_in to sheet.now layout) }
@@ -81,6 +83,7 @@ fn write_sheet(sheet: &[u8], layout: Layout, to: bool, output: &mut [u8])
 }
 
 // Converts a sheet to the layout that is asked for. A sheet's own fault comes first, then 18, and an output that is too short last.
+#[tactic(auto, using(crate::proofs::Converting::turned_back, crate::proofs::Converting::known, crate::proofs::Converting::too_many, crate::proofs::Converting::too_short, checks::proofs::Heads::few_head_words, tool::proofs::Leaving::same_words, words::proofs::Zeros::zero_words, words::proofs::Zeros::zero_words_tail))]
 pub fn convert(sheet: &[u8], to: bool, output: &mut [u8]) -> Told
     ensures told { result ≡ (converted_in to sheet.now output.old).told }
     ensures left { words_of output.new ≡ (converted_in to sheet.now output.old).output }

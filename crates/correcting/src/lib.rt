@@ -72,6 +72,7 @@ fn settle(list: &[u8], grid: Grid, k: usize, output: &mut [u8])
 }
 
 // Puts the highest revision among its corrections in place of each corrected sample.
+#[tactic(auto, using(crate::proofs::Raising::targets_kept, crate::proofs::Raising::raised_none, crate::proofs::Raising::raised_more, tool::proofs::Leaving::same_words))]
 fn raise_all(list: &[u8], grid: Grid, output: &mut [u8])
     requires { Targets (words_of list.now) grid (words_of output.old) × (NoRevisions (words_of list.now) grid (words_of output.old)) }
     ensures { AllRaised (words_of list.now) grid (words_of output.old) (words_of output.new) }
@@ -82,6 +83,7 @@ fn raise_all(list: &[u8], grid: Grid, output: &mut [u8])
 }
 
 // Puts the value in place of each highest revision, from the last correction on, so that the last of equal ones is taken.
+#[tactic(auto, using(crate::proofs::Raising::targets_kept, crate::proofs::Settling::settled_none, tool::proofs::Leaving::same_words))]
 fn settle_all(list: &[u8], grid: Grid, output: &mut [u8])
     requires { Targets (words_of list.now) grid (words_of output.old) }
     ensures { AllSettled (words_of list.now) grid (words_of output.old) (words_of output.new) }
@@ -94,6 +96,7 @@ fn settle_all(list: &[u8], grid: Grid, output: &mut [u8])
 }
 
 // Writes a valid sheet with its corrections, where there is room.
+#[tactic(auto, using(words::proofs::Words::words_count, tool::proofs::Leaving::same_words, crate::proofs::Raising::targets_kept, crate::proofs::Writing::copied_front, crate::proofs::Writing::front_targets))]
 fn write_corrected(sheet: &[u8], list: &[u8], grid: Grid, output: &mut [u8])
     requires { Ready sheet.now list.now output.old grid }
     ensures { take (length (words_of sheet.now)) (words_of output.new) ≡ corrected_words (words_of sheet.now) (words_of list.now) grid }
@@ -105,6 +108,7 @@ fn write_corrected(sheet: &[u8], list: &[u8], grid: Grid, output: &mut [u8])
 }
 
 // A list that has passed 19: 20, then the room, then the sheet with its corrections.
+#[tactic(auto, using(crate::proofs::Applying::too_short, words::proofs::Zeros::zero_words, words::proofs::Zeros::zero_words_tail, tool::proofs::Leaving::same_words))]
 fn apply(sheet: &[u8], list: &[u8], grid: Grid, output: &mut [u8]) -> Told
     requires { Targets (words_of list.now) grid (words_of sheet.now) × (NoRevisions (words_of list.now) grid (words_of sheet.now)) }
     ensures told { result ≡ (applied_in sheet.now list.now output.old grid).told }
@@ -124,6 +128,7 @@ fn apply(sheet: &[u8], list: &[u8], grid: Grid, output: &mut [u8]) -> Told
 }
 
 // Corrects a sheet. Its own fault comes first, then 19, then 20, and an output that is too short last.
+#[tactic(auto, using(crate::proofs::Applying::turned_back, crate::proofs::Applying::faulty, crate::proofs::Applying::list_passed, crate::proofs::Applying::list_targets, words::proofs::Zeros::zero_words, words::proofs::Zeros::zero_words_tail))]
 pub fn correct(sheet: &[u8], list: &[u8], output: &mut [u8]) -> Told
     ensures told { result ≡ (corrected_in sheet.now list.now output.old).told }
     ensures left { words_of output.new ≡ (corrected_in sheet.now list.now output.old).output }

@@ -8,6 +8,7 @@ use crate::correction::{Found, Grid, place_of, revision_of, signal_of, time_of};
 use checks::word::{is_kind, spare_bit_zero};
 
 // How many corrections there are, an unfinished last one included.
+#[tactic(auto, using(words::proofs::Words::words_count))]
 pub fn correction_count(list: &[u8]) -> usize
     ensures { result ≡ count (words_of list.now) }
 {
@@ -43,6 +44,7 @@ fn names_place(list: &[u8], k: usize, grid: Grid) -> bool
     second / 65536 % 4096 == 0 && place_of(second) < grid.places
 }
 
+#[tactic(auto, unfolding(crate::specs::Corrections::well_formed))]
 fn check_correction(list: &[u8], k: usize, grid: Grid) -> Found
     requires { k * 3 + 2 < 2 ^ 64 }
     ensures { found_said 19 result ≡ well_formed (words_of list.now) grid k }
@@ -64,6 +66,7 @@ fn check_correction(list: &[u8], k: usize, grid: Grid) -> Found
 }
 
 // One after the other; the first fault counts.
+#[tactic(auto, using(crate::proofs::Turns::turn_next, crate::proofs::Turns::turn_refused, words::proofs::Words::words_count), unfolding(crate::specs::Corrections::in_turn))]
 pub fn check_corrections(list: &[u8], grid: Grid) -> Found
     ensures { found_said 19 result ≡ in_turn (well_formed (words_of list.now) grid) (count (words_of list.now)) }
 {

@@ -49,6 +49,7 @@ pub(crate) fn place_of(second: u32) -> usize
 }
 
 // One of its three words.
+#[tactic(auto, using(words::proofs::Words::words_count))]
 fn part_at(list: &[u8], k: usize, part: usize) -> u32
     requires { k * 3 + part < length (words_of list.now) }
     ensures { result ≡ word_at (words_of list.now) (k * 3 + part) }
@@ -85,6 +86,7 @@ pub fn revision_at(list: &[u8], k: usize) -> u32
 }
 
 // The index of the sample in the sheet.
+#[tactic(auto, using(crate::proofs::Small::row_small, crate::proofs::Small::cells_small))]
 pub fn target_at(list: &[u8], k: usize, grid: Grid) -> usize
     requires { (k * 3 + 2 < length (words_of list.now)) × GridFits grid }
     ensures { result ≡ target (words_of list.now) grid k }

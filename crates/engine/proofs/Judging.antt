@@ -6,6 +6,8 @@ use Prim.Native.Nat.{ℕ, ◌+◌, ◌<◌, ◌≤◌}
 use native.Mathlib.Nat.{add_comm}
 use lib.ListN.{length}
 use borrow.Author.Tests.{le-leb, lt-leb}
+use Rattle.words.specs.Bytes.{words_of, numbers_of}
+use Rattle.words.proofs.Numbers.{same_count}
 use Rattle.sheet.specs.declared.check.Layout as Code
 use Rattle.checks.specs.Checked.{accepted, refused}
 use Rattle.checks.specs.Heads.{is_wide}
@@ -35,10 +37,16 @@ accepting_here s distances layout e measured =
     }
 
 -- after a survey that accepts
-pub accepting : (s distances : List ℕ) (room : ℕ) (layout : Code.Layout) → room ≡ length distances → mapped (layout_of s) (checked s room) ≡ accepted layout
+accepting : (s distances : List ℕ) (room : ℕ) (layout : Code.Layout) → room ≡ length distances → mapped (layout_of s) (checked s room) ≡ accepted layout
     → distances ≡ surveyed s room → Accepting s layout distances
 accepting s distances room layout lent e measured =
     accepting_here s distances layout (subst (λ k. mapped (layout_of s) (checked s k) ≡ accepted layout) lent e) (subst (λ k. distances ≡ surveyed s k) lent measured)
+
+-- over the bytes that a call is lent, of which there are as many afterwards
+pub survey_accepts : (sheet lent measured : List ℕ) {layout : Code.Layout} → length measured ≡ length lent
+    → accepted layout ≡ mapped (layout_of (words_of sheet)) (checked (words_of sheet) (length (numbers_of (words_of lent))))
+    → numbers_of (words_of measured) ≡ surveyed (words_of sheet) (length (numbers_of (words_of lent))) → Accepting (words_of sheet) layout (numbers_of (words_of measured))
+survey_accepts sheet lent measured kept e found = accepting _ _ _ _ (same_count lent measured (sym kept)) (sym e) found
 
 module _ (s : List ℕ) (room answer : ℕ) where
   pub judged_refused : {number place : ℕ} → mapped (layout_of s) (checked s room) ≡ refused number place → judged s room answer ≡ refusal room answer number place

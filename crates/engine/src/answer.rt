@@ -14,6 +14,7 @@ const ANSWER: u32 = 13;
 
 const END: u32 = 4026531840;
 
+#[tactic(auto, using(crate::proofs::Sizes::end_bound, crate::proofs::WholeWriting::end_room, words::proofs::Words::words_count))]
 pub(crate) fn write_answer(
     sheet: &[u8],
     layout: Layout,

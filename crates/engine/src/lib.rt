@@ -39,6 +39,7 @@ pub fn refusal(number: u64, place: usize) -> Result
 }
 
 // Answers an accepted sheet, where the answer has room.
+#[tactic(auto, using(crate::proofs::Sizes::end_bound))]
 fn answer_sheet(sheet: &[u8], layout: Layout, distances: &[u8], answer: &mut [u8]) -> Result
     requires { AcceptingIn sheet.now distances.now layout × (needed_in sheet.now distances.now ≤ length (words_of answer.old)) }
     ensures told { result_said result ≡ (answered_in sheet.now distances.now answer.old).result }
@@ -56,6 +57,7 @@ fn answer_sheet(sheet: &[u8], layout: Layout, distances: &[u8], answer: &mut [u8
 }
 
 // Judges a sheet: leaves its distances and its whole answer in what is lent, zeros beyond; zeros alone where it refuses.
+#[tactic(auto, using(crate::proofs::Judging::judged_refused, words::proofs::Zeros::zero_words, words::proofs::Zeros::zero_words_tail))]
 pub fn judge(sheet: &[u8], distances: &mut [u8], answer: &mut [u8]) -> Result
     ensures told { result_said result ≡ (judged_in sheet.now distances.old answer.old).result }
     ensures said { words_of answer.new ≡ (judged_in sheet.now distances.old answer.old).answer }

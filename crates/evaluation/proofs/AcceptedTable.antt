@@ -3,7 +3,7 @@
 use mathlib.Core.Path.{◌≡◌, refl, sym, ◌∙◌, ap, subst}
 use mathlib.Core.Bool.{Bool}
 use mathlib.Core.List.{List}
-use Prim.Native.Nat.{ℕ, ◌+◌, ◌*◌, ◌<◌, ◌^◌}
+use Prim.Native.Nat.{ℕ, ◌+◌, ◌*◌, ◌<◌, ◌≤◌, ◌^◌}
 use native.Mathlib.Nat.{le_of_lt}
 use native.Mathlib.Omega.{arith}
 use lib.ListN.{length, get_or, set, replicate, get_or-append}
@@ -122,3 +122,32 @@ line_ends wide n T lines k inside within said = record {
   index = omega (arith, sum_more (λ i. 1 + (line_in lines i).extent.length * n) k, ap (λ (l : Line). l.extent.length * n) said);
   small = omega (arith, index_bound wide n T lines within (k + 1) (omega arith), within.count);
 }
+
+-- ---- one turn over the lines of a sheet that is accepted
+module _ {s : List ℕ} {layout : Code.Layout} {distances : List ℕ} (accepting : Accepting s layout distances) where
+  abbrev all : List Line
+  all = (found s (length distances)).lines
+
+  pub table_known : Table s layout distances (found s (length distances)).lines
+  table_known = accepted_table s layout distances accepting
+
+  pub few_lines : layout.lines ≤ most_lines
+  few_lines = omega (arith, table_known.counted, table_known.sizes.count)
+
+  pub all_lines : (k : ℕ) → k ≤ length all → layout.lines ≤ k → k ≡ length (found s (length distances)).lines
+  all_lines k passed ended = omega (arith, table_known.counted)
+
+  module _ (k : ℕ) (turn : k < layout.lines) where
+    pub more_lines : k < length (found s (length distances)).lines
+    more_lines = omega (arith, table_known.counted)
+
+    module _ {at : ℕ} {firsts lengths : List ℕ} (walk : Walk s layout.signals layout.samples all k at firsts lengths)
+        {decoded : Decoded} (reads : decoded_said decoded ≡ line_at s layout.signals layout.samples k (extent_in firsts lengths) at) where
+      pub turn_unrefused : {fault : Fault} {place : ℕ} → decoded ≡ D.Refused fault place → ⊥
+      turn_unrefused e = never_refused _ _ _ _ k at firsts lengths walk more_lines decoded reads _ _ e
+
+      pub turn_passed : {line : Read.Line} {next : ℕ} → decoded ≡ D.Line line next → Passed s layout.signals layout.samples all k firsts lengths line next
+      turn_passed e = line_passed _ _ _ _ k at firsts lengths walk more_lines decoded reads _ _ e
+
+      pub turn_ends : {line : Read.Line} {next : ℕ} → decoded ≡ D.Line line next → Ends (is_wide s) layout.places all k line.extent.length
+      turn_ends e = line_ends _ _ _ _ k more_lines table_known.sizes (turn_passed e).said

@@ -1,10 +1,11 @@
 -- A line behind its first word: what its verdicts are made from stands before them, and what its writer makes of it there is the line.
 use mathlib.Core.Path.{◌≡◌, ap, subst, ◌∙◌}
 use mathlib.Core.List.{List, [], ◌∷◌}
-use Prim.Native.Nat.{ℕ, ◌+◌, ◌<◌}
+use Prim.Native.Nat.{ℕ, ◌+◌, ◌*◌, ◌<◌, ◌≤◌}
 use native.Mathlib.Omega.{arith}
 use lib.ListN.{length, take, drop, set, length-set}
 use lib.Seq.{take_at}
+use Rattle.words.specs.Bytes.{words_of}
 use Rattle.words.specs.Rows.{rows, put}
 use Rattle.words.proofs.Puts.{length_front, put-append, put_one}
 use Rattle.words.proofs.Rows.{rows_ext}
@@ -27,10 +28,10 @@ module _ (answer : List ℕ) (to : ℕ) (line : Line) {first : List ℕ} (room :
   first_put : first ≡ put answer to (first_word (line_said line).extent ∷ [])
   first_put = put_first ∙ put_one answer to (first_word (line_said line).extent) room
 
-  pub length_kept : length first ≡ length answer
+  length_kept : length first ≡ length answer
   length_kept = ap length put_first ∙ length-set answer to (first_word (line_said line).extent)
 
-  pub before_verdicts : take (to + 1) first ≡ words_up_to answer to (line_said line)
+  before_verdicts : take (to + 1) first ≡ words_up_to answer to (line_said line)
   unfolding put
   before_verdicts =
       ap (take (to + 1)) first_put
@@ -62,3 +63,13 @@ module _ (answer : List ℕ) (to : ℕ) (line : Line) {first : List ℕ} (room :
     unfolding value_here rounds_here
     located_written distances located here {after} {tally} done = line_written _ _ here.values here.rounds
         (subst (λ w. SamplesWritten (value_of s L distances w located) (rounds_of s L distances w located) L.places first (to + 1) line.extent.length after tally) before_verdicts done)
+
+-- what was put where a line has room, in the bytes of the answer: the room, the first word, what stands up to it, and the room behind it
+pub first_word_put : (answer first : List ℕ) (to places : ℕ) (line : Line) {word : ℕ} → to + (1 + line.extent.length * places) ≤ length (words_of answer)
+    → words_of first ≡ set (words_of answer) to word → word ≡ first_word (line_said line).extent →
+    (to < length (words_of answer)) × (words_of first ≡ set (words_of answer) to (first_word (line_said line).extent))
+    × (take (to + 1) (words_of first) ≡ words_up_to (words_of answer) to (line_said line)) × (to + 1 + line.extent.length * places ≤ length (words_of first))
+first_word_put answer first to places line fits stored same =
+    let room : to < length (words_of answer) = omega arith in
+    let put_first = stored ∙ ap (set (words_of answer) to) same in
+    (room, put_first, before_verdicts (words_of answer) to line room put_first, omega (arith, length_kept (words_of answer) to line room put_first))

@@ -29,6 +29,7 @@ fn first_word(extent: Extent) -> u32
 }
 
 // Writes a line from index `to` on, after the earlier lines, whose signals begin where `starts` tells, with the samples that `firsts` tells.
+#[tactic(auto, using(words::proofs::Words::words_count))]
 pub(crate) fn write_line(
     line: Line,
     sheet: &[u8],

@@ -18,6 +18,7 @@ pub struct Written {
 }
 
 // A word more for each line than verdicts, the head and the end.
+#[tactic(auto, using(checks::proofs::Heads::few_head_words))]
 pub fn words_needed(sheet: &[u8], layout: Layout, distances: &[u8]) -> usize
     requires { AcceptingIn sheet.now distances.now layout }
     ensures { result ≡ needed_in sheet.now distances.now }

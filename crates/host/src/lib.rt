@@ -17,6 +17,7 @@ pub use tool_calls::{correct_sheet, sheet_to_narrow, sheet_to_wide};
 const RESULT_BYTES: usize = 40;
 
 // Whether these lengths have whole words, whole distances and a result.
+#[tactic(auto, unfolding(crate::specs::Host::lent_whole))]
 fn lent_whole(sheet: usize, distances: usize, answer: usize, res: usize) -> bool
     ensures { result ≡ lent_whole sheet distances answer res }
 {
@@ -58,6 +59,7 @@ fn refuse(distances: &mut [u8], answer: &mut [u8], res: &mut [u8]) -> u64
 }
 
 // Judges a sheet and returns the number of its refusal, 0 for none. Lengths that are not whole are 16, before all else.
+#[tactic(auto, using(crate::proofs::Lent::whole_lengths, crate::proofs::Lent::refused_lengths))]
 pub fn judge(sheet: &[u8], distances: &mut [u8], answer: &mut [u8], res: &mut [u8]) -> u64
     ensures told { result ≡ (host_judged sheet.now distances.old answer.old res.old).number }
     ensures said { answer.new ≡ (host_judged sheet.now distances.old answer.old res.old).answer }
@@ -73,6 +75,7 @@ pub fn judge(sheet: &[u8], distances: &mut [u8], answer: &mut [u8], res: &mut [u
 }
 
 // 1 yes, 2 no, 0 no verdict: bytes past the last whole word are no part of an answer.
+#[tactic(auto, unfolding(crate::specs::Host::host_looked_up))]
 pub fn lookup(answer: &[u8], line: u64, sample: u64, place: u64) -> u64
     ensures { result ≡ host_looked_up answer.now line sample place }
 {

@@ -19,6 +19,7 @@ use checks::word::{is_end, is_kind};
 const NO_MARGIN: u32 = 134217728;
 
 // What a word says: 1 yes, 2 no, 0 nothing.
+#[tactic(auto, unfolding(values::specs::Said::said))]
 fn verdict(w: u32) -> u64
     ensures { result ≡ verdict_number (said_by w) }
 {
@@ -64,6 +65,7 @@ fn samples(answer: &[u8]) -> usize
 }
 
 // Whether the places are told as they should be, in the head of a narrow answer or before that of a wide one.
+#[tactic(auto, unfolding(crate::specs::Lookup::whole_places))]
 fn whole_places(answer: &[u8]) -> bool
     ensures { result ≡ whole_places (words_of answer.now) }
 {
@@ -73,6 +75,7 @@ fn whole_places(answer: &[u8]) -> bool
     is_kind(answer, 0, 13) && within(places(answer), MOST_NARROW)
 }
 
+#[tactic(auto, unfolding(crate::specs::Lookup::whole_head))]
 fn whole_head(answer: &[u8]) -> bool
     ensures { result ≡ whole_head (words_of answer.now) }
 {
@@ -86,6 +89,7 @@ fn whole_head(answer: &[u8]) -> bool
 }
 
 // Whether each of so many words from an index on says a verdict.
+#[tactic(auto, using(crate::proofs::Walk::none_fails, crate::proofs::Walk::says_something))]
 fn whole_verdicts(answer: &[u8], start: usize, count: usize) -> bool
     requires { start + count < 2 ^ 40 }
     ensures { result ≡ all (λ j. is_said (said_by (word_at (words_of answer.now) (start + j)))) count }
@@ -99,6 +103,7 @@ fn whole_verdicts(answer: &[u8], start: usize, count: usize) -> bool
 }
 
 // Whether a line begins at an index, with samples that the recording has and a verdict for each sample and place.
+#[tactic(auto, using(crate::proofs::Walk::line_size), unfolding(crate::specs::Lookup::whole_line_at))]
 fn whole_line(answer: &[u8], at: usize) -> bool
     requires { at < 2 ^ 36 }
     ensures { result ≡ whole_line_at (words_of answer.now) at }
@@ -121,6 +126,7 @@ fn whole_line(answer: &[u8], at: usize) -> bool
 }
 
 // The index after a line, by its length.
+#[tactic(auto, using(crate::proofs::Walk::line_size))]
 fn next_line(answer: &[u8], at: usize) -> usize
     requires { at < 2 ^ 36 }
     ensures { result ≡ at + 1 + (extent_at (words_of answer.now) at).length * places_of (words_of answer.now) }
@@ -129,6 +135,7 @@ fn next_line(answer: &[u8], at: usize) -> usize
 }
 
 // The index of line i, or of the end, where i is the line count: each line before it gives its own length.
+#[tactic(auto, using(crate::proofs::Walk::next_start, crate::proofs::Walk::start_small), unfolding(crate::specs::Lookup::line_start))]
 fn line_start(answer: &[u8], i: usize) -> usize
     requires { i < 2 ^ 8 }
     ensures { result ≡ line_start (words_of answer.now) i }
@@ -141,6 +148,7 @@ fn line_start(answer: &[u8], i: usize) -> usize
 }
 
 // Whether each line is whole. A line that is not may give a length that leads astray, so nothing after it is read.
+#[tactic(auto, using(crate::proofs::Walk::none_fails, crate::proofs::Walk::next_start, crate::proofs::Walk::start_small), unfolding(crate::specs::Lookup::line_start))]
 fn whole_lines(answer: &[u8]) -> bool
     ensures { result ≡ all (whole_line (words_of answer.now)) (head_lines (words_of answer.now)) }
 {
@@ -155,6 +163,7 @@ fn whole_lines(answer: &[u8]) -> bool
 }
 
 // Whether each word after an index is zero.
+#[tactic(auto, using(crate::proofs::Walk::none_fails, words::proofs::Words::words_count))]
 fn zeros_after(answer: &[u8], at: usize) -> bool
     requires { at < length (words_of answer.now) }
     ensures { result ≡ least_over verdict_lattice (ltb at) (λ j. eqb (word_at (words_of answer.now) j) 0) (length (words_of answer.now)) }
@@ -167,6 +176,7 @@ fn zeros_after(answer: &[u8], at: usize) -> bool
     true
 }
 
+#[tactic(auto, using(checks::proofs::Tests::kind_told, checks::proofs::Tests::and_true), unfolding(crate::specs::Lookup::whole_end))]
 fn whole_end(answer: &[u8], at: usize) -> bool
     ensures { result ≡ whole_end (words_of answer.now) at }
 {
@@ -176,6 +186,7 @@ fn whole_end(answer: &[u8], at: usize) -> bool
     zeros_after(answer, at)
 }
 
+#[tactic(auto, unfolding(crate::specs::Lookup::whole_answer))]
 fn whole(answer: &[u8]) -> bool
     ensures { result ≡ whole_answer (words_of answer.now) }
 {
@@ -189,6 +200,7 @@ fn whole(answer: &[u8]) -> bool
 }
 
 // The verdict at a line, sample and place, 0 where the answer has no such line, sample or place.
+#[tactic(auto, using(crate::proofs::Walk::line_size, crate::proofs::Walk::start_small, checks::proofs::Heads::places_few), unfolding(crate::specs::Lookup::said_at))]
 fn verdict_at(answer: &[u8], line: u64, sample: u64, place: u64) -> u64
     ensures { result ≡ verdict_number (said_at (words_of answer.now) line sample place) }
 {
@@ -213,6 +225,7 @@ fn verdict_at(answer: &[u8], line: u64, sample: u64, place: u64) -> u64
 }
 
 // 1 yes, 2 no, 0 no verdict: the bytes are no whole answer, or it has no such line, sample or place.
+#[tactic(auto, unfolding(crate::specs::Lookup::looked_up))]
 pub fn lookup(answer: &[u8], line: u64, sample: u64, place: u64) -> u64
     ensures { result ≡ looked_up (words_of answer.now) line sample place }
 {

@@ -87,6 +87,7 @@ fn print_line(
 }
 
 // The rows of all lines, and last how many they are. The fields of 8, 12 and 16 bits keep every index small, whatever the words are.
+#[tactic(auto, using(checks::proofs::Heads::places_few))]
 fn print_lines(rt: &impl Print, answer: &[u8]) -> io::Result<()> {
     let places = checks::head::places(answer);
     let mut at: usize = checks::head::head_words(checks::head::is_wide(answer));
@@ -106,6 +107,7 @@ fn print_accepted(rt: &impl Print, told: Result) -> io::Result<()> {
     println!(rt; "accepted {} {} {}", told.words, told.rounds, told.yes)
 }
 
+#[tactic(auto, unfolding(host::specs::Host::input_taken))]
 fn input_taken(bytes: usize) -> bool
     ensures { result ≡ input_taken bytes }
 {
@@ -116,6 +118,7 @@ fn input_taken(bytes: usize) -> bool
 }
 
 // Judges the input, where it is taken.
+#[tactic(auto, using(words::proofs::Numbers::length_numbers, words::proofs::Words::length_words), unfolding(host::specs::Host::program_judged))]
 fn judge_input(input: &[u8], distances: &mut [u8], answer: &mut [u8]) -> Result
     requires { (length distances.old ≡ program_distances * 8) × (length answer.old ≡ program_words * 4) }
     ensures told { result_said result ≡ (program_judged input.now).result }

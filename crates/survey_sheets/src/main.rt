@@ -31,6 +31,7 @@ fn print_distance(rt: &impl Print, distance: u64) -> io::Result<()> {
 }
 
 // So many distances of the table, from the one at `first` on.
+#[tactic(auto, using(words::proofs::Numbers::length_numbers))]
 fn print_row(rt: &impl Print, table: &[u8], first: usize, count: usize) -> io::Result<()>
     requires { first + count ≤ length (numbers_of (words_of table.now)) }
 {

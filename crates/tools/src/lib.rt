@@ -23,6 +23,7 @@ fn also_whole(others: bool, length: usize) -> bool
 }
 
 // Whether the lengths have whole words and a result; of the inputs it is told.
+#[tactic(auto, unfolding(crate::specs::Tools::tool_whole))]
 fn tool_whole(inputs: bool, output: usize, res: usize) -> bool
     ensures { result ≡ tool_whole inputs output res }
 {
@@ -57,6 +58,7 @@ fn refuse_tool(output: &mut [u8], res: &mut [u8]) -> u64
 
 // Converts a sheet to the layout that is asked for and returns the number of its refusal, 0 for none. Lengths that are not whole are 16, before
 // all else.
+#[tactic(auto, using(crate::proofs::LentTools::tool_lengths, crate::proofs::LentTools::tool_refused))]
 pub fn convert_sheet(sheet: &[u8], to: bool, output: &mut [u8], res: &mut [u8]) -> u64
     ensures told { result ≡ (host_converted to sheet.now output.old res.old).number }
     ensures said { output.new ≡ (host_converted to sheet.now output.old res.old).output }
@@ -71,6 +73,7 @@ pub fn convert_sheet(sheet: &[u8], to: bool, output: &mut [u8], res: &mut [u8]) 
 }
 
 // Corrects a sheet by a list of corrections, in the same way.
+#[tactic(auto, using(crate::proofs::LentTools::tool_lengths, crate::proofs::LentTools::tool_refused))]
 pub fn correct_sheet(sheet: &[u8], list: &[u8], output: &mut [u8], res: &mut [u8]) -> u64
     ensures told { result ≡ (host_corrected sheet.now list.now output.old res.old).number }
     ensures said { output.new ≡ (host_corrected sheet.now list.now output.old res.old).output }

@@ -1,18 +1,17 @@
 -- Each part begins with no chains, as the words are zero; `Searching` has what one part more tells.
 use mathlib.Core.Path.{refl, sym, ap, subst, ◌∙◌}
 use mathlib.Core.List.{List}
-use Prim.Native.Nat.{ℕ, ◌+◌, ◌-◌, ◌*◌, ◌/◌, ◌<◌, ◌^◌}
+use Prim.Native.Nat.{ℕ, ◌/◌}
 use native.Mathlib.Omega.{arith}
 use lib.ListN.{length}
 use Rattle.words.specs.Bytes.{words_of}
-use Rattle.words.proofs.Words.{words_count, length_words}
+use Rattle.words.proofs.Words.{length_words}
 use Rattle.words.proofs.Zeros.{zero_words}
 use Rattle.clashes.specs.declared.Part.{Part}
 use Rattle.clashes.specs.Chains.{Chained, HeadsFit}
 use Rattle.clashes.proofs.Chaining.{no_chains}
-use Rattle.clashes.proofs.Searching.{first_start, first_on, first_end}
+use Rattle.clashes.proofs.Searching.{first_start, first_end}
 use Rattle.clashes.proofs.first_clash.Goals as goal
-use Rattle.clashes.proofs.first_clash.Goals.{In-loop-from}
 
 pub loop-from-init : goal.loop-from-init
 loop-from-init c = let g = c.args in (refl, first_start (words_of g.list.now) g.grid g.count)
@@ -33,29 +32,6 @@ look_through-end-requires c =
       chained = subst (λ (w : List ℕ). Chained (words_of g.list.now) g.grid part w 0) (sym zeros) (no_chains (words_of g.list.now) g.grid part (length (words_of loop.links)));
       searched = loop.invariant.1.searched;
     }
-
--- a list that is there has a length that fits
-few : (c : In-loop-from) → c.args.count * 3 < 2 ^ 64
-few c = omega (arith, (c.requires.0 (c.args.count - 1) (omega (arith, c.loop-from.invariant.1.inside))).there, words_count c.args.list.now)
-
-pub overflow_add-from : goal.overflow_add-from
-overflow_add-from c =
-    omega (arith, few (goal.at.overflow_add-from c).In-loop-from, c.loop-from.invariant.1.inside, c.requires.2.few)
-
-pub loop-from-smaller : goal.loop-from-smaller
-loop-from-smaller c =
-    let loop = c.loop-from in
-    omega (arith, c.look_through-end.ensures.inside, c.requires.2.some (omega (arith, loop.invariant.1.inside)))
-
-pub loop-from-preserved : goal.loop-from-preserved
-loop-from-preserved c =
-    let g = c.args in
-    let loop = c.loop-from in
-    let fill = c.fill_zero in
-    let look = c.look_through-end in (
-      look.auto.links ∙ fill.auto.s ∙ loop.invariant.0,
-      first_on (words_of g.list.now) g.grid loop.from (loop.from + g.first.size) loop.end g.count look.result loop.invariant.1 look.ensures,
-    )
 
 pub returns : goal.returns
 returns c =

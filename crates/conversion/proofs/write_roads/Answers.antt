@@ -8,10 +8,8 @@ use native.Mathlib.Omega.{arith}
 use lib.ListN.{length, set, length-append}
 use Rattle.words.specs.Bytes.{words_of}
 use Rattle.words.specs.Rows.{concat, put}
-use Rattle.words.proofs.Words.{words_count}
 use Rattle.words.proofs.Puts.{put_nil, put_snoc}
 use Rattle.checks.specs.Checked.{word_at}
-use Rattle.checks.proofs.Heads.{few_head_words}
 use Rattle.checks.specs.Heads.{head_words, is_wide}
 use Rattle.roads.specs.Roads.{road_at, weight_at}
 use Rattle.conversion.specs.Relaid.{laid_out, road_relaid}
@@ -43,56 +41,6 @@ pub loop-r-init : goal.loop-r-init
 unfolding concat
 loop-r-init c = (zero-le, refl, sym (put_nil _ _))
 
-pub road_at-at-requires : goal.road_at-at-requires
-road_at-at-requires c =
-    let loop = c.loop-r in
-    omega (arith, c.requires.0, c.requires.1, loop.invariant.0, few_head_words c.args.to, few_head_words (is_wide (words_of c.args.sheet.now)), words_count c.args.sheet.now, words_count c.args.output.now, few_head_words c.is_wide-from.result)
-
-pub road_at-behind-requires : goal.road_at-behind-requires
-road_at-behind-requires c =
-    let loop = c.loop-r in
-    omega (arith, c.requires.0, c.requires.1, loop.invariant.0, few_head_words c.args.to, few_head_words (is_wide (words_of c.args.sheet.now)), words_count c.args.sheet.now, words_count c.args.output.now)
-
-pub word_at-requires : goal.word_at-requires
-word_at-requires c =
-    let loop = c.loop-r in
-    omega (arith, c.requires.0, c.requires.1, loop.invariant.0, few_head_words c.args.to, few_head_words (is_wide (words_of c.args.sheet.now)), words_count c.args.sheet.now, words_count c.args.output.now, c.road_at-at.ensures, ap head_words c.is_wide-from.ensures)
-
-pub put_word-requires : goal.put_word-requires
-put_word-requires c =
-    let loop = c.loop-r in
-    omega (arith, c.requires.0, c.requires.1, loop.invariant.0, few_head_words c.args.to, few_head_words (is_wide (words_of c.args.sheet.now)), words_count c.args.sheet.now, words_count c.args.output.now, c.road_at-behind.ensures, loop.invariant.1, words_count loop.output)
-
-pub overflow_add-behind : goal.overflow_add-behind
-overflow_add-behind c =
-    let loop = c.loop-r in
-    omega (arith, c.requires.0, c.requires.1, loop.invariant.0, few_head_words c.args.to, few_head_words (is_wide (words_of c.args.sheet.now)), words_count c.args.sheet.now, words_count c.args.output.now, c.road_at-behind.ensures)
-
-pub overflow_add-at : goal.overflow_add-at
-overflow_add-at c =
-    let loop = c.loop-r in
-    omega (arith, c.requires.0, c.requires.1, loop.invariant.0, few_head_words c.args.to, few_head_words (is_wide (words_of c.args.sheet.now)), words_count c.args.sheet.now, words_count c.args.output.now, c.road_at-at.ensures, ap head_words c.is_wide-from.ensures)
-
-pub word_at-requires-in-loop-r : goal.word_at-requires-in-loop-r
-word_at-requires-in-loop-r c =
-    let loop = c.loop-r in
-    omega (arith, c.requires.0, c.requires.1, loop.invariant.0, few_head_words c.args.to, few_head_words (is_wide (words_of c.args.sheet.now)), words_count c.args.sheet.now, words_count c.args.output.now, c.road_at-at.ensures, ap head_words c.is_wide-from.ensures)
-
-pub put_word-requires-in-loop-r : goal.put_word-requires-in-loop-r
-put_word-requires-in-loop-r c =
-    let loop = c.loop-r in
-    omega (arith, c.requires.0, c.requires.1, loop.invariant.0, few_head_words c.args.to, few_head_words (is_wide (words_of c.args.sheet.now)), words_count c.args.sheet.now, words_count c.args.output.now, c.road_at-behind.ensures, loop.invariant.1, words_count loop.output, c.put_word.auto.s, words_count c.put_word.new.s)
-
-pub overflow_step-r : goal.overflow_step-r
-overflow_step-r c =
-    let loop = c.loop-r in
-    omega (arith, c.requires.0, c.requires.1, loop.invariant.0, few_head_words c.args.to, few_head_words (is_wide (words_of c.args.sheet.now)), words_count c.args.sheet.now, words_count c.args.output.now)
-
-pub loop-r-smaller : goal.loop-r-smaller
-loop-r-smaller c =
-    let loop = c.loop-r in
-    omega (arith, c.requires.0, c.requires.1, loop.invariant.0, few_head_words c.args.to, few_head_words (is_wide (words_of c.args.sheet.now)), words_count c.args.sheet.now, words_count c.args.output.now)
-
 pub loop-r-preserved : goal.loop-r-preserved
 loop-r-preserved c =
     let loop = c.loop-r in
@@ -109,9 +57,3 @@ loop-r-preserved c =
           ∙ ap₂ (λ v i. set v (i + 1) c.word_at-in-loop-r.result) (c.put_word.ensures.stored ∙ ap₂ (λ v i. set v i c.lay_out.result) loop.invariant.2 behind) behind
           ∙ road_put w s c.args.to loop.r _ _ (omega (arith, c.requires.1)) first second,
     )
-
-pub returns : goal.returns
-returns c =
-    let loop = c.loop-r in
-    let all : loop.r ≡ c.args.roads = omega (arith, loop.invariant.0) in
-    loop.invariant.2 ∙ ap (λ r. put (words_of c.args.output.now) (head_words c.args.to) (concat (road_relaid c.args.to (words_of c.args.sheet.now)) r)) all

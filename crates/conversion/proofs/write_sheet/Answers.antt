@@ -1,7 +1,7 @@
 -- Head, roads, the words that are not moved and the end are put one after the other.
 use mathlib.Core.Path.{◌≡◌, sym, ap, ap₂, ◌∙◌}
 use mathlib.Core.List.{List, [], ◌∷◌, ◌++◌, append_assoc}
-use Prim.Native.Nat.{ℕ, ◌+◌, ◌-◌, ◌*◌, ◌<◌, ◌≤◌, ◌^◌}
+use Prim.Native.Nat.{ℕ, ◌+◌, ◌-◌, ◌*◌, ◌<◌, ◌^◌}
 use native.Mathlib.Omega.{arith}
 use lib.ListN.{length, set, take, drop, length-append, length-take, length-drop}
 use Rattle.words.specs.Bytes.{words_of}
@@ -9,7 +9,6 @@ use Rattle.words.specs.Rows.{concat, put}
 use Rattle.words.proofs.Words.{words_count, words_take, words_drop}
 use Rattle.words.proofs.Puts.{put-append, put_snoc, words_put}
 use Rattle.checks.specs.Heads.{head_words, is_wide, head_for}
-use Rattle.checks.proofs.Heads.{few_head_words}
 use Rattle.checks.proofs.ReadBack.{head_length}
 use Rattle.roads.specs.Roads.{road_at}
 use Rattle.conversion.specs.Relaid.{road_relaid, unmoved, before_end, relaid}
@@ -29,76 +28,10 @@ four_parts w h m u e i j k hi hj hk room =
     ap₂ (λ v n. set v n e) three end ∙ put_snoc w 0 (h ++ (m ++ u)) e (omega (arith, end))
 
 -- the part of the sheet that is copied: whole words
-part_length : (b : List ℕ) (m n : ℕ) → length (take (m * 4 - n * 4) (drop (n * 4) b)) ≤ (m - n) * 4
-part_length b m n = omega (arith, length-take (m * 4 - n * 4) (drop (n * 4) b))
-
 part_words : (b : List ℕ) (m n : ℕ) → words_of (take (m * 4 - n * 4) (drop (n * 4) b)) ≡ take (m - n) (drop n (words_of b))
 part_words b m n =
     let e : m * 4 - n * 4 ≡ (m - n) * 4 = omega arith in
     ap (λ k. words_of (take k (drop (n * 4) b))) e ∙ words_take (drop (n * 4) b) (m - n) ∙ ap (take (m - n)) (words_drop b n)
-
-pub write_roads-requires : goal.write_roads-requires
-write_roads-requires c =
-    let ready = c.requires in
-    let bytes = c.put_head.new.s in
-    (omega (arith, ready.begins, ready.inside), omega (arith, ready.room, c.put_head.auto.s, words_count bytes, words_count c.args.output.now))
-
-pub road_at-behind-requires : goal.road_at-behind-requires
-road_at-behind-requires c =
-    omega (arith, c.requires.begins, c.requires.inside, c.requires.short, few_head_words c.args.to)
-
-pub overflow_add-end : goal.overflow_add-end
-overflow_add-end c =
-    omega (arith, c.road_at-behind.ensures, c.word_count-last.ensures, c.requires.begins, c.requires.inside, c.requires.short, few_head_words c.args.to)
-
-pub slice_bounds-copy_bytes-end : goal.slice_bounds-copy_bytes-end
-slice_bounds-copy_bytes-end c =
-    omega (arith, c.word_count-last.ensures, words_count c.args.sheet.now)
-
-pub overflow_mul-behind : goal.overflow_mul-behind
-overflow_mul-behind c =
-    omega (arith, c.road_at-behind.ensures, c.requires.begins, c.requires.inside, c.requires.short, few_head_words c.args.to)
-
-pub copy_bytes-requires : goal.copy_bytes-requires
-copy_bytes-requires c =
-    let bytes = c.write_roads.new.output in
-    let n : ℕ = c.args.layout.recording in
-    let m : ℕ = c.word_count-last.result - 1 in
-    omega (
-      arith,
-      part_length c.args.sheet.now m n,
-      c.road_at-behind.ensures,
-      c.word_count-last.ensures,
-      c.requires.inside,
-      c.requires.room,
-      c.write_roads.auto.output,
-      c.put_head.auto.s,
-      words_count c.args.output.now,
-    )
-
-pub overflow_cast-end : goal.overflow_cast-end
-overflow_cast-end c =
-    omega (arith, c.road_at-behind.ensures, c.word_count-last.ensures, c.requires.begins, c.requires.inside, c.requires.short, few_head_words c.args.to)
-
-pub overflow_add-end-2 : goal.overflow_add-end-2
-overflow_add-end-2 c =
-    omega (arith, c.road_at-behind.ensures, c.word_count-last.ensures, c.requires.begins, c.requires.inside, c.requires.short, few_head_words c.args.to)
-
-pub put_word-requires : goal.put_word-requires
-put_word-requires c =
-    let bytes = c.copy_bytes.new.to in
-    omega (
-      arith,
-      c.road_at-behind.ensures,
-      c.word_count-last.ensures,
-      c.requires.inside,
-      c.requires.room,
-      c.copy_bytes.auto.to,
-      c.write_roads.auto.output,
-      c.put_head.auto.s,
-      words_count bytes,
-      words_count c.args.output.now,
-    )
 
 pub returns : goal.returns
 unfolding relaid

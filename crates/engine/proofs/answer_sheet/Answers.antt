@@ -1,11 +1,6 @@
 -- The result has what writing the answer has found.
-use native.Mathlib.Omega.{arith}
 use Rattle.engine.proofs.Judging.{result_told, answer_said}
-use Rattle.engine.proofs.Sizes.{end_bound}
 use Rattle.engine.proofs.answer_sheet.Goals as goal
-
-pub overflow_add-result : goal.overflow_add-result
-overflow_add-result c = omega (arith, c.write_answer-written.ensures.written.ends, end_bound c.requires.0)
 
 pub returns : goal.returns
 returns c =

@@ -1,8 +1,9 @@
 -- Each turn passes one line and writes it behind those before.
 use mathlib.Core.Path.{◌≡◌}
-use Prim.Native.Nat.{◌-◌}
+use Prim.Native.Nat.{◌-◌, ◌≤◌}
 use lib.ListN.{length}
 use Rattle.words.specs.Bytes.{words_of, after_words}
+use Rattle.checks.specs.Limits.{most_lines}
 use Rattle.lines.proofs.Walk.{Walk}
 use Rattle.evaluation.proofs.AcceptedTable.{lines_of}
 use Rattle.evaluation.proofs.LinesDone.{LinesDone}
@@ -14,6 +15,7 @@ invariant-loop-k l =
     × (length l.answer ≡ length l.initial.answer)
     × LinesDone (words_of l.sheet) l.layout (lines_of l.sheet l.distances) (words_of l.initial.answer) l.k (words_of l.answer) l.starts l.to l.tally
     × (after_words l.answer ≡ after_words l.initial.answer)
+    × (l.layout.lines ≤ most_lines)
 
 abbrev pub decreases-loop-k : goal.decreases-loop-k
 decreases-loop-k l = l.layout.lines - l.k
