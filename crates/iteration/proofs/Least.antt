@@ -131,6 +131,11 @@ module _ (sheet : List ℕ) (r : ℕ) where
       subst (λ (joined : ℕ → ℕ → Bool). Stepped joined both x₀ z) (λ i a b. both_ways a b i)
       (way_more (back_of sheet r) _ both y z x₀ back (way_more (forth_of sheet r) (joined_by sheet r) both x y x₀ forth s)))
 
+-- the same by the ways that were read
+pub ways_more : (sheet : List ℕ) (r : ℕ) {there returned : Way} {both x₀ x y z : Numbers} → there ≡ forth_of sheet r → returned ≡ back_of sheet r → Pulled there both x y
+    → Pulled returned both y z → Stepped (joined_by sheet r) both x₀ x → Stepped (joined_by sheet (r + 1)) both x₀ z
+ways_more sheet r e f forth back s = road_more sheet r (rw e at forth) (rw f at back) s
+
 -- ---- no road, and all roads
 not_joined : (sheet : List ℕ) (a b : ℕ) → T (joined_by sheet 0 a b) → ⊥
 unfolding joined_by weight_among

@@ -7,15 +7,19 @@ use mathlib.Core.Logic.{◌⊎◌, inl, inr, ⊎_elim}
 use Prim.Native.Nat.{ℕ, suc, ◌+◌, ◌*◌, ◌/◌, ◌<◌, ◌≤◌}
 use native.Mathlib.Nat.{le_antisymm}
 use native.Mathlib.Omega.{arith}
+use lib.ListN.{length}
 use Rattle.logic.specs.Iteration.{iterate, masked, rounds}
 use Rattle.counting.specs.Totals.{most_below, sum_below}
 use Rattle.logic.proofs.Keeps.{same_kept, least_kept}
 use Rattle.counting.proofs.Totals.{sum_le, sum_lt, sum_bound, most_le, le_most}
 use Rattle.values.specs.Chain.{chain_lattice, highest}
 use Rattle.values.proofs.ChainSurround.{halves_rest_after, rounds_of_halves}
-use Rattle.lanes.specs.Lanes.{lanes, Numbers}
-use Rattle.iteration.specs.Steps.{joined_by, RowsApart, Bounded, ValidRow, Joined, Round, step_in, rounds_in, Settled}
 use Rattle.values.proofs.Naturals.{meet_min}
+use Rattle.lanes.specs.Lanes.{lanes, Numbers, row_in}
+use Rattle.lanes.proofs.RowLaws.{kept_below_refl, kept_below_trans, kept_past_refl, kept_past_trans}
+use Rattle.iteration.specs.WorkRows.{ring_row, x_row, Worked}
+use Rattle.iteration.specs.Steps.{joined_by, RowsApart, Bounded, ValidRow, Start, Joined, Round, step_in, rounds_in, Settled}
+use Rattle.iteration.proofs.Least.{round_as}
 
 -- the sum of all numbers of n places
 pub total : Numbers → ℕ → ℕ
@@ -182,3 +186,40 @@ rest_joined {old = old} {y = y} {n = n} j t e a kept = record {
   where
     same : (place lane : ℕ) → place < n → lane < lanes → old lane place ≡ y lane place
     same place lane b l = omega (arith, a.alike e place lane b l)
+
+-- ---- the rows of a buffer
+
+pub worked_on : {row : ℕ} {inside : List Bool} {before rows after : List ℕ} → Worked row inside before rows → Worked row inside rows after → Worked row inside before after
+worked_on so_far w = record { kept = kept_below_trans so_far.kept w.kept; past = kept_past_trans so_far.past w.past; low = w.low }
+
+module _ {sheet : List ℕ} {roads : ℕ} {inside : List Bool} {before : List ℕ} (start : Start sheet roads inside before) where
+  abbrev GoingIn : Numbers → ℕ → Type 0
+  GoingIn = Going sheet roads (length inside) (row_in before ring_row) (row_in before x_row)
+
+  pub worked_start : Worked x_row inside before before
+  worked_start = record { kept = kept_below_refl _ _; past = kept_past_refl _ _; low = start.low }
+
+  pub in_start : GoingIn (row_in before x_row) 1
+  in_start = going_start sheet roads (length inside) (row_in before ring_row) (row_in before x_row) start.valid start.ring_valid
+
+  pub start_small : total (row_in before x_row) (length inside) ≤ length inside * (lanes * highest)
+  start_small = total_bound (row_in before x_row) (length inside) (record { bound = λ place lane l m. (start.valid.valid place lane l m).bounded })
+
+  -- a round after those so far
+  module _ {rows : List ℕ} {old both y : Numbers} {r : ℕ} (so_far : Worked x_row inside before rows) (going : GoingIn (row_in rows x_row) r)
+      (joined : Joined (row_in rows x_row) (row_in rows ring_row) old both (length inside)) (round : Round sheet roads (length inside) (row_in rows ring_row) (row_in rows x_row) y) where
+    turn : Turn sheet roads (length inside) (row_in before ring_row) (row_in before x_row) (row_in rows x_row) old y r
+    turn = record { valid_start = start.valid; valid_right = start.ring_valid; going = going; former = joined.former; round = round_as so_far.kept round }
+
+    pub in_falls : {t : Bool} {h : ℕ → ℕ} → RowsApart t h old y (length inside) → t ≡ true → total y (length inside) < total (row_in rows x_row) (length inside)
+    in_falls {t} {h} apart e = total_falls turn h t e apart
+
+    pub in_fell : {t : Bool} → RowsApart t (λ v. v / 2) old y (length inside) → t ≡ true → GoingIn y (r + 1)
+    in_fell {t} apart e = going_fell turn t e apart
+
+    pub in_moved : {t u : Bool} → RowsApart t (λ v. v / 2) old y (length inside) → RowsApart u (λ v. v / 1) old y (length inside) → t ≡ false → u ≡ true → GoingIn y r
+    in_moved {t} {u} apart moved e f = going_moved turn t u e f apart moved
+
+    pub in_rest : {t u : Bool} → RowsApart t (λ v. v / 2) old y (length inside) → RowsApart u (λ v. v / 1) old y (length inside) → t ≡ false → u ≡ false
+        → Settled sheet roads (length inside) (row_in before ring_row) (row_in before x_row) r y
+    in_rest {t} {u} apart moved e f = going_rests turn t u e f apart moved

@@ -51,6 +51,7 @@ fn pull(rows: &mut [u32], inside: &[bool], way: Way)
     }
 }
 
+#[tactic(auto, using(crate::proofs::SheetRoads::first_road_fits, words::proofs::Words::words_count, crate::proofs::Outside::nothing_written, crate::proofs::Outside::stepped_low, crate::proofs::Outside::pulled_low, crate::proofs::SheetRoads::forth_read, crate::proofs::SheetRoads::back_read, crate::proofs::SheetRoads::forth_inside, crate::proofs::SheetRoads::back_inside, crate::proofs::Least::stepped_none))]
 fn step(rows: &mut [u32], inside: &[bool], sheet: &[u8], network: Network)
     requires { RoadsIn (words_of sheet.now) network.roads (length inside.now) × LowOutside inside.now rows.old }
     ensures stepped { SteppedIn rows.old sheet.now network rows.new }
@@ -91,6 +92,7 @@ fn changed(rows: &[u32], inside: &[bool], unit: u32) -> bool
 
 // Steps until no place changes in any lane. The rounds are 1 plus the number of steps in which a margin fell in some lane; verdicts may still
 // move after these. At rest the former numbers are those that the places have, and what is handed over is made of them.
+#[tactic(auto, using(crate::proofs::Settling::worked_on, crate::proofs::Settling::worked_start, crate::proofs::Settling::in_start, crate::proofs::Settling::start_small, crate::proofs::Settling::in_falls, crate::proofs::Settling::in_fell, crate::proofs::Settling::in_moved, crate::proofs::Settling::rest_joined))]
 pub fn settle(rows: &mut [u32], inside: &[bool], sheet: &[u8], network: Network) -> u64
     requires { Start (words_of sheet.now) network.roads inside.now rows.old }
     ensures settled { SettledIn rows.old inside.now sheet.now network rows.new result }

@@ -18,6 +18,7 @@ pub fn fill_row(places: usize, number: u32, row: &mut [u32])
 }
 
 // Code 0.
+#[tactic(auto, using(crate::proofs::RowLaws::left_same))]
 pub fn true_row(places: usize, row: &mut [u32])
     requires { places ≤ length row.old }
     ensures { RowLeft places (λ _. highest) row.old row.new }

@@ -5,16 +5,17 @@ use Prim.Native.Nat.{ℕ, ◌+◌, ◌*◌, ◌<◌, ◌≤◌}
 use native.Mathlib.Nat.{mul-le-mul_right, suc-mul}
 use native.Mathlib.Numerals.{add-one}
 use native.Mathlib.Omega.{arith}
-use lib.ListN.{length, get_or}
+use lib.ListN.{length, get_or, take}
 use Rattle.words.specs.Bytes.{words_of, after_words}
 use Rattle.words.specs.Rows.{row, concat, rows, put}
-use Rattle.words.proofs.Puts.{put_nil, put-append}
+use Rattle.words.proofs.Puts.{put_nil, put-append, take-put}
 use Rattle.words.proofs.Rows.{length-rows}
 use Rattle.words.proofs.Words.{words_count}
 use Rattle.counting.specs.Totals.{count, sum_below}
-use Rattle.counting.proofs.Totals.{sum_more, table_yes_bound}
+use Rattle.counting.proofs.Totals.{sum_more, yes_bound, table_yes_bound, most_none}
 use Rattle.values.specs.Chain.{chain_word, chain_verdict}
 use Rattle.samples.specs.Sample.{entry}
+use Rattle.samples.specs.Written.{SamplesWritten}
 
 put-row : (s : List ℕ) (begin : ℕ) (f : ℕ → ℕ → ℕ) (t m : ℕ) → begin ≤ length s → put (put s begin (rows f t m)) (begin + t * m) (row (f t) m) ≡ put s begin (rows f (t + 1) m)
 unfolding concat
@@ -43,6 +44,18 @@ module _ (value : ℕ → ℕ → ℕ) (n : ℕ) (answer : List ℕ) (begin : �
 
     pub row_room : {samples : ℕ} → begin + samples * n ≤ length (words_of answer) → t < samples → to + n ≤ length (words_of after)
     row_room room h = omega (arith, done.long, done.next, words_count answer, words_count after, mul-le-mul_right n h, suc-mul t n)
+
+    -- one more sample has no more yes verdicts than places
+    pub yes_fits : (f : ℕ → ℕ) {more : ℕ} → more ≡ sum_below (λ l. count (chain_verdict (f l))) n → many + more ≤ to + n
+    yes_fits f counts = omega (arith, few_yes, done.next, counts, yes_bound (λ l. chain_verdict (f l)) n)
+
+    -- all samples of the line, which has no rounds
+    pub all_done : {samples : ℕ} → t ≡ samples → SamplesWritten value (λ _ _. 0) n (words_of answer) begin samples (words_of after) (record { rounds = 0; yes = many })
+    all_done e = rw (← e) (record { written = done.written; counted = done.counted; greatest = most_none t n })
+
+    -- the words before the line stay as they are
+    pub before_kept : begin ≤ length (words_of answer) → take begin (words_of after) ≡ take begin (words_of answer)
+    before_kept begins = ap (take begin) done.written ∙ take-put (words_of answer) begin _ begins
 
     -- the numbers f of sample t are written
     pub one_more : {f : ℕ → ℕ} {later : List ℕ} {more : ℕ} → f ≡ value t → begin ≤ length (words_of answer) → length later ≡ length after

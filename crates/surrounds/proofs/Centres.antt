@@ -4,7 +4,7 @@ use mathlib.Core.Path.{◌≡◌, refl, sym, ap, ap₂, subst, ◌∙◌}
 use mathlib.Core.Logic.{⊎_elim}
 use mathlib.Core.Bool.{Bool, true, false, not, cond, ◌&&◌, ◌||◌}
 use mathlib.Core.List.{List}
-use Prim.Native.Nat.{ℕ, zero, suc, ◌<◌, ◌≤◌}
+use Prim.Native.Nat.{ℕ, zero, suc, ◌-◌, ◌<◌, ◌≤◌}
 use native.Mathlib.Decide.{ℕ_discrete}
 use native.Mathlib.Omega.{arith}
 use borrow.Author.Tests.{ne_eqb}
@@ -77,6 +77,16 @@ module _ (k : ℕ) {v : ℕ} {before after : List ℕ} (w : Written (strip_of x_
 
   pub left_out_kept : length after ≡ length before → KeptBut x_row before after
   left_out_kept long = record { kept = λ row p lane c l other. strip_kept x_row k w (omega arith) row p lane c l (λ same _. other same); long = long }
+
+-- by the number of a run: 0 leaves nothing out, any other the place of the number before
+pub left_out_nothing : {run : ℕ} {row : Numbers} → run ≡ 0 → LeftOut run row row
+left_out_nothing e = rw e left_out_none
+
+pub left_out_number : {run v : ℕ} {before after : List ℕ} → 0 < run → Written (strip_of x_row (run - 1)) lanes (λ _. v) before after → v ≡ 0
+    → LeftOut run (row_in before x_row) (row_in after x_row)
+left_out_number {run} {v} {before} {after} some w e =
+    let number : suc (run - 1) ≡ run = omega arith in
+    subst (λ (k : ℕ). LeftOut k (row_in before x_row) (row_in after x_row)) number (left_out_strip (run - 1) w e)
 
 -- past the place that it leaves out a run leaves all as it is
 left_out_same : (run : ℕ) (f : ℕ → ℕ) (p : ℕ) → run ≤ p → left_out chain_lattice run f p ≡ f p

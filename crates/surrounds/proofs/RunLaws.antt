@@ -1,13 +1,14 @@
 -- The runs of a surround: the greatest of what they give, one after the other, is the surround (M-101), and the greatest of their rounds are its rounds.
 -- Beyond the ball the runs for a place are all run 0, which is made where there is such a place.
-use mathlib.Core.Path.{◌≡◌, refl, ap, ◌∙◌}
+use mathlib.Core.Path.{◌≡◌, refl, sym, ap, subst, ◌∙◌}
 use mathlib.Core.Logic.{⊎_elim}
 use mathlib.Core.Bool.{Bool, true, false, not, cond, ◌&&◌}
-use Prim.Native.Nat.{ℕ, zero, suc, ◌+◌, ◌<◌, ◌≤◌, max}
+use Prim.Native.Nat.{ℕ, zero, suc, ◌+◌, ◌-◌, ◌<◌, ◌≤◌, max}
 use native.Mathlib.Nat.{le_antisymm, le_of_suc-le-suc}
 use native.Mathlib.Numerals.{add-one}
 use native.Mathlib.Omega.{arith}
-use lib.Dec.{T, T_not, not_T, eqb, eqb→eq}
+use borrow.Author.Tests.{ne_eqb}
+use lib.Dec.{T, T_not, not_T, eqb, eqb_refl, eqb→eq}
 use Rattle.network.specs.Network.{Network, joined, within, reached, other}
 use Rattle.network.proofs.Reached.{reached_within, within_centre}
 use Rattle.logic.specs.Lattice.{greatest_over}
@@ -133,3 +134,28 @@ module _ (N : Network) (lower upper centre : ℕ) (c : centre < N.places) where
     unfolding left_out surround_rounds
     rounds_runs true = run_alone N upper centre c count
     rounds_runs false = places_runs N upper centre c count plain_count
+
+-- ---- which runs are made: run 0 where islands count or a place lies beyond the ball, any other where its place lies in the ball and is not the centre
+module _ (inside there : ℕ → Bool) (n centre : ℕ) (islands : Bool) (run : ℕ) where
+  pub islands_made : run ≡ 0 → islands ≡ true → islands ≡ is_made inside there n centre islands run
+  unfolding is_made
+  islands_made e i = rw (e, i) refl
+
+  pub beyond_made : {r : Bool} → run ≡ 0 → islands ≡ false → r ≡ beyond inside there n → r ≡ is_made inside there n centre islands run
+  unfolding is_made
+  beyond_made e i b = rw (e, i) b
+
+  place_made : (run ≡ 0 → ⊥) → (not (eqb (run - 1) centre) && inside (run - 1)) ≡ is_made inside there n centre islands run
+  unfolding is_made
+  place_made h =
+      let k : ℕ = run - 1 in
+      let e : run ≡ suc k = omega (arith, h) in
+      subst (λ (r : ℕ). (not (eqb k centre) && inside k) ≡ is_made inside there n centre islands r) (sym e) refl
+
+  pub ball_made : (run ≡ 0 → ⊥) → (run - 1 ≡ centre → ⊥) → inside (run - 1) ≡ is_made inside there n centre islands run
+  ball_made h o = ap (λ t. not t && inside (run - 1)) (sym (ne_eqb (run - 1) centre o)) ∙ place_made h
+
+  pub centre_not_made : (run ≡ 0 → ⊥) → run - 1 ≡ centre → not (eqb (run - 1) centre) ≡ is_made inside there n centre islands run
+  centre_not_made h e =
+      let same : eqb (run - 1) centre ≡ true = rw e (holds _ (eqb_refl centre)) in
+      ap not same ∙ ap (λ t. not t && inside (run - 1)) (sym same) ∙ place_made h

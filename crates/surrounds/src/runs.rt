@@ -33,6 +33,7 @@ pub(crate) fn run_count(islands: bool, places: usize) -> usize
 }
 
 // Whether a place has a distance from the centre, but lies beyond the ball.
+#[tactic(auto, using(lanes::proofs::RowLaws::distance_there))]
 fn lies_beyond(distances: &[u8], places: usize, centre: usize, place: usize, ball: Bounds) -> bool
     requires { (centre < places) × (place < places) × TableThere distances.now places }
     ensures { result ≡ (reached_by distances.now places centre place && not (within distances.now places centre ball place)) }
@@ -56,6 +57,7 @@ fn reaches_beyond(distances: &[u8], places: usize, centre: usize, ball: Bounds) 
 }
 
 // Whether a run is made about a centre.
+#[tactic(auto, using(crate::proofs::RunLaws::islands_made, crate::proofs::RunLaws::beyond_made, crate::proofs::RunLaws::ball_made, crate::proofs::RunLaws::centre_not_made))]
 pub(crate) fn is_made(distances: &[u8], places: usize, centre: usize, run: Run) -> bool
     requires { (centre < places) × (run.number ≤ places) × TableThere distances.now places }
     ensures { result ≡ is_made_in distances.now places centre run }
@@ -72,6 +74,7 @@ pub(crate) fn is_made(distances: &[u8], places: usize, centre: usize, run: Run) 
 }
 
 // The place that a run leaves out becomes lowest.
+#[tactic(auto, using(crate::proofs::Centres::left_out_nothing, crate::proofs::Centres::left_out_number, iteration::proofs::Outside::nothing_written))]
 pub(crate) fn leave_out(rows: &mut [u32], run: Run)
     requires { Room run.number rows.old }
     ensures out { LeftOut run.number (row_in rows.old x_row) (row_in rows.new x_row) }

@@ -1,18 +1,24 @@
--- The value of a line at one sample and place is at most `highest`; and the samples of an atom, where they stand in the sheet.
-use mathlib.Core.Path.{◌≡◌, sym, ap, ◌∙◌}
+-- The value of a line at one sample and place is at most `highest`; the samples of an atom, where they stand in the sheet; and the row of one sample, by
+-- the operator that a line has, and as words.
+use mathlib.Core.Path.{◌≡◌, sym, ap, subst, ◌∙◌}
 use mathlib.Core.Bool.{true, false}
 use mathlib.Core.List.{List}
 use Prim.Native.Nat.{ℕ, ◌+◌, ◌-◌, ◌*◌, ◌≤◌, ◌<◌}
-use native.Mathlib.Nat.{mul_comm, mul_assoc, mul-le-mul_right}
+use native.Mathlib.Nat.{mul_comm, mul_assoc}
 use native.Mathlib.Omega.{arith}
 use lib.IntN.{ℤ, pos, negsuc, ◌-ℤ◌}
-use lib.ListN.{take, drop}
+use lib.ListN.{length, get_or, take, drop}
+use lib.Seq.{length-take-le, get_or-take, get_or-drop}
 use mir.Syntax.{w32}
 use mir.Val.{to_z, of_z}
 use mir.Facts.{to_z-of_z}
-use Rattle.words.specs.Bytes.{words_of}
-use Rattle.words.proofs.Rows.{in_table}
+use Rattle.words.specs.Word.{sample_of}
+use Rattle.words.specs.Bytes.{words_of, after_words}
+use Rattle.words.specs.Rows.{row, put}
+use Rattle.words.proofs.Rows.{in_table, row_ext}
 use Rattle.words.proofs.Words.{words_drop, words_take}
+use Rattle.counting.specs.Totals.{count, sum_below}
+use Rattle.counting.proofs.Totals.{sum_same}
 use Rattle.formulas.specs.Formulas.{InBits}
 use Rattle.network.specs.Network.{Network, joined}
 use Rattle.logic.specs.Table.{surround_at}
@@ -20,11 +26,13 @@ use Rattle.logic.proofs.Keeps.{surround_kept}
 use Rattle.logic.proofs.Small.{difference_small}
 use Rattle.sheet.specs.declared.check.Layout.{Layout}
 use Rattle.sheet.proofs.Samples.{recording_bits}
-use Rattle.values.specs.Chain.{chain_lattice, highest}
+use Rattle.checks.specs.Limits.{most_places}
+use Rattle.values.specs.Chain.{chain_lattice, highest, chain_word, chain_verdict}
 use Rattle.values.specs.Signals.{signal_in}
 use Rattle.values.proofs.Machine.{small_fits}
 use Rattle.values.proofs.Valid.{valid_difference}
 use Rattle.values.proofs.ChainWords.{signal_bound}
+use Rattle.operators.specs.Rows.{Filled}
 use Rattle.operators.proofs.Bounds.{bounded_kept, meet_bound}
 use Rattle.windows.specs.Rows.{side_of, present_of}
 use Rattle.windows.proofs.Bounds.{until_bound, ahead_bound}
@@ -32,7 +40,9 @@ use Rattle.surrounds.specs.declared.surround.Surround.{Surround}
 use Rattle.surrounds.specs.Surround.{surround_in}
 use Rattle.locating.specs.declared.RowOperator.{RowOperator}
 use Rattle.locating.specs.declared.RowOperator.TheVariants.{True, Atom, Not, Both, Until, Eventually}
-use Rattle.verdicts.specs.Rows.{sheet_recording, row_value, RowReads}
+use Rattle.samples.specs.Sample.{entry, SampleThere}
+use Rattle.samples.proofs.LineRows.{entry_one, RowsDone, before_kept, one_more}
+use Rattle.verdicts.specs.Rows.{sheet_recording, row_value, RowReads, RowReady}
 
 -- ---- no value is beyond `highest`
 
@@ -70,11 +80,6 @@ module _ (s : List ℕ) (L : Layout) where
 all_samples : (L : Layout) → L.samples * L.places * L.signals ≡ L.signals * L.places * L.samples
 all_samples L = mul_comm (L.samples * L.places) L.signals ∙ ap (λ (k : ℕ). L.signals * k) (mul_comm L.samples L.places) ∙ sym (mul_assoc L.signals L.places L.samples)
 
-pub sample_inside : (L : Layout) {t : ℕ} → t < L.samples → (t + 1) * L.places * L.signals ≤ L.signals * L.places * L.samples
-sample_inside L {t} h =
-    let later : t + 1 ≤ L.samples = omega arith in
-    rw (all_samples L) at (mul-le-mul_right L.signals (mul-le-mul_right L.places later))
-
 pub sample_index : (L : Layout) {x t l : ℕ} → x < L.signals → t < L.samples → l < L.places → (t * L.places + l) * L.signals + x < L.signals * L.places * L.samples
 sample_index L h k b = rw (all_samples L) at (in_table (in_table k b) h)
 
@@ -88,3 +93,57 @@ pub words_part : (bytes : List ℕ) (k m : ℕ) → words_of (take ((k + m) * 4 
 words_part bytes k m =
     let size : (k + m) * 4 - k * 4 ≡ m * 4 = omega arith in
     ap (λ (n : ℕ). words_of (take n (drop (k * 4) bytes))) size ∙ words_take (drop (k * 4) bytes) m ∙ ap (take m) (words_drop bytes k)
+
+-- a sample in the part of the sheet that is lent
+pub sample_read : (bytes : List ℕ) (L : Layout) {x t l : ℕ} → x < L.signals → t < L.samples → l < L.places
+    → sample_of (get_or (words_of (take ((L.recording + L.signals * L.places * L.samples) * 4 - L.recording * 4) (drop (L.recording * 4) bytes))) ((t * L.places + l) * L.signals + x) 0)
+    ≡ sheet_recording (words_of bytes) L x t l
+unfolding sheet_recording
+sample_read bytes L {x} {t} {l} h k b =
+    let count = L.signals * L.places * L.samples in
+    let i = (t * L.places + l) * L.signals + x in
+    rw (words_part bytes L.recording count)
+    (ap sample_of (get_or-take count (drop L.recording (words_of bytes)) i 0 (sample_index L h k b) ∙ get_or-drop L.recording (words_of bytes) i 0))
+
+-- ---- the row of one sample
+
+-- the same by the operator that a line has
+pub ready_as : {s : List ℕ} {L : Layout} {words : List ℕ} {o p : RowOperator} {t : ℕ} {held : List ℕ} → RowReady s L words o t held → o ≡ p → RowReady s L words p t held
+ready_as {s} {L} {words} {t = t} {held} ready e = subst (λ q. RowReady s L words q t held) e ready
+
+-- as words
+module _ {n : ℕ} {f : ℕ → ℕ} {values : List ℕ} (filled : Filled n f values) where
+  number_there : (l : ℕ) → l < n → entry values 1 0 l ≡ f l
+  number_there l b = entry_one values l ∙ filled.at l b
+
+  pub row_there : n ≤ most_places → n ≤ length values → ((l : ℕ) → f l ≤ highest) → SampleThere values 1 0 n
+  row_there few room small = record {
+    few_places = few;
+    inside = λ l b. omega arith;
+    bound = λ l b. rw (number_there l b) (small l);
+  }
+
+  pub row_words : row (λ l. chain_word (entry values 1 0 l)) n ≡ row (λ l. chain_word (f l)) n
+  row_words = row_ext _ _ n (λ l b. ap chain_word (number_there l b))
+
+  pub row_yes : sum_below (λ l. count (chain_verdict (entry values 1 0 l))) n ≡ sum_below (λ l. count (chain_verdict (f l))) n
+  row_yes = sum_same _ _ n (λ l b. ap (λ v. count (chain_verdict v)) (number_there l b))
+
+-- so many bytes before a line are there
+pub length_before : (s : List ℕ) (k : ℕ) → k ≤ length s → length (take k s) ≡ k
+length_before s k h = length-take-le k s h
+
+-- ---- a row after those of a line: it is made from the words before the line, which stay as they are
+module _ (s : List ℕ) (L : Layout) (o : RowOperator) {answer : List ℕ} {begin t : ℕ} {after : List ℕ} {to many : ℕ}
+    (done : RowsDone (row_value s L (take begin (words_of answer)) o) L.places answer begin t after to many) (begins : begin ≤ length (words_of answer)) where
+  pub ready_after : {held : List ℕ} → RowReady s L (take begin (words_of answer)) o t held → RowReady s L (take begin (words_of after)) o t held
+  ready_after {held} ready = subst (λ words. RowReady s L words o t held) (sym (before_kept _ _ _ _ done begins)) ready
+
+  pub filled_after : {u : ℕ} {held : List ℕ} → Filled L.places (row_value s L (take begin (words_of after)) o t) held → t ≡ u → Filled L.places (row_value s L (take begin (words_of answer)) o u) held
+  filled_after {u} {held} filled e = subst (λ v. Filled L.places (row_value s L (take begin (words_of answer)) o v) held) e
+      (subst (λ words. Filled L.places (row_value s L words o t) held) (before_kept _ _ _ _ done begins) filled)
+
+  pub one_row : {later : List ℕ} {more : ℕ} → length later ≡ length after → words_of later ≡ put (words_of after) to (row (λ l. chain_word (row_value s L (take begin (words_of after)) o t l)) L.places)
+      → more ≡ sum_below (λ l. count (chain_verdict (row_value s L (take begin (words_of after)) o t l))) L.places → after_words later ≡ after_words after
+      → RowsDone (row_value s L (take begin (words_of answer)) o) L.places answer begin (t + 1) later (to + L.places) (many + more)
+  one_row = one_more _ _ _ _ done (ap (λ words. row_value s L words o t) (before_kept _ _ _ _ done begins)) begins

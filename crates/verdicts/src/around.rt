@@ -19,6 +19,7 @@ use sheet::check::Layout;
 use surrounds::surround::surround_block;
 
 // Writes the samples of a block, one lane after the other.
+#[tactic(auto, using(words::proofs::Words::words_count, samples::proofs::LineRows::row_room, crate::proofs::Blocks::lane_entry))]
 fn write_lanes(rows: &[u32], places: usize, samples: usize, answer: &mut [u8], to: usize) -> u64
     requires { LanesBounded rows.now places samples × (to + samples * places ≤ length (words_of answer.old)) }
     ensures written { LanesWritten rows.now places samples (words_of answer.old) to (words_of answer.new) result }
@@ -34,6 +35,7 @@ fn write_lanes(rows: &[u32], places: usize, samples: usize, answer: &mut [u8], t
 }
 
 // Evaluates the samples of a block, and tells their greatest rounds.
+#[tactic(auto, using(crate::proofs::Blocks::block_ready, crate::proofs::Blocks::range_ready, crate::proofs::Blocks::surround_filled, crate::proofs::Blocks::somewhere_filled))]
 fn fill_block(
     around: Around,
     words: &[u8],
@@ -67,6 +69,7 @@ fn fill_block(
 }
 
 // Evaluates and writes a block of the line that begins at index `begin`.
+#[tactic(auto, using(words::proofs::Words::words_count, words::proofs::Words::words_take, crate::proofs::Points::length_before))]
 fn write_block(
     around: Around,
     sheet: &[u8],

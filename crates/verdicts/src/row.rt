@@ -14,6 +14,7 @@ use sheet::check::Layout;
 
 // Writes the words of sample t from index `to` on, and counts its yes verdicts. The line's own words begin at `begin`. `held` has the values
 // at the sample before, if there is one, and then those at t.
+#[tactic(auto, using(words::proofs::Words::words_count, words::proofs::Words::words_take, crate::proofs::Points::length_before, crate::proofs::Points::row_there, crate::proofs::Points::row_words, crate::proofs::Points::row_bound))]
 fn write_row(
     operator: RowOperator,
     sheet: &[u8],
@@ -36,6 +37,7 @@ fn write_row(
 }
 
 // Writes all words of a line of `samples` samples from index `begin` on.
+#[tactic(auto, using(words::proofs::Words::words_count, samples::proofs::LineRows::row_room))]
 pub fn write_rows(
     operator: RowOperator,
     sheet: &[u8],

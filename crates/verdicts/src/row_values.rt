@@ -13,6 +13,7 @@ use windows::eventually::eventually_row;
 use windows::until::until_row;
 
 // Codes 1 and 2: the evaluator of atoms is handed the samples' part of the sheet, from the roads to the lines.
+#[tactic(auto, using(words::proofs::Words::words_count, crate::proofs::Points::length_before))]
 fn recorded_row(
     sheet: &[u8],
     layout: Layout,
@@ -40,6 +41,7 @@ fn recorded_row(
 }
 
 // `words` are those written before the line. The row holds the values at the sample before, if there is one.
+#[tactic(auto, using(crate::proofs::Points::constant_kept), unfolding(crate::specs::Rows::row_value))]
 pub(crate) fn value_row(
     operator: RowOperator,
     sheet: &[u8],

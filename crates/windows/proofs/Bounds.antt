@@ -1,4 +1,5 @@
 -- What the operators over time compute with stays small: values are at most `highest`, and a window has fewer samples than there are bytes.
+use mathlib.Core.Path.{◌≡◌}
 use mathlib.Core.Bool.{Bool, true, false, cond}
 use mathlib.Core.List.{List}
 use Prim.Native.Nat.{ℕ, suc, ◌+◌, ◌*◌, ◌≤◌, ◌<◌}
@@ -16,8 +17,10 @@ use Rattle.values.specs.Signals.{signal_in, turned}
 use Rattle.windows.specs.declared.group.Group.{Group}
 use Rattle.windows.specs.Groups.{SampleReached}
 use Rattle.windows.specs.Reach.{Window, Reached}
-use Rattle.windows.specs.Rows.{ahead, side_of}
+use Rattle.windows.specs.Rows.{ahead, side_of, ahead_in, eventually_in}
 use Rattle.codes.specs.declared.operator.Bounds as Code
+use Rattle.operators.specs.Rows.{turned_to}
+use Rattle.operators.proofs.RowLaws.{turned_number, turned_small, turned_back}
 use Rattle.operators.proofs.Bounds.{bounded_kept, turned_bound, in_row}
 
 -- ---- no value is beyond `highest`
@@ -31,6 +34,17 @@ until_bound side left right lower upper t l low low' = until_related chains chai
 pub ahead_bound : (negated : Bool) (words : List ℕ) (start n lower upper t l : ℕ) → ahead (turned negated (signal_in words start n)) lower upper t l ≤ highest
 ahead_bound negated words start n lower upper t l =
     until_bound forward (ever_true chains) (turned negated (signal_in words start n)) lower upper t l (λ _. le_refl highest) (λ u. turned_bound negated words start n u l)
+
+-- eventually, or its dual, from the greatest of the window and back again
+module _ (dual : Bool) (words : List ℕ) (start n lower upper t l : ℕ) where
+  pub eventually_small : eventually_in words n dual start lower upper t l ≤ highest
+  eventually_small = turned_small dual _ t l (ahead_bound dual words start n lower upper t l)
+
+  pub eventually_back : turned_to dual (eventually_in words n dual start lower upper t l) ≡ ahead_in words n dual start lower upper t l
+  eventually_back = turned_back dual _ t l (ahead_bound dual words start n lower upper t l)
+
+  pub eventually_turned : turned_to dual (ahead_in words n dual start lower upper t l) ≡ eventually_in words n dual start lower upper t l
+  eventually_turned = turned_number dual _ t l
 
 -- ---- what is read is there, and its index fits the machine
 

@@ -61,6 +61,7 @@ fn greatest_next(
 }
 
 // At one place, given the value at the sample before, if there is one.
+#[tactic(auto, using(crate::proofs::Bounds::ahead_bound, crate::proofs::Bounds::eventually_small, crate::proofs::Bounds::eventually_back, crate::proofs::Bounds::eventually_turned))]
 fn eventually_at(
     words: &[u8],
     start: usize,

@@ -4,7 +4,6 @@ use mathlib.Core.Path.{◌≡◌, sym, subst, ◌∙◌}
 use mathlib.Core.Bool.{Bool}
 use mathlib.Core.List.{List, ◌++◌}
 use native.Mathlib.Omega.{arith}
-use borrow.Author.Tests.{not-true}
 use lib.ListN.{length, take, drop}
 use lib.Seq.{length-take-le, length_front, take_at}
 use Rattle.lanes.specs.Lanes.{out_row}
@@ -61,7 +60,7 @@ loop-centre-preserved-then-not-is_made c =
     let g = c.args in
     let h = c.loop-centre in
     let made = c.is_made.ensures ∙ made_at g.distances.now (ready (goal.at.loop-centre-preserved-then-not-is_made c).In-loop-centre) c.loop-centre-test.true g.run.islands g.run.number c.requires.2 in
-    (omega (arith, c.loop-centre-test.true), h.invariant.1, h.invariant.2, run_skipped h.invariant.3 (sym made ∙ not-true _ c.if-not-is_made.true-raw))
+    (omega (arith, c.loop-centre-test.true), h.invariant.1, h.invariant.2, run_skipped h.invariant.3 (sym made ∙ c.if-not-is_made.true))
 
 pub loop-centre-preserved : goal.loop-centre-preserved
 loop-centre-preserved c =

@@ -1,9 +1,7 @@
 -- Each turn takes one sample more into the greatest; until with a left operand that is always true comes to that.
 use mathlib.Core.Path.{sym, ap, ap₂, ◌∙◌}
-use Prim.Native.Nat.{◌+◌, ◌≤◌}
 use native.Mathlib.Nat.{le_refl}
 use native.Mathlib.Omega.{arith}
-use lib.ListN.{length}
 use Rattle.logic.specs.Lattice.{greatest_over}
 use Rattle.values.specs.Chain.{chain_lattice}
 use Rattle.operators.proofs.Bounds.{turned_bound}
@@ -11,19 +9,15 @@ use Rattle.windows.proofs.Bounds.{reached_inside, reached_end}
 use Rattle.windows.proofs.Folds.{none_counted, one_counted, all_counted, from_none, from_more}
 use Rattle.windows.proofs.Windows.{eventually_all}
 use Rattle.windows.proofs.eventually.greatest_ahead.Goals as goal
-use Rattle.windows.proofs.eventually.greatest_ahead.Goals.{Start}
-
-end_fits : (c : Start) → c.args.t + c.args.bounds.upper + 1 ≤ length c.args.words.now
-end_fits c = reached_end c.args.words.now c.requires
 
 pub overflow_add-first : goal.overflow_add-first
-overflow_add-first c = omega (arith, end_fits (goal.at.overflow_add-first c).Start)
+overflow_add-first c = omega (arith, reached_end c.args.words.now c.requires)
 
 pub overflow_add-end : goal.overflow_add-end
-overflow_add-end c = omega (arith, end_fits (goal.at.overflow_add-end c).Start)
+overflow_add-end c = omega (arith, reached_end c.args.words.now c.requires)
 
 pub overflow_add-end-2 : goal.overflow_add-end-2
-overflow_add-end-2 c = omega (arith, end_fits (goal.at.overflow_add-end-2 c).Start)
+overflow_add-end-2 c = omega (arith, reached_end c.args.words.now c.requires)
 
 pub loop-u-init : goal.loop-u-init
 loop-u-init c = (none_counted (omega arith), c.bottom-best.ensures ∙ sym (from_none _ _ _ (le_refl _)))
@@ -32,7 +26,7 @@ pub turned_at-requires : goal.turned_at-requires
 turned_at-requires c = reached_inside c.requires c.loop-u-test.true
 
 pub overflow_step-u : goal.overflow_step-u
-overflow_step-u c = omega (arith, end_fits (goal.at.overflow_step-u c).Start)
+overflow_step-u c = omega (arith, reached_end c.args.words.now c.requires)
 
 pub loop-u-preserved : goal.loop-u-preserved
 loop-u-preserved c =

@@ -1,5 +1,4 @@
 -- Before a sample is read the least of left is highest and until so far lowest; what is left of reading comes to the places of the group.
-use mathlib.Core.Path.{◌∙◌}
 use Prim.Native.Nat.{◌+◌}
 use native.Mathlib.Omega.{arith}
 use Rattle.values.specs.Chain.{chains}
@@ -12,8 +11,8 @@ read_window-requires c =
     let a = c.args in record {
       group_reached = (c.requires.0, omega (arith, c.fill_row.ensures.long, c.requires.1), omega (arith, c.fill_row-2.ensures.long, c.requires.1));
       carries_group = λ lane b. none_read chains _ _ _ a.until.bounds.lower _ (a.group.first + lane)
-          (c.fill_row.ensures.filled.at lane (omega (arith, c.requires.1)) ∙ c.top.ensures)
-          (c.fill_row-2.ensures.filled.at lane (omega (arith, c.requires.1)) ∙ c.bottom.ensures);
+          (omega (arith, c.fill_row.ensures.filled.at lane (omega (arith, c.requires.1))))
+          (omega (arith, c.fill_row-2.ensures.filled.at lane (omega (arith, c.requires.1))));
     }
 
 pub put_group-requires : goal.put_group-requires
