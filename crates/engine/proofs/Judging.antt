@@ -37,7 +37,7 @@ accepting_here s distances layout e measured =
     }
 
 -- after a survey that accepts
-accepting : (s distances : List ℕ) (room : ℕ) (layout : Code.Layout) → room ≡ length distances → mapped (layout_of s) (checked s room) ≡ accepted layout
+pub accepting : (s distances : List ℕ) (room : ℕ) (layout : Code.Layout) → room ≡ length distances → mapped (layout_of s) (checked s room) ≡ accepted layout
     → distances ≡ surveyed s room → Accepting s layout distances
 accepting s distances room layout lent e measured =
     accepting_here s distances layout (subst (λ k. mapped (layout_of s) (checked s k) ≡ accepted layout) lent e) (subst (λ k. distances ≡ surveyed s k) lent measured)

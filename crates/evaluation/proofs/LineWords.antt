@@ -28,10 +28,10 @@ module _ (answer : List ℕ) (to : ℕ) (line : Line) {first : List ℕ} (room :
   first_put : first ≡ put answer to (first_word (line_said line).extent ∷ [])
   first_put = put_first ∙ put_one answer to (first_word (line_said line).extent) room
 
-  length_kept : length first ≡ length answer
+  pub length_kept : length first ≡ length answer
   length_kept = ap length put_first ∙ length-set answer to (first_word (line_said line).extent)
 
-  before_verdicts : take (to + 1) first ≡ words_up_to answer to (line_said line)
+  pub before_verdicts : take (to + 1) first ≡ words_up_to answer to (line_said line)
   unfolding put
   before_verdicts =
       ap (take (to + 1)) first_put

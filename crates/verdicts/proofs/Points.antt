@@ -4,7 +4,7 @@ use mathlib.Core.Path.{◌≡◌, sym, ap, subst, ◌∙◌}
 use mathlib.Core.Bool.{true, false}
 use mathlib.Core.List.{List}
 use Prim.Native.Nat.{ℕ, ◌+◌, ◌-◌, ◌*◌, ◌≤◌, ◌<◌}
-use native.Mathlib.Nat.{mul_comm, mul_assoc}
+use native.Mathlib.Nat.{mul_comm, mul_assoc, mul-le-mul_right}
 use native.Mathlib.Omega.{arith}
 use lib.IntN.{ℤ, pos, negsuc, ◌-ℤ◌}
 use lib.ListN.{length, get_or, take, drop}
@@ -79,6 +79,11 @@ module _ (s : List ℕ) (L : Layout) where
 -- all of them, in the order of the sheet: time outermost, then place, then signal
 all_samples : (L : Layout) → L.samples * L.places * L.signals ≡ L.signals * L.places * L.samples
 all_samples L = mul_comm (L.samples * L.places) L.signals ∙ ap (λ (k : ℕ). L.signals * k) (mul_comm L.samples L.places) ∙ sym (mul_assoc L.signals L.places L.samples)
+
+pub sample_inside : (L : Layout) {t : ℕ} → t < L.samples → (t + 1) * L.places * L.signals ≤ L.signals * L.places * L.samples
+sample_inside L {t} h =
+    let later : t + 1 ≤ L.samples = omega arith in
+    rw (all_samples L) at (mul-le-mul_right L.signals (mul-le-mul_right L.places later))
 
 pub sample_index : (L : Layout) {x t l : ℕ} → x < L.signals → t < L.samples → l < L.places → (t * L.places + l) * L.signals + x < L.signals * L.places * L.samples
 sample_index L h k b = rw (all_samples L) at (in_table (in_table k b) h)
