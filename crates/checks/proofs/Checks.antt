@@ -2,13 +2,16 @@
 use Prim.Native.Nat.{ℕ, ◌<◌}
 use mathlib.Core.Bool.{Bool, true, false}
 use mathlib.Core.List.{List}
-use mathlib.Core.Path.{◌≡◌, refl}
+use mathlib.Core.Path.{◌≡◌, refl, ap}
 use native.Mathlib.Omega.{arith}
 use lib.Dec.{T, ltb, ltb→lt}
 use lib.ListN.{length}
 use Rattle.counting.proofs.Tests.{and_l}
 use Rattle.checks.specs.Checked.{Checked, accepted, refused, ◌>>=◌, require, is_kind}
 use Rattle.checks.specs.Checked.{mapped}
+use Rattle.checks.specs.declared.fault.Fault.{Fault}
+use Rattle.checks.specs.declared.fault.Refusal.{Refusal}
+use Rattle.checks.specs.Faults.{fault_number}
 
 pub never : {A : Type 0} {number place : ℕ} {a : A} → refused number place ≡ accepted a → ⊥
 never e = let z : ◌≡◌ {A = ℕ} 0 1 = cc in omega arith
@@ -35,6 +38,11 @@ pub mapped_refused : {A B : Type 0} (f : A → B) (first : Checked A) {number pl
     → first ≡ refused number place
 mapped_refused f (accepted a) e = let z : ◌≡◌ {A = ℕ} 0 1 = cc in absurd (omega arith)
 mapped_refused f (refused number place) e = cc
+
+-- a refusal that the code tells, as a check
+pub told : {A : Type 0} {r : Refusal} {fault : Fault} {place : ℕ} → r ≡ record { fault = fault; place = place }
+    → ◌≡◌ {A = Checked A} (refused (fault_number r.fault) r.place) (refused (fault_number fault) place)
+told e = ap (λ (r : Refusal). refused (fault_number r.fault) r.place) e
 
 -- ---- with the test as a fact
 pub require_e : {A : Type 0} (t : Bool) (number place : ℕ) (next : Checked A) (a : A) → require t number place next ≡ accepted a → T t × (next ≡ accepted a)

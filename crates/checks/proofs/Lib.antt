@@ -1,6 +1,9 @@
 pub mod Alike
 pub mod Checks
+pub mod Answered
 pub mod Heads
+pub mod Beginnings
+pub mod SomeKind
 pub mod Tests
 pub mod ReadBack
 pub mod Numbered

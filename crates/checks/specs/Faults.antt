@@ -1,7 +1,7 @@
--- The numbers of the refusals 1 to 14 ("Where a sheet is turned back") and 17 (M-104).
+-- The numbers of the refusals: 1 to 14 of a sheet ("Where a sheet is turned back"), 17 of a wide one (M-104), and those of the tools and of hosts.
 use Rattle.std.specs.Prelude.{ℕ}
 use Rattle.checks.specs.declared.fault.Fault.{Fault}
-use Rattle.checks.specs.declared.fault.Fault.TheVariants.{DistancesShort, NotHead, SizeOutOfLimits, RoadBits, RoadPlaces, RoadOrder, RoadWeight, NotSample, SampleSpareBit, LineCount, LineFields, LineParameter, LineTooShort, NotEnd, WideHead}
+use Rattle.checks.specs.declared.fault.Fault.TheVariants.{DistancesShort, NotHead, SizeOutOfLimits, RoadBits, RoadPlaces, RoadOrder, RoadWeight, NotSample, SampleSpareBit, LineCount, LineFields, LineParameter, LineTooShort, NotEnd, OutputShort, BytesRefused, WideHead, TooManyPlaces, CorrectionFaulty, CorrectionsClash}
 
 abbrev pub fault_number : Fault → ℕ
 fault_number DistancesShort = 1
@@ -18,4 +18,9 @@ fault_number LineFields = 11
 fault_number LineParameter = 12
 fault_number LineTooShort = 13
 fault_number NotEnd = 14
+fault_number OutputShort = 15
+fault_number BytesRefused = 16
 fault_number WideHead = 17
+fault_number TooManyPlaces = 18
+fault_number CorrectionFaulty = 19
+fault_number CorrectionsClash = 20

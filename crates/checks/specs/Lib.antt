@@ -2,4 +2,5 @@ pub mod Limits
 pub mod Checked
 pub mod Heads
 pub mod Faults
-pub mod Stages
+pub mod Kinds
+pub mod Said

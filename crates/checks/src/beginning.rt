@@ -4,7 +4,10 @@ ghost use Rattle.words.specs.Bytes.{words_of, after_words};
 ghost use Rattle.words.specs.Rows.{put};
 ghost use Rattle.checks.specs.Heads.{head_words, head_for, HeadFits};
 
+use crate::kind::Kind;
+
 // What they say: the head's kind, the places, what the head counts in bits 19..12 (the signals of a sheet, the lines of an answer) and the samples.
+// The kind is a number: a type of kinds would leave out heads that `put_head` writes.
 #[derive(Clone, Copy)]
 pub struct Beginning {
     pub kind: u32,
@@ -12,9 +15,6 @@ pub struct Beginning {
     pub count: usize,
     pub samples: usize,
 }
-
-// The kind 10, in bits 31..28.
-const WIDE: u32 = 2684354560;
 
 #[tactic(auto, using(words::proofs::Words::words_count, crate::proofs::Heads::few_head_words))]
 pub fn put_head(s: &mut [u8], head: Beginning, wide: bool)
@@ -25,7 +25,7 @@ pub fn put_head(s: &mut [u8], head: Beginning, wide: bool)
     let places = head.places as u32;
     let word = head.kind * 268435456 + head.count as u32 * 4096 + head.samples as u32;
     if wide {
-        words::put_word(s, 0, WIDE + places);
+        words::put_word(s, 0, Kind::Wide.word(places));
         words::put_word(s, 1, word);
         return;
     }

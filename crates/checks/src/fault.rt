@@ -1,46 +1,50 @@
-// Why a sheet is turned back.
+// Why a sheet, a list of corrections or what a host lends is turned back, and where.
 ghost use Rattle.std.specs.Prelude.{◌≡◌};
 ghost use Rattle.checks.specs.Faults.{fault_number};
 
-// A case for each refusal of the sheet itself, in the order of their numbers, 1 to 14 and 17.
-#[derive(Clone, Copy)]
+// A case for each refusal, with its number in the documents.
+#[derive(Clone, Copy, Debug, PartialEq, Eq)]
 pub enum Fault {
-    DistancesShort,
-    NotHead,
-    SizeOutOfLimits,
-    RoadBits,
-    RoadPlaces,
-    RoadOrder,
-    RoadWeight,
-    NotSample,
-    SampleSpareBit,
-    LineCount,
-    LineFields,
-    LineParameter,
-    LineTooShort,
-    NotEnd,
-    WideHead,
+    DistancesShort = 1,
+    NotHead = 2,
+    SizeOutOfLimits = 3,
+    RoadBits = 4,
+    RoadPlaces = 5,
+    RoadOrder = 6,
+    RoadWeight = 7,
+    NotSample = 8,
+    SampleSpareBit = 9,
+    LineCount = 10,
+    LineFields = 11,
+    LineParameter = 12,
+    LineTooShort = 13,
+    NotEnd = 14,
+    OutputShort = 15,
+    BytesRefused = 16,
+    WideHead = 17,
+    TooManyPlaces = 18,
+    CorrectionFaulty = 19,
+    CorrectionsClash = 20,
 }
 
-// The cases have no numbers of their own, so that those of the documents stand here and in `fault_number` alone.
-pub fn number(fault: Fault) -> u64
-    ensures { result ≡ fault_number fault }
-{
-    match fault {
-        Fault::DistancesShort => 1,
-        Fault::NotHead => 2,
-        Fault::SizeOutOfLimits => 3,
-        Fault::RoadBits => 4,
-        Fault::RoadPlaces => 5,
-        Fault::RoadOrder => 6,
-        Fault::RoadWeight => 7,
-        Fault::NotSample => 8,
-        Fault::SampleSpareBit => 9,
-        Fault::LineCount => 10,
-        Fault::LineFields => 11,
-        Fault::LineParameter => 12,
-        Fault::LineTooShort => 13,
-        Fault::NotEnd => 14,
-        Fault::WideHead => 17,
+// A fault, and the index of the word at which it is told.
+#[derive(Clone, Copy, Debug, PartialEq, Eq)]
+pub struct Refusal {
+    pub fault: Fault,
+    pub place: usize,
+}
+
+impl Fault {
+    pub fn number(self) -> u64
+        ensures { result ≡ fault_number self }
+    {
+        self as u64
+    }
+
+    // It is told at this place.
+    pub fn at(self, place: usize) -> Refusal
+        ensures { result ≡ record { fault = self; place = place } }
+    {
+        Refusal { fault: self, place }
     }
 }

@@ -4,6 +4,7 @@ ghost use Rattle.words.specs.Word.{bits};
 ghost use Rattle.words.specs.Bytes.{words_of};
 ghost use Rattle.checks.specs.Heads.{head_words, is_wide, head_of, places_of, wide_counted, wide_followed};
 
+use crate::kind::Kind;
 use crate::limits::{MOST_PLACES, within};
 use crate::word::is_kind;
 
@@ -11,7 +12,7 @@ use crate::word::is_kind;
 pub fn is_wide(s: &[u8]) -> bool
     ensures { result ≡ is_wide (words_of s.now) }
 {
-    is_kind(s, 0, 10)
+    Kind::Wide.is_at(s, 0)
 }
 
 // So many words there are before the roads of a sheet and before the lines of an answer.
@@ -36,7 +37,7 @@ pub fn head(s: &[u8]) -> u32
 fn wide_places(first: u32) -> usize
     ensures { result ≡ bits 0 16 first }
 {
-    (first % 65536) as usize
+    words::bits::<0, 16>(first) as usize
 }
 
 #[tactic(auto, unfolding(crate::specs::Heads::places_of))]
@@ -47,7 +48,7 @@ pub fn places(s: &[u8]) -> usize
     if is_wide(s) {
         return wide_places(first);
     }
-    (first / 1048576 % 256) as usize
+    words::bits::<20, 8>(first) as usize
 }
 
 // Whether the first word of a wide one has places in their limits, and nothing else.
@@ -56,14 +57,14 @@ pub fn wide_counted(s: &[u8]) -> bool
     ensures { result ≡ wide_counted (words_of s.now) }
 {
     let first = words::word_or_zero(s, 0);
-    within(wide_places(first), MOST_PLACES) && first / 65536 % 4096 == 0
+    within(wide_places(first), MOST_PLACES) && words::bits::<16, 12>(first) == 0
 }
 
-// Whether a head of this kind, with places 0, follows it.
+// Whether a head of the kind with this number, with places 0, follows it. Asked with a number as `is_kind` is.
 #[tactic(auto, unfolding(crate::specs::Heads::wide_followed))]
 pub fn wide_followed(s: &[u8], kind: u32) -> bool
     requires { 0 < kind }
     ensures { result ≡ wide_followed (words_of s.now) kind }
 {
-    is_kind(s, 1, kind) && words::word_or_zero(s, 1) / 1048576 % 256 == 0
+    is_kind(s, 1, kind) && words::bits::<20, 8>(words::word_or_zero(s, 1)) == 0
 }

@@ -1,5 +1,5 @@
 -- One correction after the other and one part after the other: what is known when the next one comes, what its turn decides, and that values agree where all have passed.
-use mathlib.Core.Path.{◌≡◌, refl, subst}
+use mathlib.Core.Path.{◌≡◌, refl, sym, ap, subst, ◌∙◌}
 use mathlib.Core.Logic.{⊎_elim}
 use mathlib.Core.Bool.{true, false, not}
 use mathlib.Core.List.{List}
@@ -8,16 +8,24 @@ use native.Mathlib.Decide.{dec_lt}
 use native.Mathlib.Omega.{arith}
 use borrow.Author.Tests.{not-true}
 use lib.Dec.{T}
-use lib.ListN.{length}
+use lib.ListN.{length, replicate, length-replicate}
 use Rattle.counting.proofs.Tests.{holds, below}
+use Rattle.words.specs.Bytes.{words_of}
+use Rattle.words.proofs.Words.{words_count}
+use Rattle.words.proofs.Zeros.{zero_words}
 use Rattle.checks.specs.Checked.{accepted, refused}
 use Rattle.checks.proofs.Checks.{require_accepted}
 use Rattle.corrections.specs.declared.correction.Grid.{Grid}
 use Rattle.corrections.specs.Corrections.{value, same_revision, in_turn, disagrees_with, agrees}
 use Rattle.corrections.proofs.Turns.{turn_refused, each_passed}
 use Rattle.clashes.specs.declared.Part.{Part}
-use Rattle.clashes.specs.Chains.{part_before, Chained, Searched, First, Next, PartNext}
+use Rattle.clashes.specs.Chains.{part_before, Chained, HeadsFit, Searched, First, Next, PartNext}
+use Rattle.clashes.proofs.Chaining.{no_chains}
 use Rattle.clashes.proofs.Disagreeing.{disagrees_more, one_value}
+
+-- as many bytes hold as many words
+as_many : (bytes lent : List ℕ) → length bytes ≡ length lent → length (words_of lent) ≡ length (words_of bytes)
+as_many bytes lent long = omega (arith, words_count bytes, words_count lent)
 
 module _ (c : List ℕ) (g : Grid) where
   agreed_told : (k : ℕ) → agrees c g k ≡ accepted tt → disagrees_with c g k k ≡ false
@@ -71,18 +79,26 @@ module _ (c : List ℕ) (g : Grid) where
     clash = first.clash;
   }
 
+  -- in words that are all zero no part is chained
+  pub begins_anew : (p : Part) (end : ℕ) (lent bytes after : List ℕ) → after ≡ replicate (length bytes) 0 → length bytes ≡ length lent
+      → HeadsFit p.heads p.size (length (words_of lent)) → p.from ≤ end → Searched c g p.from end → PartNext c g p (words_of after) end
+  begins_anew p end lent bytes after zeros long room begins searched = record {
+    room = subst (HeadsFit p.heads p.size) (as_many after lent (ap length zeros ∙ length-replicate (length bytes) 0 ∙ long)) room;
+    begins = begins;
+    chained = subst (λ (w : List ℕ). Chained c g p w 0) (sym (ap words_of zeros ∙ zero_words bytes)) (no_chains c g p (length (words_of bytes)));
+    searched = searched;
+  }
+
   -- ---- one correction after the other
   module _ (p : Part) (k : ℕ) (begun : p.from ≤ k) where
     -- as far as the part goes
     reach : p.from + part_before p k ≡ min k (p.from + p.size)
     reach = omega arith
 
-    pub comes_next : (links : List ℕ) (end : ℕ) → PartNext c g p links end → k < end → (later : List ℕ) → length later ≡ length links
-        → Chained c g p later (part_before p k) → Searched c g (p.from + p.size) k → Next c g p later k
-    comes_next links end part inside later long chained searched = record {
-      aimed = λ i l. part.aimed i (omega arith);
-      fits = part.fits;
-      room = rw long part.room;
+    pub comes_next : (lent bytes : List ℕ) (end : ℕ) → PartNext c g p (words_of lent) end → k < end → length bytes ≡ length lent
+        → Chained c g p (words_of bytes) (part_before p k) → Searched c g (p.from + p.size) k → Next c g p (words_of bytes) k
+    comes_next lent bytes end part inside long chained searched = record {
+      room = subst (HeadsFit p.heads p.size) (as_many bytes lent long) part.room;
       begun = begun;
       chained = chained;
       agreed = λ i l. let all : min i (p.from + p.size) ≡ i = omega (arith, reach) in subst (λ (m : ℕ). disagrees_with c g i m ≡ false) all (searched i (omega (arith, reach)));

@@ -2,17 +2,21 @@
 -- words hold chains: first so many heads, one for each chain, then a link for each correction of the part, which are counted from its first. Only the first of each
 -- sample and revision is in a chain. A head tells the last of its chain, and a link the one before its own, each by one more than its number, 0 for none. Without
 -- heads every correction of the part is a candidate.
-use Rattle.std.specs.Prelude.{ℕ, zero, suc, ◌+◌, ◌-◌, ◌*◌, ◌%◌, ◌<◌, ◌≤◌, ◌^◌, min, ◌≡◌, Bool, true, false, cond, ◌&&◌, ◌||◌, List, T, eqb, length}
+use Rattle.std.specs.Prelude.{ℕ, zero, suc, ◌+◌, ◌-◌, ◌*◌, ◌%◌, ◌<◌, ◌≤◌, ◌^◌, min, ◌≡◌, Bool, true, false, cond, ◌&&◌, ◌||◌, List, Option, None, Some, T, eqb, length}
 use Rattle.checks.specs.Checked.{word_at}
 use Rattle.corrections.specs.declared.correction.Grid.{Grid}
 use Rattle.corrections.specs.Corrections.{revision, target, same_revision, disagrees_with}
-use Rattle.corrections.specs.Aimed.{GridFits, AllAimed}
 use Rattle.clashes.specs.declared.Part.{Part}
 
 -- one more than the last number below n that passes, 0 for none
 unfoldable pub last_below : (ℕ → Bool) → ℕ → ℕ
 last_below test zero = 0
 last_below test (suc n) = cond (test n) (suc n) (last_below test n)
+
+-- the number that is told by one more than itself, 0 for none
+abbrev pub number_before : ℕ → Option ℕ
+number_before zero = None
+number_before (suc j) = Some j
 
 -- How far the chains of one revision and of the next lie apart. Any number would do; this one keeps revisions of neighbouring samples out of one chain.
 abbrev pub spread : ℕ
@@ -55,11 +59,10 @@ HeadsFit heads size room = 0 < heads → (heads + size ≤ room) × (size < 2 ^ 
 abbrev pub earlier : (heads : ℕ) (links : List ℕ) (j : ℕ) → ℕ
 earlier heads links j = cond (eqb heads 0) j (word_at links (heads + j))
 
--- one more than the number in the part of a correction that has the sample and revision of k and comes before it, 0 if there is none
-pub record FoundSame (c : List ℕ) (g : Grid) (p : Part) (k found : ℕ) : Type 0 where
-  pub inside : found ≤ part_before p k
-  pub none : found ≡ 0 → T (alone c g p k (part_before p k))
-  pub one : (j : ℕ) → found ≡ suc j → T (same_in_part c g p k j)
+-- a correction of the part that has the sample and revision of k and comes before it, by its number in the part; none only if there is none
+abbrev pub FoundSame : List ℕ → Grid → Part → (k : ℕ) → Option ℕ → Type 0
+FoundSame c g p k None = T (alone c g p k (part_before p k))
+FoundSame c g p k (Some j) = (j < part_before p k) × T (same_in_part c g p k j)
 
 module _ (c : List ℕ) (g : Grid) where
   -- no correction below `end` disagrees with one before it among the first n
@@ -72,10 +75,8 @@ module _ (c : List ℕ) (g : Grid) where
     pub searched : Searched n found
     pub clash : found < end → disagrees_with c g found found ≡ true
 
-  -- correction k comes next: it is aimed, and disagrees with none before the part; those of the part before it are chained and agree
+  -- correction k comes next: it disagrees with none before the part; those of the part before it are chained and agree
   pub record Next (p : Part) (links : List ℕ) (k : ℕ) : Type 0 where
-    pub aimed : AllAimed c g (k + 1)
-    pub fits : GridFits g
     pub room : HeadsFit p.heads p.size (length links)
     pub begun : p.from ≤ k
     pub chained : Chained c g p links (part_before p k)
@@ -84,8 +85,6 @@ module _ (c : List ℕ) (g : Grid) where
 
   -- a part is to be chained, and those below `end` to be compared with it, of which none disagrees with one before the part
   pub record PartNext (p : Part) (links : List ℕ) (end : ℕ) : Type 0 where
-    pub aimed : AllAimed c g end
-    pub fits : GridFits g
     pub room : HeadsFit p.heads p.size (length links)
     pub begins : p.from ≤ end
     pub chained : Chained c g p links 0

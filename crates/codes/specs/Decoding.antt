@@ -7,15 +7,12 @@ use Rattle.codes.specs.declared.operator.Direction.TheVariants.{Forward, Backwar
 use Rattle.codes.specs.declared.operator.Operator.{Operator}
 use Rattle.codes.specs.declared.operator.Operator.TheVariants.{True, AtLeast, AtMost, Not, And, Until, Somewhere, Surrounded, Or, Eventually, Always, Everywhere}
 use Rattle.codes.specs.declared.operator.Fields.{Fields}
-use Rattle.codes.specs.declared.operator.ReadConstant as C
-use Rattle.codes.specs.declared.operator.ReadBounds as B
-use Rattle.codes.specs.declared.operator.ReadOperator as O
-use Rattle.checks.specs.Faults.{fault_number}
-use Rattle.checks.specs.Checked.{Checked, accepted, refused}
+use Rattle.codes.specs.declared.operator.Bounds.{Bounds}
+use Rattle.checks.specs.Checked.{Checked}
 use Rattle.codes.specs.Codes.{Code, constant, atom, unary, binary, unary_bounded, binary_bounded, unknown, code_of}
 use Rattle.codes.specs.Operators.{code_field, left_field, right_field, Read, unused, fields_below, plain, with_constant, with_bounds}
 
--- ---- what the enums of the code say
+-- ---- what the types of the code say
 
 abbrev pub side_said : Direction → Formulas.Direction
 side_said Forward = Formulas.forward
@@ -35,17 +32,13 @@ operator_said (Eventually side left b) = Formulas.Eventually (side_said side) le
 operator_said (Always side left b) = Formulas.Always (side_said side) left b.lower b.upper
 operator_said (Everywhere left b) = Formulas.Everywhere left b.lower b.upper
 
-abbrev pub constant_said : C.ReadConstant → Checked ℤ
-constant_said (C.TheVariants.Constant c) = accepted c
-constant_said (C.TheVariants.Refused fault place) = refused (fault_number fault) place
+-- lower and upper
+abbrev pub bounds_read : Bounds → ℕ × ℕ
+bounds_read b = (b.lower, b.upper)
 
-abbrev pub bounds_said : B.ReadBounds → Checked (ℕ × ℕ)
-bounds_said (B.TheVariants.Bounds b) = accepted (b.lower, b.upper)
-bounds_said (B.TheVariants.Refused fault place) = refused (fault_number fault) place
-
-abbrev pub read_said : O.ReadOperator → Checked Read
-read_said (O.TheVariants.Operator operator next) = accepted (operator_said operator, next)
-read_said (O.TheVariants.Refused fault place) = refused (fault_number fault) place
+-- an operator and the index after its words
+abbrev pub operator_and_next : Operator × ℕ → Read
+operator_and_next read = (operator_said read.0, read.1)
 
 -- ---- the fields of a line word, and the three kinds of lines: with no parameter, with a constant, with bounds
 

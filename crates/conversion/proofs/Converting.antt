@@ -1,13 +1,15 @@
 -- What the converter's code decides, step by step: what is known of a valid sheet, and what is left in each case.
-use mathlib.Core.Path.{◌≡◌, refl, ap, subst, ◌∙◌}
+use mathlib.Core.Path.{◌≡◌, refl, sym, ap, ap₂, subst, ◌∙◌}
 use mathlib.Core.Bool.{Bool}
 use mathlib.Core.List.{List}
 use Prim.Native.Nat.{ℕ, ◌*◌, ◌<◌, ◌≤◌, ◌^◌}
 use native.Mathlib.Omega.{arith}
-use lib.ListN.{length}
+use Rattle.std.specs.Prelude.{Ok}
+use lib.ListN.{length, take}
 use lib.Dec.{leb}
 use borrow.Author.Tests.{le-leb, lt-leb}
 use Rattle.words.specs.Bytes.{words_of}
+use Rattle.words.proofs.Puts.{front_take}
 use Rattle.checks.specs.Limits.{most_places}
 use Rattle.checks.specs.Checked.{accepted, refused, require, mapped}
 use Rattle.checks.specs.Heads.{most_of, is_wide, HeadFits}
@@ -18,10 +20,10 @@ use Rattle.sheet.specs.Layout.{Layout, validated}
 use Rattle.sheet.specs.Checking.{layout_of}
 use Rattle.sheet.proofs.Whole.{AcceptedSheet, accepted_sheet, few_words}
 use Rattle.sheet.proofs.HeadWords.{sizes_fit}
-use Rattle.tool.specs.Tool.{refusal, whole, left}
-use Rattle.tool.proofs.Leaving.{room_for, no_room_for}
+use Rattle.tool.specs.Tool.{refusal, whole, left, Makes}
+use Rattle.tool.proofs.Leaving.{room_for, no_room_for, same_words, words_made}
 use Rattle.conversion.specs.Relaid.{relaid, converted}
-use Rattle.conversion.specs.Lent.{converted_in, spelled, relaid_in, words_in, Ready}
+use Rattle.conversion.specs.Lent.{converted_in, spelled, relaid_in, words_in, sheet_put, Ready}
 use Rattle.conversion.proofs.Words.{relaid_length}
 
 module _ (to : Bool) (sheet output : List ℕ) where
@@ -75,3 +77,15 @@ module _ (to : Bool) (sheet output : List ℕ) where
         fits = subst (λ (l : Code.Layout). l.places ≤ most_of to → HeadFits 1 to l.places l.signals l.samples) found.2 (sizes_fit found.0.sizes to valid.sizes) few;
         room = fits;
       }
+
+      -- the words that were written are those that are to be left
+      pub sheet_made : words_in to sheet layout ≤ room → (after : List ℕ) {count : ℕ} → count ≡ words_in to sheet layout → length after ≡ length output → words_of after ≡ sheet_put to sheet layout output
+          → Makes (converted_in to sheet output) (Ok count) (words_of after)
+      sheet_made fits after {count} counted long written =
+          let made = relaid_in to sheet layout in
+          let all : count ≡ length made = counted ∙ sym made_length in
+          words_made (converted_in to sheet output) made count room (words_of after) (same_words after output long) all (omega (arith, counted))
+          (ap₂ take all written ∙ front_take (words_of output) made (length made) refl) (enough fits)
+
+-- by these the code decides
+pub ruleset decisions = (turned_back, known, too_many, too_short)

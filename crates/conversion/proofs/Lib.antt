@@ -1,5 +1,6 @@
 pub mod Examples
 pub mod Words
+pub mod Writing
 pub mod Road
 pub mod Roads
 pub mod Accepted

@@ -1,12 +1,13 @@
 -- What the converter leaves, by the bytes that it is lent; and, for inner contracts, what is known of a valid sheet when its words are laid out anew.
 use Rattle.std.specs.Prelude.{◌≡◌, Bool, List, [], ℕ, ◌+◌, ◌-◌, ◌<◌, ◌≤◌, ◌^◌, length}
 use Rattle.words.specs.Bytes.{words_of}
-use Rattle.checks.specs.Heads.{is_wide, HeadFits}
+use Rattle.words.specs.Rows.{concat, put}
+use Rattle.checks.specs.Heads.{head_words, is_wide, HeadFits}
 use Rattle.roads.specs.Roads.{road_at}
 use Rattle.sheet.specs.declared.check.Layout as Code
 use Rattle.sheet.specs.Layout.{Layout}
 use Rattle.tool.specs.Tool.{Left, left}
-use Rattle.conversion.specs.Relaid.{relaid, converted}
+use Rattle.conversion.specs.Relaid.{road_relaid, relaid, converted}
 
 -- of sheet and output; of the output only how many words there are counts
 abbrev pub converted_in : Bool → List ℕ → List ℕ → Left
@@ -26,6 +27,16 @@ relaid_in to sheet layout = relaid to (words_of sheet) (spelled layout)
 -- how many words they are
 abbrev pub words_in : Bool → List ℕ → Code.Layout → ℕ
 words_in to sheet layout = road_at to layout.roads + (length (words_of sheet) - layout.recording)
+
+-- a sheet has these roads, and there is room for them in the layout; the words with the roads put behind the head, and with the whole sheet at the front
+abbrev pub RoadsFit : Bool → (sheet : List ℕ) → (roads : ℕ) → (output : List ℕ) → Type 0
+RoadsFit to sheet roads output = (road_at (is_wide (words_of sheet)) roads ≤ length (words_of sheet)) × (road_at to roads ≤ length (words_of output))
+
+abbrev pub roads_put : Bool → (sheet : List ℕ) → (roads : ℕ) → (output : List ℕ) → List ℕ
+roads_put to sheet roads output = put (words_of output) (head_words to) (concat (road_relaid to (words_of sheet)) roads)
+
+abbrev pub sheet_put : Bool → (sheet : List ℕ) → Code.Layout → (output : List ℕ) → List ℕ
+sheet_put to sheet layout output = put (words_of output) 0 (relaid_in to sheet layout)
 
 pub record Ready (to : Bool) (sheet : List ℕ) (layout : Code.Layout) (output : List ℕ) : Type 0 where
   pub begins : layout.recording ≡ road_at (is_wide (words_of sheet)) layout.roads

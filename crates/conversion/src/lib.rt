@@ -3,24 +3,18 @@
 
 ghost use Rattle.std.specs.Prelude.{◌≡◌, ◌≤◌, length, replicate};
 ghost use Rattle.words.specs.Bytes.{words_of, after_words};
-ghost use Rattle.words.specs.Rows.{concat, put};
-ghost use Rattle.checks.specs.Heads.{head_words, most_of, is_wide};
-ghost use Rattle.roads.specs.Roads.{road_at};
-ghost use Rattle.conversion.specs.Relaid.{laid_out, road_relaid};
-ghost use Rattle.conversion.specs.Lent.{converted_in, relaid_in, Ready};
+ghost use Rattle.checks.specs.Heads.{most_of};
+ghost use Rattle.conversion.specs.Relaid.{laid_out};
+ghost use Rattle.tool.specs.Tool.{told_by, Makes};
+ghost use Rattle.conversion.specs.Lent.{converted_in, RoadsFit, roads_put, sheet_put, Ready};
 
 use checks::beginning::{Beginning, put_head};
-use checks::head::{head_words, is_wide};
+use checks::fault::{Fault, Refusal};
+use checks::head::is_wide;
+use checks::kind::Kind;
 use checks::limits::{MOST_NARROW, MOST_PLACES};
-use roads::road::{first_place, road_at, second_place};
-use sheet::check::{Check, Layout, check_words};
-use tool::{OUTPUT_SHORT, Told, finish, refuse};
-
-// More places than a narrow sheet can have.
-const TOO_MANY_PLACES: u64 = 18;
-
-// The kind 15, in bits 31..28.
-const END: u32 = 4026531840;
+use roads::road::{Road, road_at};
+use sheet::check::{Layout, check_words};
 
 // The most places of a layout.
 fn most_places(wide: bool) -> usize
@@ -30,12 +24,12 @@ fn most_places(wide: bool) -> usize
 }
 
 // The first word of a road of one layout in another: what stands above the places, bits 31..26, stays.
-fn lay_out(road: u32, from: bool, to: bool) -> u32
-    ensures { result ≡ laid_out from to road }
+fn lay_out(road: Road, to: bool) -> u32
+    ensures { result ≡ laid_out road.wide to road.word }
 {
-    let above = road / 67108864 * 67108864;
-    let first = first_place(road, from) as u32;
-    let second = second_place(road, from) as u32;
+    let above = road.word / 67108864 * 67108864;
+    let first = road.first() as u32;
+    let second = road.second() as u32;
     if to {
         return above + first * 4096 + second;
     }
@@ -43,16 +37,20 @@ fn lay_out(road: u32, from: bool, to: bool) -> u32
 }
 
 // Writes the two words of each road behind the words of the head.
-#[tactic(auto, using(words::proofs::Words::words_count, checks::proofs::Heads::few_head_words))]
+#[tactic(auto, using(words::proofs::Words::words_count, checks::proofs::Heads::few_head_words, crate::proofs::Writing::roads_none))]
 fn write_roads(sheet: &[u8], roads: usize, to: bool, output: &mut [u8])
-    requires { (road_at (is_wide (words_of sheet.now)) roads ≤ length (words_of sheet.now)) × (road_at to roads ≤ length (words_of output.old)) }
-    ensures { words_of output.new ≡ put (words_of output.old) (head_words to) (concat (road_relaid to (words_of sheet.now)) roads) }
+    requires { RoadsFit to sheet.now roads output.old }
+    ensures { words_of output.new ≡ roads_put to sheet.now roads output.old }
 {
     let from = is_wide(sheet);
     for r in 0..roads {
         let at = road_at(from, r);
         let behind = road_at(to, r);
-        words::put_word(output, behind, lay_out(words::word_at(sheet, at), from, to));
+        let road = Road {
+            word: words::word_at(sheet, at),
+            wide: from,
+        };
+        words::put_word(output, behind, lay_out(road, to));
         words::put_word(output, behind + 1, words::word_at(sheet, at + 1));
     }
 }
@@ -61,12 +59,12 @@ fn write_roads(sheet: &[u8], roads: usize, to: bool, output: &mut [u8])
 #[tactic(auto, using(words::proofs::Words::words_count, checks::proofs::Heads::few_head_words))]
 fn write_sheet(sheet: &[u8], layout: Layout, to: bool, output: &mut [u8])
     requires { Ready to sheet.now layout output.old }
-    ensures { words_of output.new ≡ put (words_of output.old) 0 (relaid_in to sheet.now layout) }
+    ensures { words_of output.new ≡ sheet_put to sheet.now layout output.old }
 {
     put_head(
         output,
         Beginning {
-            kind: 1,
+            kind: Kind::Head.number(),
             places: layout.places,
             count: layout.signals,
             samples: layout.samples,
@@ -79,28 +77,33 @@ fn write_sheet(sheet: &[u8], layout: Layout, to: bool, output: &mut [u8])
     let end = behind + (last - layout.recording);
     let from = layout.recording * 4;
     words::copy_bytes(&sheet[from..last * 4], output, behind * 4);
-    words::put_word(output, end, END + end as u32);
+    words::put_word(output, end, Kind::End.word(end as u32));
 }
 
-// Converts a sheet to the layout that is asked for. A sheet's own fault comes first, then 18, and an output that is too short last.
-#[tactic(auto, using(crate::proofs::Converting::turned_back, crate::proofs::Converting::known, crate::proofs::Converting::too_many, crate::proofs::Converting::too_short, checks::proofs::Heads::few_head_words, tool::proofs::Leaving::same_words, words::proofs::Zeros::zero_words, words::proofs::Zeros::zero_words_tail))]
-pub fn convert(sheet: &[u8], to: bool, output: &mut [u8]) -> Told
-    ensures told { result ≡ (converted_in to sheet.now output.old).told }
+// Makes the words at the front of the output. A sheet's own fault comes first, then 18, and an output that is too short last.
+#[tactic(auto, using(crate::proofs::Converting::decisions, checks::proofs::Heads::few_head_words, tool::proofs::Leaving::refusal_made))]
+fn make(sheet: &[u8], to: bool, output: &mut [u8]) -> Result<usize, Refusal>
+    ensures { Makes (converted_in to sheet.now output.old) result (words_of output.new) }
+{
+    let layout = check_words(sheet)?;
+    if most_places(to) < layout.places {
+        return Err(Fault::TooManyPlaces.at(0));
+    }
+    let count = road_at(to, layout.roads) + (words::word_count(sheet) - layout.recording);
+    if words::word_count(output) < count {
+        return Err(Fault::OutputShort.at(words::word_count(sheet)));
+    }
+    write_sheet(sheet, layout, to, output);
+    Ok(count)
+}
+
+// Converts a sheet to the layout that is asked for, and tells how many words it has then. Wide or not is a flag, as in the definitions and in the calls of hosts.
+#[tactic(auto, using(tool::proofs::Leaving::same_tail))]
+pub fn convert(sheet: &[u8], to: bool, output: &mut [u8]) -> Result<usize, Refusal>
+    ensures told { told_by result ≡ (converted_in to sheet.now output.old).told }
     ensures left { words_of output.new ≡ (converted_in to sheet.now output.old).output }
     ensures tail { after_words output.new ≡ replicate (length (after_words output.old)) 0 }
 {
-    match check_words(sheet) {
-        Check::Refused(fault, place) => refuse(output, checks::fault::number(fault), place),
-        Check::Accepted(layout) => {
-            if most_places(to) < layout.places {
-                return refuse(output, TOO_MANY_PLACES, 0);
-            }
-            let count = road_at(to, layout.roads) + (words::word_count(sheet) - layout.recording);
-            if words::word_count(output) < count {
-                return refuse(output, OUTPUT_SHORT, words::word_count(sheet));
-            }
-            write_sheet(sheet, layout, to, output);
-            finish(output, count)
-        }
-    }
+    let made = make(sheet, to, output);
+    tool::leave(made, output)
 }

@@ -1,9 +1,10 @@
 -- What the tool's code decides, step by step: what is known of a valid sheet and of a list that has passed, and what is left in each case.
-use mathlib.Core.Path.{◌≡◌, ap, subst, ◌∙◌}
+use mathlib.Core.Path.{◌≡◌, refl, sym, ap, subst, ◌∙◌}
+use Rattle.std.specs.Prelude.{Ok}
 use mathlib.Core.List.{List}
 use Prim.Native.Nat.{ℕ, ◌*◌, ◌<◌, ◌≤◌}
 use native.Mathlib.Omega.{arith}
-use lib.ListN.{length}
+use lib.ListN.{length, take}
 use Rattle.words.specs.Bytes.{words_of}
 use Rattle.words.proofs.Rows.{length-row}
 use Rattle.checks.specs.Limits.{most_places}
@@ -13,11 +14,11 @@ use Rattle.sheet.specs.declared.check.Layout as Code
 use Rattle.sheet.specs.Layout.{Layout, validated}
 use Rattle.sheet.specs.Checking.{layout_of}
 use Rattle.sheet.proofs.Whole.{AcceptedSheet, accepted_sheet, few_words}
-use Rattle.tool.specs.Tool.{refusal, whole, left}
-use Rattle.tool.proofs.Leaving.{room_for, no_room_for}
+use Rattle.tool.specs.Tool.{refusal, whole, left, Makes}
+use Rattle.tool.proofs.Leaving.{room_for, no_room_for, same_words, words_made}
 use Rattle.corrections.specs.declared.correction.Grid.{Grid}
 use Rattle.corrections.specs.Corrections.{count, well_formed, agrees, in_turn, list_checked}
-use Rattle.corrections.specs.Aimed.{AllAimed}
+use Rattle.corrections.specs.Aimed.{GridFits, AllAimed}
 use Rattle.corrections.proofs.Aiming.{all_aimed}
 use Rattle.correcting.specs.Corrected.{grid_of, corrected_words, corrected}
 use Rattle.correcting.specs.Lent.{corrected_in, applied_in, grid_in, Targets, NoRevisions}
@@ -35,9 +36,9 @@ module _ (sheet list output : List ℕ) where
 
   -- ---- a list that has passed 19
   module _ (g : Grid) where
-    pub clashes : {index : ℕ} → in_turn (agrees c g) (count c) ≡ refused 20 index → applied_in sheet list output g ≡ refusal room 20 index
+    pub clashes : {n number index : ℕ} → n ≡ count c → in_turn (agrees c g) n ≡ refused number index → applied_in sheet list output g ≡ refusal room number index
     unfolding left
-    clashes e = simp e
+    clashes all e = let told = ap (in_turn (agrees c g)) (sym all) ∙ e in simp told
 
     pub corrected_length : length (corrected_words s c g) ≡ length s
     unfolding corrected_words
@@ -49,6 +50,14 @@ module _ (sheet list output : List ℕ) where
 
       pub enough : length s ≤ room → applied_in sheet list output g ≡ whole room (corrected_words s c g)
       enough fits = simp agree (room_for (corrected_words s c g) (length s) room (omega (arith, corrected_length)))
+
+    -- where no two disagree and there is room, the words that were written are those that are to be left
+    pub sheet_made : {n : ℕ} → n ≡ count c → in_turn (agrees c g) n ≡ accepted tt → length s ≤ room → (after : List ℕ) {made : ℕ} → made ≡ length s → length after ≡ length output
+        → take (length s) (words_of after) ≡ corrected_words s c g → Makes (applied_in sheet list output g) (Ok made) (words_of after)
+    sheet_made all agreed fits after {made} counted long written =
+        words_made (applied_in sheet list output g) (corrected_words s c g) made room (words_of after) (same_words after output long)
+        (counted ∙ sym corrected_length) (omega (arith, counted)) (ap (λ n. take n (words_of after)) counted ∙ written)
+        (enough (ap (in_turn (agrees c g)) (sym all) ∙ agreed) fits)
 
   -- ---- the sheet first, then 19
   pub turned_back : {number place : ℕ} → mapped (layout_of s) (validated s) ≡ refused number place → corrected_in sheet list output ≡ refusal room number place
@@ -66,7 +75,7 @@ module _ (sheet list output : List ℕ) where
         ap (λ checked. left (checked >>= λ L. list_checked c (grid_of s L) >>= λ _. accepted (corrected_words s c (grid_of s L))) (length s) room) found.1
         ∙ ap (λ (l : Code.Layout). left (list_checked c (grid_in l) >>= λ _. accepted (corrected_words s c (grid_in l))) (length s) room) found.2
 
-    pub faulty : {index : ℕ} → in_turn (well_formed c (grid_in layout)) (count c) ≡ refused 19 index → corrected_in sheet list output ≡ refusal room 19 index
+    pub faulty : {number index : ℕ} → in_turn (well_formed c (grid_in layout)) (count c) ≡ refused number index → corrected_in sheet list output ≡ refusal room number index
     unfolding list_checked left
     faulty told = decided ∙ simp told
 
@@ -75,27 +84,36 @@ module _ (sheet list output : List ℕ) where
     valid = accepted_sheet s (most_places * most_places) found.0 found.1
 
     abbrev Lists : Code.Layout → Type 0
-    Lists l = AllAimed c (grid_in l) (count c) → Targets c (grid_in l) s × NoRevisions c (grid_in l) s
+    Lists l = AllAimed c (grid_in l) (count c) → Targets c (grid_in l) (count c) s × NoRevisions c (grid_in l) s
 
     -- the samples stand where the grid says
     aimed_targets : Lists (layout_of s found.0)
     aimed_targets aimed = (
-      record {
-        aimed = aimed;
-        fits = record {
-          begins = omega (arith, valid.table_there, few_words s (most_places * most_places) found.0 valid);
-          few_places = valid.sizes.places_most;
-          few_signals = valid.sizes.signals_most;
-        };
-        inside = λ k h. target_inside s (most_places * most_places) found.0 valid c k (aimed k h);
-      },
+      record { all = refl; inside = λ k h. target_inside s (most_places * most_places) found.0 valid c k (aimed k h) },
       λ k h. omega (arith, (target_sample s (most_places * most_places) found.0 valid c k (aimed k h)).kind),
     )
+
+    pub grid_fits : GridFits (grid_in layout)
+    grid_fits = subst (λ (l : Code.Layout). GridFits (grid_in l)) found.2 (record {
+      begins = omega (arith, valid.table_there, few_words s (most_places * most_places) found.0 valid);
+      few_places = valid.sizes.places_most;
+      few_signals = valid.sizes.signals_most;
+    })
 
     module _ (passed : in_turn (well_formed c (grid_in layout)) (count c) ≡ accepted tt) where
       pub list_passed : corrected_in sheet list output ≡ applied_in sheet list output (grid_in layout)
       unfolding list_checked
       list_passed = decided ∙ simp passed
 
-      pub list_targets : Targets c (grid_in layout) s × NoRevisions c (grid_in layout) s
-      list_targets = subst Lists found.2 aimed_targets (all_aimed c (grid_in layout) (count c) passed)
+      pub list_aimed : AllAimed c (grid_in layout) (count c)
+      list_aimed = all_aimed c (grid_in layout) (count c) passed
+
+      pub list_targets : Targets c (grid_in layout) (count c) s × NoRevisions c (grid_in layout) s
+      list_targets = subst Lists found.2 aimed_targets list_aimed
+
+    -- the same of the grid and the count that the code has
+    pub list_known : {g : Grid} {n : ℕ} → g ≡ grid_in layout → n ≡ count c → in_turn (well_formed c g) (count c) ≡ accepted tt → AllAimed c g n × GridFits g
+    list_known same all passed = rw (same, all) (list_aimed (rw same at passed), grid_fits)
+
+-- by these the code decides
+pub ruleset decisions = (turned_back, faulty, grid_fits, list_aimed, list_passed, list_targets)

@@ -20,12 +20,8 @@ use Rattle.correcting.specs.Lent.{after_revisions, raised_to, raised_by, raised_
 
 module _ (c : List ℕ) (g : Grid) where
   -- every correction is still aimed at a word
-  pub targets_kept : {v w : List ℕ} → Targets c g v → length v ≤ length w → Targets c g w
-  targets_kept targets long = record {
-    aimed = targets.aimed;
-    fits = targets.fits;
-    inside = λ k h. omega (arith, targets.inside k h);
-  }
+  pub targets_kept : {n : ℕ} {v w : List ℕ} → Targets c g n v → length v ≤ length w → Targets c g n w
+  targets_kept targets long = record { all = targets.all; inside = λ k h. omega (arith, targets.inside k h) }
 
   pub highest_small : (index n : ℕ) → highest c g index n < after_revisions
   highest_small index n = omega (arith, over_le (aimed_here c g index) (revision c) n 255 (λ k _ _. omega arith))

@@ -3,7 +3,7 @@ use mathlib.Core.Path.{◌≡◌, refl, sym, subst, ◌∙◌}
 use mathlib.Core.Logic.{◌⊎◌, inl, inr, ⊎_elim}
 use mathlib.Core.Bool.{true, false, false≢true}
 use mathlib.Core.List.{List}
-use Prim.Native.Nat.{ℕ, suc, ◌<◌, ◌≤◌, zero-le}
+use Prim.Native.Nat.{ℕ, suc, ◌-◌, ◌<◌, ◌≤◌, zero-le}
 use native.Mathlib.Nat.{eq-or-lt_of_le}
 use native.Mathlib.Decide.{ℕ_discrete}
 use native.Mathlib.Omega.{arith}
@@ -18,7 +18,7 @@ use Rattle.corrections.specs.declared.correction.Grid.{Grid}
 use Rattle.corrections.specs.Corrections.{count, revision, value, target}
 use Rattle.corrections.specs.Aimed.{Aimed}
 use Rattle.correcting.specs.Corrected.{aimed_here, highest, counts, word_after}
-use Rattle.correcting.specs.Lent.{after_revisions, given_way, raised_by, settled_once, AllRaised, AllCorrected}
+use Rattle.correcting.specs.Lent.{after_revisions, given_way, raised_by, settled_once, AllRaised, AllCorrected, AllSettled}
 
 module _ (c : List ℕ) (g : Grid) where
   -- the word at an index where w stood before, with so many corrections left
@@ -92,7 +92,7 @@ module _ (c : List ℕ) (g : Grid) where
   pub settled_none : (before words : List ℕ) → AllRaised c g before words → Settled before words (count c)
   settled_none before words raised index = inl (raised index, refl, λ k h l. absurd (omega arith))
 
-  pub settled_less : (before words : List ℕ) {left : ℕ} (k : ℕ) → left ≡ suc k → k < count c → Aimed c g k → target c g k < length words
+  settled_less : (before words : List ℕ) {left : ℕ} (k : ℕ) → left ≡ suc k → k < count c → Aimed c g k → target c g k < length words
       → Settled before words left → Settled before (settled_once c g words k) k
   settled_less before words k one_more inside aimed there settled index = by_target (ℕ_discrete index (target c g k)) (rw one_more at settled index)
     where
@@ -103,5 +103,18 @@ module _ (c : List ℕ) (g : Grid) where
           rw stored (aimed_here_lem index (word_at before index) k (word_at words index) here aimed inside word)
       by_target (no other) word = rw (get_or-set_other words (target c g k) index _ 0 other) (aimed_elsewhere index (word_at before index) k (word_at words index) other word)
 
-  pub settled_all : (before words : List ℕ) → Settled before words 0 → AllCorrected c g before words
+  settled_all : (before words : List ℕ) → Settled before words 0 → AllCorrected c g before words
   settled_all before words settled index = none_left index (word_at before index) (word_at words index) (settled index)
+
+  -- ---- whatever stood before all were raised, with so many corrections left
+  abbrev pub SettledTo : (raised words : List ℕ) → ℕ → Type 0
+  SettledTo raised words left = (before : List ℕ) → AllRaised c g before raised → Settled before words left
+
+  pub one_settled : (raised words after : List ℕ) (left : ℕ) → 0 < left → left ≤ count c → Aimed c g (left - 1) → target c g (left - 1) < length words → after ≡ settled_once c g words (left - 1)
+      → SettledTo raised words left → SettledTo raised after (left - 1)
+  one_settled raised words after left some most aimed there stored settled before all =
+      let one_more : left ≡ suc (left - 1) = omega arith in
+      subst (λ w. Settled before w (left - 1)) (sym stored) (settled_less before words (left - 1) one_more (omega arith) aimed there (settled before all))
+
+  pub none_unsettled : (raised words : List ℕ) {left : ℕ} → left ≡ 0 → SettledTo raised words left → AllSettled c g raised words
+  none_unsettled raised words none settled before all = settled_all before words (subst (Settled before words) none (settled before all))

@@ -1,11 +1,11 @@
 -- What the tool leaves, by the bytes that it is lent; and, for inner contracts, what stands in the output while the corrections are written.
-use Rattle.std.specs.Prelude.{◌≡◌, cond, List, ℕ, ◌<◌, ◌≤◌, max, ltb, eqb, length, set}
+use Rattle.std.specs.Prelude.{◌≡◌, cond, List, ℕ, ◌<◌, ◌≤◌, max, ltb, eqb, length, take, set}
 use Rattle.words.specs.Bytes.{words_of}
 use Rattle.checks.specs.Checked.{accepted, ◌>>=◌, word_at}
 use Rattle.sheet.specs.declared.check.Layout as Code
 use Rattle.corrections.specs.declared.correction.Grid.{Grid}
+use Rattle.corrections.specs.declared.list.Corrections.{Corrections}
 use Rattle.corrections.specs.Corrections.{count, revision, value, target, in_turn, agrees}
-use Rattle.corrections.specs.Aimed.{GridFits, AllAimed}
 use Rattle.tool.specs.Tool.{Left, left}
 use Rattle.correcting.specs.Corrected.{highest, word_after, corrected_words, corrected}
 
@@ -46,11 +46,10 @@ module _ (c : List ℕ) (g : Grid) where
   abbrev pub raised_by : (index word n : ℕ) → ℕ
   raised_by index word n = cond (eqb (highest c g index n) 0) word (highest c g index n)
 
-  -- every correction is aimed, at a word that is there
-  pub record Targets (words : List ℕ) : Type 0 where
-    pub aimed : AllAimed c g (count c)
-    pub fits : GridFits g
-    pub inside : (k : ℕ) → k < count c → target c g k < length words
+  -- the first n corrections are all, and each is aimed at a word that is there
+  pub record Targets (n : ℕ) (words : List ℕ) : Type 0 where
+    pub all : n ≡ count c
+    pub inside : (k : ℕ) → k < n → target c g k < length words
 
   -- and each of these words is no revision
   abbrev pub NoRevisions : List ℕ → Type 0
@@ -67,8 +66,43 @@ module _ (c : List ℕ) (g : Grid) where
   abbrev pub AllSettled : (raised after : List ℕ) → Type 0
   AllSettled raised after = (before : List ℕ) → AllRaised before raised → AllCorrected before after
 
--- a valid sheet with a list that has passed, and room for it
-pub record Ready (sheet list output : List ℕ) (g : Grid) : Type 0 where
-  pub targets : Targets (words_of list) g (words_of sheet)
-  pub samples : NoRevisions (words_of list) g (words_of sheet)
-  pub room : length (words_of sheet) ≤ length (words_of output)
+-- ---- the same, of a list as the code has it and of words in bytes
+module _ (list : Corrections) where
+  abbrev listed : List ℕ
+  listed = words_of list.words.now
+
+  -- correction k is aimed at a word that is there
+  abbrev pub ReachesIn : (output : List ℕ) → ℕ → Type 0
+  ReachesIn output k = (k < list.count) × (target listed list.grid k < length (words_of output))
+
+  abbrev pub TargetsIn : List ℕ → Type 0
+  TargetsIn output = Targets listed list.grid list.count (words_of output)
+
+  abbrev pub NoRevisionsIn : List ℕ → Type 0
+  NoRevisionsIn output = NoRevisions listed list.grid (words_of output)
+
+  abbrev pub raised_in : (output : List ℕ) → ℕ → List ℕ
+  raised_in output k = raised_once listed list.grid (words_of output) k
+
+  abbrev pub settled_in : (output : List ℕ) → ℕ → List ℕ
+  settled_in output k = settled_once listed list.grid (words_of output) k
+
+  abbrev pub AllRaisedIn : (before after : List ℕ) → Type 0
+  AllRaisedIn before after = AllRaised listed list.grid (words_of before) (words_of after)
+
+  abbrev pub AllSettledIn : (raised after : List ℕ) → Type 0
+  AllSettledIn raised after = AllSettled listed list.grid (words_of raised) (words_of after)
+
+  -- the sheet with its corrections stands at the front
+  abbrev pub CorrectedIn : (sheet output : List ℕ) → Type 0
+  CorrectedIn sheet output = take (length (words_of sheet)) (words_of output) ≡ corrected_words (words_of sheet) listed list.grid
+
+  -- a valid sheet with a list that has passed, and room for it
+  pub record Ready (sheet output : List ℕ) : Type 0 where
+    pub targets : TargetsIn sheet
+    pub samples : NoRevisionsIn sheet
+    pub room : length (words_of sheet) ≤ length (words_of output)
+
+  -- what is left of both
+  abbrev pub left_in : (sheet output : List ℕ) → Left
+  left_in sheet output = applied_in sheet list.words.now output list.grid

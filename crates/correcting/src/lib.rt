@@ -1,26 +1,22 @@
 // The tool for late corrections (M-107): a valid sheet is written with each corrected sample replaced; for one sample the highest revision counts.
 #![tactic(auto)]
 
-ghost use Rattle.std.specs.Prelude.{◌≡◌, ◌<◌, length, take, replicate};
+ghost use Rattle.std.specs.Prelude.{◌≡◌, length, replicate};
 ghost use Rattle.words.specs.Bytes.{words_of, after_words};
-ghost use Rattle.corrections.specs.Corrections.{count};
-ghost use Rattle.correcting.specs.Corrected.{corrected_words};
-ghost use Rattle.correcting.specs.Lent.{corrected_in, applied_in, grid_in, raised_to, given_way, raised_once, settled_once, Targets, NoRevisions, AllRaised, AllSettled, Ready};
+ghost use Rattle.tool.specs.Tool.{told_by, Makes};
+ghost use Rattle.correcting.specs.Lent.{corrected_in, left_in, grid_in, raised_to, given_way, ReachesIn, raised_in, settled_in, TargetsIn, NoRevisionsIn, AllRaisedIn, AllSettledIn, CorrectedIn, Ready};
 
+use checks::fault::{Fault, Refusal};
 use clashes::find_clash;
 use corrections::check::{check_corrections, correction_count};
-use corrections::correction::{Found, Grid, revision_at, target_at, value_at};
-use sheet::check::{Check, Layout, check_words};
-use tool::{OUTPUT_SHORT, Told, finish, refuse};
-
-// Told of a correction that is ill-formed or aimed outside the sheet, and of two that disagree.
-const CORRECTION_FAULTY: u64 = 19;
-
-const CORRECTIONS_CLASH: u64 = 20;
+use corrections::correction::Grid;
+use corrections::list::Corrections;
+use sheet::check::{Layout, check_words};
 
 // One more than the highest revision.
 const AFTER_REVISIONS: u32 = 256;
 
+// A function and no `From`, which only the crate of one of the two types may write, and neither of these rests on the other.
 fn grid_of(layout: Layout) -> Grid
     ensures { result ≡ grid_in layout }
 {
@@ -39,7 +35,7 @@ fn raised_to(revision: u32, word: u32) -> u32
     if AFTER_REVISIONS <= word {
         return revision;
     }
-    if word < revision { revision } else { word }
+    word.max(revision)
 }
 
 // A revision gives way to its value.
@@ -49,99 +45,97 @@ fn given_way(revision: u32, value: u32, word: u32) -> u32
     if word == revision { value } else { word }
 }
 
-fn raise(list: &[u8], grid: Grid, k: usize, output: &mut [u8])
-    requires { Targets (words_of list.now) grid (words_of output.old) × (k < count (words_of list.now)) }
-    ensures { words_of output.new ≡ raised_once (words_of list.now) grid (words_of output.old) k }
+fn raise(list: &Corrections, k: usize, output: &mut [u8])
+    requires { ReachesIn list.now output.old k }
+    ensures { words_of output.new ≡ raised_in list.now output.old k }
 {
-    let at = target_at(list, k, grid);
+    let at = list.target(k);
     let word = words::word_at(output, at);
-    words::put_word(output, at, raised_to(revision_at(list, k), word));
+    words::put_word(output, at, raised_to(list.revision(k), word));
 }
 
-fn settle(list: &[u8], grid: Grid, k: usize, output: &mut [u8])
-    requires { Targets (words_of list.now) grid (words_of output.old) × (k < count (words_of list.now)) }
-    ensures { words_of output.new ≡ settled_once (words_of list.now) grid (words_of output.old) k }
+// The steps of `raise` with another word in the end: a function for both would take that word as a closure, and be no shorter.
+fn settle(list: &Corrections, k: usize, output: &mut [u8])
+    requires { ReachesIn list.now output.old k }
+    ensures { words_of output.new ≡ settled_in list.now output.old k }
 {
-    let at = target_at(list, k, grid);
+    let at = list.target(k);
     let word = words::word_at(output, at);
-    words::put_word(
-        output,
-        at,
-        given_way(revision_at(list, k), value_at(list, k), word),
-    );
+    let settled = given_way(list.revision(k), list.value(k), word);
+    words::put_word(output, at, settled);
 }
 
 // Puts the highest revision among its corrections in place of each corrected sample.
-#[tactic(auto, using(crate::proofs::Raising::targets_kept, crate::proofs::Raising::raised_none, crate::proofs::Raising::raised_more, tool::proofs::Leaving::same_words))]
-fn raise_all(list: &[u8], grid: Grid, output: &mut [u8])
-    requires { Targets (words_of list.now) grid (words_of output.old) × (NoRevisions (words_of list.now) grid (words_of output.old)) }
-    ensures { AllRaised (words_of list.now) grid (words_of output.old) (words_of output.new) }
+#[tactic(auto, using(crate::proofs::Raising::raised_none, crate::proofs::Raising::raised_more, tool::proofs::Leaving::same_words))]
+fn raise_all(list: &Corrections, output: &mut [u8])
+    requires { TargetsIn list.now output.old × NoRevisionsIn list.now output.old }
+    ensures { AllRaisedIn list.now output.old output.new }
 {
-    for k in 0..correction_count(list) {
-        raise(list, grid, k, output);
+    for k in 0..list.count {
+        raise(list, k, output);
     }
 }
 
 // Puts the value in place of each highest revision, from the last correction on, so that the last of equal ones is taken.
-#[tactic(auto, using(crate::proofs::Raising::targets_kept, crate::proofs::Settling::settled_none, tool::proofs::Leaving::same_words))]
-fn settle_all(list: &[u8], grid: Grid, output: &mut [u8])
-    requires { Targets (words_of list.now) grid (words_of output.old) }
-    ensures { AllSettled (words_of list.now) grid (words_of output.old) (words_of output.new) }
+#[tactic(auto, using(crate::proofs::Settling::settled_none, tool::proofs::Leaving::same_words))]
+fn settle_all(list: &Corrections, output: &mut [u8])
+    requires { TargetsIn list.now output.old }
+    ensures { AllSettledIn list.now output.old output.new }
 {
-    let mut left = correction_count(list);
-    while 0 < left {
-        left -= 1;
-        settle(list, grid, left, output);
+    for k in (0..list.count).rev() {
+        settle(list, k, output);
     }
 }
 
 // Writes a valid sheet with its corrections, where there is room.
-#[tactic(auto, using(words::proofs::Words::words_count, tool::proofs::Leaving::same_words, crate::proofs::Raising::targets_kept, crate::proofs::Writing::copied_front, crate::proofs::Writing::front_targets))]
-fn write_corrected(sheet: &[u8], list: &[u8], grid: Grid, output: &mut [u8])
-    requires { Ready sheet.now list.now output.old grid }
-    ensures { take (length (words_of sheet.now)) (words_of output.new) ≡ corrected_words (words_of sheet.now) (words_of list.now) grid }
+#[tactic(auto, using(crate::proofs::Writing::front_laws, tool::proofs::Leaving::same_words))]
+fn write_corrected(sheet: &[u8], list: &Corrections, output: &mut [u8])
+    requires { Ready list.now sheet.now output.old }
+    ensures { CorrectedIn list.now sheet.now output.new }
 {
     let end = words::word_count(sheet) * 4;
     words::copy_bytes(&sheet[..end], output, 0);
-    raise_all(list, grid, output);
-    settle_all(list, grid, output);
+    raise_all(list, output);
+    settle_all(list, output);
 }
 
-// A list that has passed 19: 20, then the room, then the sheet with its corrections.
-#[tactic(auto, using(crate::proofs::Applying::too_short, words::proofs::Zeros::zero_words, words::proofs::Zeros::zero_words_tail, tool::proofs::Leaving::same_words))]
-fn apply(sheet: &[u8], list: &[u8], grid: Grid, output: &mut [u8]) -> Told
-    requires { Targets (words_of list.now) grid (words_of sheet.now) × (NoRevisions (words_of list.now) grid (words_of sheet.now)) }
-    ensures told { result ≡ (applied_in sheet.now list.now output.old grid).told }
-    ensures left { words_of output.new ≡ (applied_in sheet.now list.now output.old grid).output }
-    ensures tail { after_words output.new ≡ replicate (length (after_words output.old)) 0 }
+// Makes, of a list that has passed 19, the words at the front of the output: 20, then the room, then the sheet with its corrections.
+#[tactic(auto, using(crate::proofs::Applying::clashes, crate::proofs::Applying::too_short, tool::proofs::Leaving::same_words, tool::proofs::Leaving::refusal_made))]
+fn apply(sheet: &[u8], list: &Corrections, output: &mut [u8]) -> Result<usize, Refusal>
+    requires { TargetsIn list.now sheet.now × NoRevisionsIn list.now sheet.now }
+    ensures { Makes (left_in list.now sheet.now output.old) result (words_of output.new) }
 {
-    match find_clash(list, grid, correction_count(list), output) {
-        Found::At(index) => return refuse(output, CORRECTIONS_CLASH, index),
-        Found::Nothing => {}
-    }
+    find_clash(list, output)?;
     let count = words::word_count(sheet);
     if words::word_count(output) < count {
-        return refuse(output, OUTPUT_SHORT, count);
+        return Err(Fault::OutputShort.at(count));
     }
-    write_corrected(sheet, list, grid, output);
-    finish(output, count)
+    write_corrected(sheet, list, output);
+    Ok(count)
 }
 
-// Corrects a sheet. Its own fault comes first, then 19, then 20, and an output that is too short last.
-#[tactic(auto, using(crate::proofs::Applying::turned_back, crate::proofs::Applying::faulty, crate::proofs::Applying::list_passed, crate::proofs::Applying::list_targets, words::proofs::Zeros::zero_words, words::proofs::Zeros::zero_words_tail))]
-pub fn correct(sheet: &[u8], list: &[u8], output: &mut [u8]) -> Told
-    ensures told { result ≡ (corrected_in sheet.now list.now output.old).told }
+// A sheet's own fault comes first, then 19, then 20, and an output that is too short last.
+#[tactic(auto, using(crate::proofs::Applying::decisions, tool::proofs::Leaving::refusal_made))]
+fn make(sheet: &[u8], list: &[u8], output: &mut [u8]) -> Result<usize, Refusal>
+    ensures { Makes (corrected_in sheet.now list.now output.old) result (words_of output.new) }
+{
+    let grid = grid_of(check_words(sheet)?);
+    check_corrections(list, grid)?;
+    let passed = Corrections {
+        words: list,
+        grid,
+        count: correction_count(list),
+    };
+    apply(sheet, &passed, output)
+}
+
+// Corrects a sheet, and tells how many words it has.
+#[tactic(auto, using(tool::proofs::Leaving::same_tail))]
+pub fn correct(sheet: &[u8], list: &[u8], output: &mut [u8]) -> Result<usize, Refusal>
+    ensures told { told_by result ≡ (corrected_in sheet.now list.now output.old).told }
     ensures left { words_of output.new ≡ (corrected_in sheet.now list.now output.old).output }
     ensures tail { after_words output.new ≡ replicate (length (after_words output.old)) 0 }
 {
-    match check_words(sheet) {
-        Check::Refused(fault, place) => refuse(output, checks::fault::number(fault), place),
-        Check::Accepted(layout) => {
-            let grid = grid_of(layout);
-            match check_corrections(list, grid) {
-                Found::At(index) => refuse(output, CORRECTION_FAULTY, index),
-                Found::Nothing => apply(sheet, list, grid, output),
-            }
-        }
-    }
+    let made = make(sheet, list, output);
+    tool::leave(made, output)
 }

@@ -1,17 +1,14 @@
--- For contracts alone: what the code tells of a list, what is known of a correction that has passed 19, and of a grid that a valid sheet has.
+-- For contracts alone: the check of all corrections of a list, what is known of a correction that has passed 19, and of a grid that a valid sheet has.
 use Rattle.std.specs.Prelude.{◌≡◌, List, ℕ, ◌+◌, ◌*◌, ◌<◌, ◌≤◌, ◌^◌, length}
 use Rattle.words.specs.Word.{kind_of, bits}
 use Rattle.checks.specs.Limits.{most_places, most_signals}
-use Rattle.checks.specs.Checked.{Checked, accepted, refused, word_at}
+use Rattle.checks.specs.Checked.{Checked, word_at}
 use Rattle.corrections.specs.declared.correction.Grid.{Grid}
-use Rattle.corrections.specs.declared.correction.Found.{Found}
-use Rattle.corrections.specs.declared.correction.Found.TheVariants as F
-use Rattle.corrections.specs.Corrections.{revision, signal, time, place, value}
+use Rattle.corrections.specs.Corrections.{in_turn, count, revision, signal, time, place, value, well_formed}
 
--- by the number that the fault has
-abbrev pub found_said : ℕ → Found → Checked (Unit {0})
-found_said number F.Nothing = accepted tt
-found_said number (F.At index) = refused number index
+-- each correction of a list in turn, by 19
+abbrev pub all_well_formed : List ℕ → Grid → Checked (Unit {0})
+all_well_formed c g = in_turn (well_formed c g) (count c)
 
 -- the limits in which the index of a sample can be found
 pub record GridFits (g : Grid) : Type 0 where

@@ -1,2 +1,3 @@
 pub mod Corrections
 pub mod Aimed
+pub mod Naming

@@ -15,40 +15,33 @@ pub struct Grid {
     pub samples: usize,
 }
 
-// What a look through a list finds: no fault, or the index of the word at which one is told.
-#[derive(Clone, Copy)]
-pub enum Found {
-    Nothing,
-    At(usize),
-}
-
 // The fields of a first word.
 pub(crate) fn revision_of(first: u32) -> u32
     ensures { result ≡ bits 20 8 first }
 {
-    first / 1048576 % 256
+    words::bits::<20, 8>(first)
 }
 
 pub(crate) fn signal_of(first: u32) -> usize
     ensures { result ≡ bits 12 8 first }
 {
-    (first / 4096 % 256) as usize
+    words::bits::<12, 8>(first) as usize
 }
 
 pub(crate) fn time_of(first: u32) -> usize
     ensures { result ≡ bits 0 12 first }
 {
-    (first % 4096) as usize
+    words::bits::<0, 12>(first) as usize
 }
 
 // The field of a second word.
 pub(crate) fn place_of(second: u32) -> usize
     ensures { result ≡ bits 0 16 second }
 {
-    (second % 65536) as usize
+    words::bits::<0, 16>(second) as usize
 }
 
-// One of its three words.
+// One of its three words. These readers are functions beside the methods of a list that has passed, since they ask only that the words are there.
 #[tactic(auto, using(words::proofs::Words::words_count))]
 fn part_at(list: &[u8], k: usize, part: usize) -> u32
     requires { k * 3 + part < length (words_of list.now) }

@@ -3,3 +3,5 @@
 
 pub mod check;
 pub mod correction;
+pub mod list;
+mod naming;

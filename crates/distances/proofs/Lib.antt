@@ -1,2 +1,3 @@
 pub mod Stages
 pub mod StartTable
+pub mod Rooms

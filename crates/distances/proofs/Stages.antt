@@ -1,22 +1,25 @@
 -- Laws of the stages of the distance table: a number of 64 bits takes the least and the sum as distances do; one entry more is let in by one
 -- store; and at the end no finite distance is too large.
-use Prim.Native.Nat.{ℕ, suc, ◌+◌, ◌-◌, ◌*◌, ◌<◌, ◌≤◌, ◌^◌, min}
-use mathlib.Core.Path.{◌≡◌, refl, sym, ◌∙◌, ap}
+use Prim.Native.Nat.{ℕ, suc, ◌+◌, ◌-◌, ◌*◌, ◌/◌, ◌<◌, ◌≤◌, ◌^◌, min}
+use mathlib.Core.Path.{◌≡◌, refl, sym, ◌∙◌, ap, ap₂}
 use mathlib.Core.Bool.{Bool, true, false, cond}
-use mathlib.Core.List.{List}
+use mathlib.Core.List.{List, ◌++◌}
 use native.Mathlib.Nat.{mul-le-mul, mul-le-mul_right}
 use native.Mathlib.Decide.{dec_lt, ℕ_discrete}
+use native.Mathlib.Numerals.{add-one}
 use native.Mathlib.Omega.{arith}
 use lib.Dec.{T, leb→le, ltb}
-use lib.ListN.{length, get_or, set}
+use lib.ListN.{length, get_or, set, replicate}
 use borrow.Author.Tests.{lt-ltb, le-ltb}
+use Rattle.words.specs.Rows.{padded}
+use Rattle.words.proofs.Numbers.{same_count, length_numbers, padded_bytes}
 use Rattle.words.proofs.Rows.{in_table, length-rows, get_or-rows, rows_ext, rows-set}
 use Rattle.network.specs.Distance.{Distance, dist, none, at_most, add, lesser, distance}
 use Rattle.network.specs.Network.{distance_in}
 use Rattle.network.proofs.Distances.{lesser_by, at_most_other, distance_to, distance_from}
 use Rattle.network.proofs.Reach.{distance_bound}
-use Rattle.distances.specs.Distances.{distance_number, distance_table}
-use Rattle.distances.specs.Stages.{saturated, stage, relaxing, relaxed}
+use Rattle.distances.specs.Distances.{distance_number, distance_table, numbers_in, room_in}
+use Rattle.distances.specs.Stages.{IsTable, saturated, stage, relaxing, relaxed}
 
 -- ---- numbers of 64 bits for distances
 saturated_order : (d e : Distance) → T (at_most d e) → saturated d ≤ saturated e
@@ -41,24 +44,35 @@ saturated_least d x y = lesser_by (λ v. saturated v ≡ min (saturated d) (satu
     (λ h. omega (arith, saturated_order d (add x y) h, saturated_add x y, saturated_most d))
     (λ h. omega (arith, saturated_order (add x y) d (at_most_other d (add x y) h), saturated_add x y, saturated_most d))
 
-pub length_stage : (weight : ℕ → ℕ → Distance) (n k : ℕ) → length (stage weight n k) ≡ n * n
+length_stage : (weight : ℕ → ℕ → Distance) (n k : ℕ) → length (stage weight n k) ≡ n * n
 unfolding stage
 length_stage weight n k = length-rows (λ a b. saturated (distance weight k a b)) n n
+
+-- as many bytes as those of a table at some stage
+pub same_table : (weight : ℕ → ℕ → Distance) (n k : ℕ) (t u : List ℕ) → numbers_in t ≡ stage weight n k → length u ≡ length t → IsTable n u
+same_table weight n k t u e h = same_count u t h ∙ ap length e ∙ length_stage weight n k
+
+-- a table whose front holds k numbers, and is zero behind them
+pub front_filled : (t v z numbers : List ℕ) (k m : ℕ) → numbers_in v ≡ numbers → z ≡ replicate m 0 → length v ≡ k * 8 → k * 8 + m ≡ length t
+    → numbers_in (v ++ z) ≡ padded numbers (room_in t)
+front_filled t v z numbers k m held zero front all =
+    let room : k + m / 8 ≡ room_in t = omega (arith, length_numbers t) in
+    ap (λ (z : List ℕ). numbers_in (v ++ z)) zero ∙ padded_bytes v k m front ∙ ap₂ padded held room
 
 -- ---- letting place k in
 module _ (weight : ℕ → ℕ → Distance) (n k : ℕ) where
   abbrev entry : ℕ → ℕ → ℕ → ℕ
   entry m a b = saturated (cond (ltb (a * n + b) m) (distance weight (suc k) a b) (distance weight k a b))
 
-  pub relaxing_none : relaxing weight n k 0 ≡ stage weight n k
+  pub relaxing_none : stage weight n k ≡ relaxing weight n k (0 * n)
   unfolding relaxing stage
-  relaxing_none = rows_ext (entry 0) (λ a b. saturated (distance weight k a b)) n n
-      (λ a b h l. rw (le-ltb (a * n + b) 0 (omega arith)))
+  relaxing_none = rows_ext (λ a b. saturated (distance weight k a b)) (entry (0 * n)) n n
+      (λ a b h l. rw (le-ltb (a * n + b) (0 * n) (omega arith)))
 
-  pub relaxing_all : relaxing weight n k (n * n) ≡ stage weight n (suc k)
+  pub relaxing_all : (a : ℕ) → a ≡ n → relaxing weight n k (a * n) ≡ stage weight n (k + 1)
   unfolding relaxing stage
-  relaxing_all = rows_ext (entry (n * n)) (λ a b. saturated (distance weight (suc k) a b)) n n
-      (λ a b h l. rw (lt-ltb (a * n + b) (n * n) (in_table h l)))
+  relaxing_all a e = rw (e, add-one k) (rows_ext (entry (n * n)) (λ a b. saturated (distance weight (suc k) a b)) n n
+      (λ a b h l. rw (lt-ltb (a * n + b) (n * n) (in_table h l))))
 
   -- the row and the column of k are the same before and after
   same : (c : Bool) (d e : Distance) → d ≡ e → saturated (cond c d e) ≡ saturated e
@@ -94,7 +108,7 @@ module _ (weight : ℕ → ℕ → Distance) (n k : ℕ) where
       go (no l) = le-ltb p m (omega arith) ∙ sym (le-ltb p (suc m) (omega arith))
 
   -- one entry more
-  pub relaxing_more : (a b x : ℕ) (t : List ℕ) → a < n → b < n → k < n → x ≡ saturated (distance weight k a k)
+  relaxing_more : (a b x : ℕ) (t : List ℕ) → a < n → b < n → k < n → x ≡ saturated (distance weight k a k)
       → t ≡ relaxing weight n k (a * n + b) → relaxed x (k * n + b) (a * n + b) t ≡ relaxing weight n k (suc (a * n + b))
   unfolding relaxing
   relaxing_more a b x t ha hb hk ex et =
@@ -104,6 +118,14 @@ module _ (weight : ℕ → ℕ → Distance) (n k : ℕ) where
       ∙ rows-set (entry m) (entry (suc m)) n n a b v ha hb
       (rw (lt-ltb m (suc m) (omega arith)) (sym (relaxed_entry a b x t ha hb hk ex et)))
       (λ p q _ _ o. rw (others m (p * n + q) o))
+
+  -- .. of lists that were read: t₀ before the first entry of the row, where x is, t before this one, u after it
+  pub relaxed_more : (a b x : ℕ) (t₀ t u : List ℕ) → a < n → b < n → k < n → t₀ ≡ relaxing weight n k (a * n) → x ≡ get_or t₀ (a * n + k) 0
+      → t ≡ relaxing weight n k (a * n + b) → u ≡ relaxed x (k * n + b) (a * n + b) t → u ≡ relaxing weight n k (a * n + (b + 1))
+  relaxed_more a b x t₀ t u ha hb hk e₀ ex et eu =
+      let next : suc (a * n + b) ≡ a * n + (b + 1) = omega arith in
+      let read = ex ∙ ap (λ (t : List ℕ). get_or t (a * n + k) 0) e₀ ∙ relaxing_to (a * n) a ha hk in
+      eu ∙ relaxing_more a b x t ha hb hk read et ∙ ap (relaxing weight n k) next
 
   -- where k has no distance from a, letting it in leaves the row of a as it is
   pub relaxing_unreached : (a : ℕ) → a < n → saturated (distance weight k a k) ≡ 2 ^ 64 - 1 → relaxing weight n k (a * n) ≡ relaxing weight n k (a * n + n)

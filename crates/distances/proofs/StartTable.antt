@@ -1,17 +1,19 @@
 -- The table before any place is let in: nothing but the zeros of its diagonal, then one road after the other, each stored at the entries of
 -- the ways that it runs.
-use Prim.Native.Nat.{ℕ, zero, suc, ◌+◌, ◌-◌, ◌*◌, ◌<◌, ◌≤◌, ◌^◌}
+use Prim.Native.Nat.{ℕ, zero, suc, ◌+◌, ◌-◌, ◌*◌, ◌/◌, ◌<◌, ◌≤◌, ◌^◌}
 use mathlib.Core.Path.{◌≡◌, refl, sym, ◌∙◌, ap, ap₂}
 use mathlib.Core.Bool.{Bool, true, false, cond, ◌&&◌, ◌||◌, and-false}
 use mathlib.Core.Logic.{⊎_elim}
-use mathlib.Core.List.{List}
+use mathlib.Core.List.{List, ◌∷◌}
 use native.Mathlib.Decide.{dec_lt, ℕ_discrete}
 use native.Mathlib.Numerals.{add-one}
 use native.Mathlib.Omega.{arith}
 use lib.Dec.{T, ltb, eqb}
-use lib.ListN.{set, replicate, length-replicate, get_or-replicate}
+use lib.ListN.{length, set, replicate, length-replicate, get_or-replicate}
 use borrow.Author.Tests.{lt-ltb, le-ltb, eq-eqb, ne_eqb}
+use Rattle.words.specs.Bytes.{words_of, numbers_of}
 use Rattle.words.specs.Rows.{rows}
+use Rattle.words.proofs.Numbers.{length_numbers}
 use Rattle.words.proofs.Rows.{in_table, list_rows, rows_ext, rows-set}
 use Rattle.network.specs.Distance.{dist, none, direct, distance}
 use Rattle.counting.proofs.Tests.{holds, or_l, or_r, or_e}
@@ -19,6 +21,24 @@ use Rattle.roads.specs.declared.road.Way.{Way}
 use Rattle.roads.specs.Roads.{GoodRoad, leads_by, first_of, forth_of, back_of, weight_of, leads, weight_among}
 use Rattle.distances.specs.Stages.{saturated, stage, way_put}
 use Rattle.roads.proofs.Ways.{leads_ends}
+
+-- ---- every distance none
+all_none : (k : ℕ) → numbers_of (words_of (replicate k 255)) ≡ replicate (k / 8) (2 ^ 64 - 1)
+unfolding words_of numbers_of
+all_none zero = refl
+all_none (suc zero) = refl
+all_none (suc (suc zero)) = refl
+all_none (suc (suc (suc zero))) = refl
+all_none (suc (suc (suc (suc zero)))) = refl
+all_none (suc (suc (suc (suc (suc zero))))) = refl
+all_none (suc (suc (suc (suc (suc (suc zero)))))) = refl
+all_none (suc (suc (suc (suc (suc (suc (suc zero))))))) = refl
+all_none (suc (suc (suc (suc (suc (suc (suc (suc k)))))))) =
+    let one_more : suc (k / 8) ≡ suc (suc (suc (suc (suc (suc (suc (suc k))))))) / 8 = omega arith in
+    ap (λ (t : List ℕ). (2 ^ 64 - 1) ∷ t) (all_none k) ∙ ap (λ (m : ℕ). replicate m (2 ^ 64 - 1)) one_more
+
+pub filled : (b : List ℕ) → numbers_of (words_of (replicate (length b) 255)) ≡ replicate (length (numbers_of (words_of b))) (2 ^ 64 - 1)
+filled b = all_none (length b) ∙ ap (λ (m : ℕ). replicate m (2 ^ 64 - 1)) (sym (length_numbers b))
 
 -- ---- the diagonal
 abbrev diagonal : ℕ → ℕ → ℕ → ℕ
@@ -141,6 +161,10 @@ module _ (s : List ℕ) (n r : ℕ) (good : GoodRoad s n r) where
       ap (way_put n (back_of s r) weight) (way_stored n (forth_of s r) weight before known good.inside)
       ∙ way_stored n (back_of s r) weight (with_way n (forth_of s r) weight before) good.inside known
       ∙ rows_ext _ after n n (λ p q _ _. both_ways p q)
+
+  -- the way back leads from the second place to the first, and both are places of the sheet
+  pub back_inside : (way : Way) → way ≡ back_of s r → (way.from < n) × (way.to < n)
+  back_inside way e = rw e (good.inside, omega (arith, good.order, good.inside))
 
   -- the same of ways, a number and a list that were read
   pub road_put : (t : List ℕ) (forth back : Way) (w : ℕ) → forth ≡ forth_of s r → back ≡ back_of s r → w ≡ weight → t ≡ stage (weight_among s r) n 0

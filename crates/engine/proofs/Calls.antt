@@ -7,6 +7,7 @@ use mathlib.Core.List.{List}
 use Prim.Native.Nat.{ℕ, ◌≤◌}
 use lib.ListN.{length}
 use lib.IntN.{ℤ}
+use Rattle.std.specs.Prelude.{Result}
 use contract.Lifetimes
 use borrow.Fn.Kinds.{Dens, ended_of}
 use denote.Triple.Clauses.{AtExit}
@@ -27,7 +28,8 @@ use Rattle.answers.proofs.Compared.{decided_alike}
 use Rattle.answers.proofs.BothWays.{answers_kept}
 use Rattle.answers.proofs.Steadiness.{steadiness}
 use Rattle.answers.proofs.Raising.{raising, yes_no_fewer}
-use Rattle.engine.specs.declared.Result.{Result}
+use Rattle.checks.specs.declared.fault.Refusal.{Refusal}
+use Rattle.engine.specs.declared.Answered.{Answered}
 use Rattle.engine.specs.Lent.{judged_in}
 use Rattle.engine.specs.Result.{result_said}
 use Rattle.engine.proofs.judge.Reads as judge
@@ -39,7 +41,7 @@ use Rattle.lookup.proofs.lookup.Kinds as asks
 pub record Call : Type 0 where
   pub lifetimes : Lifetimes.Lfts 3
   pub given : Dens lifetimes kinds.ps
-  pub result : Result
+  pub result : Result Answered Refusal
   pub left : AtExit (ended_of 3 kinds.ps kinds.r) lifetimes
   pub learnt : judge.Learnt lifetimes given result left
 
@@ -82,20 +84,20 @@ starred_calls = examples_of _ (λ s distances answer P z p c given.
     subst P (sym (left_judged c ∙ (λ i. judged (given.sheet i) (given.distances_lent_lem i) (given.answer_lent_lem i)))) p)
 
 -- ---- calls that accept
-pub accepts : (c : Call) → c.result.number ≡ 0 → (judged_of c).result.number ≡ 0
+pub accepts : (c : Call) → (result_said c.result).number ≡ 0 → (judged_of c).result.number ≡ 0
 accepts c z = sym (ap (λ (j : Judged). j.result.number) (left_judged c)) ∙ z
 
 -- what the check has found
-abbrev pub layout_of : (c : Call) → c.result.number ≡ 0 → Layout
+abbrev pub layout_of : (c : Call) → (result_said c.result).number ≡ 0 → Layout
 layout_of c z = layout_found (sheet_of c) (distances_lent c) (answer_lent c) (accepts c z)
 
 -- the rounds that are told are at most the places of the sheet
-pub call_rounds : (c : Call) (z : c.result.number ≡ 0) → c.result.rounds ≤ (layout_of c z).sizes.places
+pub call_rounds : (c : Call) (z : (result_said c.result).number ≡ 0) → (result_said c.result).rounds ≤ (layout_of c z).sizes.places
 call_rounds c z = subst (λ (j : Judged). j.result.rounds ≤ (layout_of c z).sizes.places) (sym (left_judged c))
     (judged_rounds (sheet_of c) (distances_lent c) (answer_lent c) (accepts c z))
 
 -- a lookup in the bytes that an accepting call left: the verdict that is meant where there is one, 0 elsewhere
-pub call_lookup : (c : Call) (z : c.result.number ≡ 0) (κ : Lifetimes.Lfts 1) (asked : Dens κ asks.ps) (r : ℕ) (left : AtExit (ended_of 1 asks.ps asks.r) κ)
+pub call_lookup : (c : Call) (z : (result_said c.result).number ≡ 0) (κ : Lifetimes.Lfts 1) (asked : Dens κ asks.ps) (r : ℕ) (left : AtExit (ended_of 1 asks.ps asks.r) κ)
     → lookup.Learnt κ asked r left → asked.0.now ≡ c.left.1.1.0.now →
     let L : Layout = layout_of c z in
     let i : ℕ = asked.1.0 in
@@ -115,7 +117,7 @@ both_left x y P = subst₂ P (sym (left_judged x)) (sym (left_judged y))
 
 -- Demand 3: sheets alike in every word but their samples, these at most d apart. At every line, sample and place the margins are at most d apart or the
 -- same infinity, and where that of x is beyond d, both verdicts are yes if it is positive and both are no if it is negative
-pub calls_steady : (d : ℕ) (x y : Call) → SamplesApart d (sheet_of x) (sheet_of y) → x.result.number ≡ 0 → y.result.number ≡ 0
+pub calls_steady : (d : ℕ) (x y : Call) → SamplesApart d (sheet_of x) (sheet_of y) → (result_said x.result).number ≡ 0 → (result_said y.result).number ≡ 0
     → (i t l : ℕ) → Steady d (said_at (left_by x).answer i t l) (said_at (left_by y).answer i t l)
 calls_steady d x y apart zx zy i t l = both_left x y (λ j k. Steady d (said_at j.answer i t l) (said_at k.answer i t l))
     (steadiness d (sheet_of x) (sheet_of y) apart (distances_lent x) (answer_lent x) (distances_lent y) (answer_lent y) (accepts x zx) (accepts y zy) i t l)
@@ -129,7 +131,7 @@ calls_decided Related x y alike distances answer = both_left x y (λ j k. decisi
 -- M-103: sheets alike in every word but their samples, each of y at least that of x, no line with code 2 or 3. At every line, sample and place a yes of x
 -- is a yes of y, and no margin of y is lower; nor is its yes count
 module _ (x y : Call) (raised : SamplesRaised (sheet_of x) (sheet_of y)) (without_2 : has_code 2 (sheet_of x) ≡ false) (without_3 : has_code 3 (sheet_of x) ≡ false)
-    (zx : x.result.number ≡ 0) (zy : y.result.number ≡ 0) where
+    (zx : (result_said x.result).number ≡ 0) (zy : (result_said y.result).number ≡ 0) where
   pub calls_raised : (i t l : ℕ) → Raised (said_at (left_by x).answer i t l) (said_at (left_by y).answer i t l)
   calls_raised i t l = both_left x y (λ j k. Raised (said_at j.answer i t l) (said_at k.answer i t l))
       (raising (sheet_of x) (sheet_of y) raised without_2 without_3 (distances_lent x) (answer_lent x) (distances_lent y) (answer_lent y) (accepts x zx) (accepts y zy) i t l)

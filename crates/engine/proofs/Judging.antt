@@ -1,14 +1,18 @@
 -- How the outcome of the survey decides what is judged: a refusal as it is, an accepted sheet by the room for its answer; and the result that writing
 -- the answer has found.
-use mathlib.Core.Path.{◌≡◌, sym, ap, subst, ◌∙◌}
+use mathlib.Core.Path.{◌≡◌, sym, ap, ap₂, subst, ◌∙◌}
 use mathlib.Core.List.{List}
 use Prim.Native.Nat.{ℕ, ◌+◌, ◌<◌, ◌≤◌}
 use native.Mathlib.Nat.{add_comm}
 use lib.ListN.{length}
 use borrow.Author.Tests.{le-leb, lt-leb}
+use Rattle.std.specs.Prelude.{Result, Ok, Err}
 use Rattle.words.specs.Bytes.{words_of, numbers_of}
 use Rattle.words.proofs.Numbers.{same_count}
 use Rattle.sheet.specs.declared.check.Layout as Code
+use Rattle.checks.specs.declared.fault.Refusal.{Refusal}
+use Rattle.checks.specs.Faults.{fault_number}
+use Rattle.checks.specs.Said.{said}
 use Rattle.checks.specs.Checked.{accepted, refused}
 use Rattle.checks.specs.Heads.{is_wide}
 use Rattle.sheet.specs.Layout.{Layout, checked}
@@ -16,13 +20,16 @@ use Rattle.checks.specs.Checked.{mapped}
 use Rattle.sheet.specs.Checking.{layout_of}
 use Rattle.sheet.specs.Recording.{network}
 use Rattle.sheet.specs.Survey.{surveyed_by, surveyed}
-use Rattle.checks.proofs.Checks.{mapped_accepted, mapped_refused}
+use Rattle.checks.proofs.Checks.{never, mapped_accepted, mapped_refused}
 use Rattle.answers.specs.Answer.{words_needed}
-use Rattle.answers.specs.Judged.{Result, refusal, answered, judged_by, judged}
+use Rattle.answers.specs.Judged as J
+use Rattle.answers.specs.Judged.{refusal, answered, judged_by, judged}
 use Rattle.answers.proofs.Accepted.{judged_by_room}
 use Rattle.samples.specs.declared.tally.Tally.{Tally}
 use Rattle.evaluation.specs.Lines.{found_by, found, Accepting}
+use Rattle.engine.specs.declared.Answered.{Answered}
 use Rattle.engine.specs.Answer.{AnswerWritten}
+use Rattle.engine.specs.Lent.{judged_in, AnsweredIn}
 
 accepting_here : (s distances : List ℕ) (layout : Code.Layout) → mapped (layout_of s) (checked s (length distances)) ≡ accepted layout
     → distances ≡ surveyed s (length distances) → Accepting s layout distances
@@ -60,9 +67,18 @@ module _ (s : List ℕ) (room answer : ℕ) where
     pub judged_short : answer < words_needed (is_wide s) (found s room).sizes.places (found s room).lines → judged s room answer ≡ refusal room answer 15 (length s)
     judged_short h = judged_by_room s room answer accepts (lt-leb _ _ h)
 
+-- a refusal that is handed on
+pub refusal_handed : (sheet distances answer left written : List ℕ) (r : Result Answered Refusal) {number place : ℕ} → said (λ (told : Answered). told) r ≡ refused number place
+    → judged_in sheet distances answer ≡ refusal (length (numbers_of (words_of distances))) (length (words_of answer)) number place → AnsweredIn sheet distances answer r left written
+refusal_handed sheet distances answer left written (Ok told) e same = absurd (never (sym e))
+refusal_handed sheet distances answer left written (Err r) {number} {place} e same =
+    let numbers : number ≡ fault_number r.fault = cc in
+    let places : place ≡ r.place = cc in
+    same ∙ ap₂ (refusal (length (numbers_of (words_of distances))) (length (words_of answer))) numbers places
+
 -- an answer that is written is the one that is answered
 module _ {s : List ℕ} {L : Layout} (room : ℕ) {answer after : List ℕ} {end : ℕ} {tally : Tally} (done : AnswerWritten s L answer after end tally) where
-  pub result_told : ◌≡◌ {A = Result} (record { number = 0; place = 0; words = end + 1; rounds = tally.rounds; yes = tally.yes }) (answered s room (length answer) L).result
+  pub result_told : ◌≡◌ {A = J.Result} (record { number = 0; place = 0; words = end + 1; rounds = tally.rounds; yes = tally.yes }) (answered s room (length answer) L).result
   unfolding answered words_needed network
   result_told i = record { number = 0; place = 0; words = (add_comm end 1 ∙ ap (λ e. 1 + e) done.ends) i; rounds = done.greatest i; yes = done.counted i }
 

@@ -6,7 +6,7 @@ use mathlib.Core.List.{List}
 use Prim.Native.Nat.{ℕ, ◌+◌, ◌*◌, ◌<◌, ◌≤◌, ◌^◌}
 use native.Mathlib.Nat.{le_of_lt}
 use native.Mathlib.Omega.{arith}
-use lib.ListN.{length, get_or, set, replicate, get_or-append}
+use lib.ListN.{length, get_or, set, take, replicate, get_or-append}
 use Rattle.words.specs.Rows.{rows, padded}
 use Rattle.words.proofs.Rows.{in_table, length-rows, get_or-rows}
 use Rattle.network.specs.Network.{Network, distance_in}
@@ -14,21 +14,19 @@ use Rattle.formulas.specs.Formulas.{Line, line_in}
 use Rattle.counting.proofs.Totals.{sum_more}
 use Rattle.sheet.specs.declared.check.Layout as Code
 use Rattle.lines.specs.declared.line.Line as Read
-use Rattle.lines.specs.declared.line.Decoded.{Decoded}
-use Rattle.lines.specs.declared.line.Decoded.TheVariants as D
-use Rattle.checks.specs.declared.fault.Fault.{Fault}
+use Rattle.lines.specs.declared.extent.Extent.{Extent}
 use Rattle.checks.specs.Limits.{most_lines}
 use Rattle.checks.specs.Heads.{is_wide}
 use Rattle.sheet.specs.Layout.{Layout}
-use Rattle.lines.specs.Lines.{line_at}
 use Rattle.lines.specs.GoodLines.{GoodTable}
 use Rattle.distances.specs.Distances.{distance_number, distance_table}
 use Rattle.sheet.specs.Recording.{network}
-use Rattle.lines.specs.Decoding.{line_said, decoded_said, extent_in}
+use Rattle.lines.specs.Decoding.{line_said, line_and_next, no_extent}
 use Rattle.sheet.specs.Checking.{layout_of}
 use Rattle.sheet.proofs.Surveys.{accepted_roads}
-use Rattle.checks.proofs.Checks.{never, same_accepted}
-use Rattle.lines.proofs.Walk.{Walk, Step, walk_start, walk_step}
+use Rattle.checks.specs.Checked.{accepted}
+use Rattle.checks.proofs.Checks.{same_accepted}
+use Rattle.lines.proofs.Walk.{Walk, walk_start, walk_step, walk_within}
 use Rattle.sheet.proofs.Whole.{accepted_sheet}
 use Rattle.iteration.specs.Steps.{RoadsIn}
 use Rattle.iteration.proofs.SheetRoads.{good_roads}
@@ -36,7 +34,7 @@ use Rattle.answers.specs.Answer.{line_index}
 use Rattle.answers.proofs.WholeAnswer.{InAnswer, index_bound}
 use Rattle.answers.proofs.Accepted.{table, sizes}
 use Rattle.evaluation.specs.Writing.{Surveyed}
-use Rattle.evaluation.specs.Lines.{found, Accepting}
+use Rattle.evaluation.specs.Lines.{found, Accepting, line_read, LineThere}
 use Rattle.evaluation.specs.Lent.{found_in}
 
 -- ---- the sheet
@@ -49,7 +47,7 @@ pub record Table (s : List ℕ) (layout : Code.Layout) (distances : List ℕ) (l
   pub counted : layout.lines ≡ length lines
   pub sizes : InAnswer (is_wide s) layout.places layout.samples lines
   pub good : GoodTable layout.signals layout.samples lines
-  pub starts : Walk s layout.signals layout.samples lines 0 layout.table (replicate most_lines 0) (replicate most_lines 0)
+  pub starts : Walk s layout.signals layout.samples lines 0 layout.table (replicate most_lines no_extent)
   pub surveyed : Surveyed s layout distances
   pub roads : RoadsIn s layout.roads layout.places
 
@@ -75,7 +73,7 @@ accepted_table s layout distances accepting =
       counted = refl;
       sizes = sizes s d L sheet;
       good = (table s d L sheet).good;
-      starts = walk_start s L.sizes.signals L.sizes.samples (layout_of s L).table sheet.table;
+      starts = walk_start s L.sizes.signals L.sizes.samples (layout_of s L).table sheet.table no_extent;
       surveyed = record {
         sheet = record {
           places = (within.places_some, within.places_most);
@@ -88,27 +86,6 @@ accepted_table s layout distances accepting =
       };
       roads = good_roads s L.roads L.sizes.places good_road;
     })
-
--- ---- a line is decoded as the check has read it
-
-pub record Passed (s : List ℕ) (v T : ℕ) (lines : List Line) (k : ℕ) (firsts lengths : List ℕ) (line : Read.Line) (next : ℕ) : Type 0 where
-  pub said : line_said line ≡ line_in lines k
-  pub walk : Walk s v T lines (k + 1) next (set firsts k line.extent.first) (set lengths k line.extent.length)
-
-module _ (s : List ℕ) (v T : ℕ) (lines : List Line) (k at : ℕ) (firsts lengths : List ℕ) (walk : Walk s v T lines k at firsts lengths) (more : k < length lines)
-    (decoded : Decoded) (reads : decoded_said decoded ≡ line_at s v T k (extent_in firsts lengths) at) where
-  step : Step s v T lines k at firsts lengths
-  step = walk_step s v T lines k at firsts lengths walk more
-
-  pub never_refused : (fault : Fault) (place : ℕ) → decoded ≡ D.Refused fault place → ⊥
-  never_refused fault place e = never (sym (ap decoded_said e) ∙ reads ∙ step.reads)
-
-  pub line_passed : (line : Read.Line) (next : ℕ) → decoded ≡ D.Line line next → Passed s v T lines k firsts lengths line next
-  line_passed line next e =
-      let same : ◌≡◌ {A = Line × ℕ} (line_said line, next) (line_in lines k, step.next) = same_accepted (sym (ap decoded_said e) ∙ reads ∙ step.reads) in
-      let said : line_said line ≡ line_in lines k = ap (λ (read : Line × ℕ). read.0) same in
-      let after : next ≡ step.next = ap (λ (read : Line × ℕ). read.1) same in
-      record { said = said; walk = rw (after, ap (λ (l : Line). l.extent.first) said, ap (λ (l : Line). l.extent.length) said) step.walk }
 
 -- ---- where a line of the answer ends
 
@@ -125,7 +102,7 @@ line_ends wide n T lines k inside within said = record {
 
 -- ---- one turn over the lines of a sheet that is accepted
 module _ {s : List ℕ} {layout : Code.Layout} {distances : List ℕ} (accepting : Accepting s layout distances) where
-  abbrev all : List Line
+  abbrev pub all : List Line
   all = (found s (length distances)).lines
 
   pub table_known : Table s layout distances (found s (length distances)).lines
@@ -141,13 +118,25 @@ module _ {s : List ℕ} {layout : Code.Layout} {distances : List ℕ} (accepting
     pub more_lines : k < length (found s (length distances)).lines
     more_lines = omega (arith, table_known.counted)
 
-    module _ {at : ℕ} {firsts lengths : List ℕ} (walk : Walk s layout.signals layout.samples all k at firsts lengths)
-        {decoded : Decoded} (reads : decoded_said decoded ≡ line_at s layout.signals layout.samples k (extent_in firsts lengths) at) where
-      pub turn_unrefused : {fault : Fault} {place : ℕ} → decoded ≡ D.Refused fault place → ⊥
-      turn_unrefused e = never_refused _ _ _ _ k at firsts lengths walk more_lines decoded reads _ _ e
+    module _ {at : ℕ} {extents : List Extent} (walk : Walk s layout.signals layout.samples all k at extents) where
+      -- a line is read there as the check has read it
+      pub turn_there : LineThere s layout (take k extents) at
+      turn_there =
+          let step = walk_step _ _ _ _ k at extents walk more_lines in
+          record { there = step.there; within = walk_within _ _ _ _ k at extents walk; found = (line_in all k, step.next); reads = step.reads }
 
-      pub turn_passed : {line : Read.Line} {next : ℕ} → decoded ≡ D.Line line next → Passed s layout.signals layout.samples all k firsts lengths line next
-      turn_passed e = line_passed _ _ _ _ k at firsts lengths walk more_lines decoded reads _ _ e
+      module _ (read : Read.Line × ℕ) (reads : line_read s layout (take k extents) at ≡ accepted (line_and_next read)) where
+        same : line_and_next read ≡ (line_in all k, (walk_step _ _ _ _ k at extents walk more_lines).next)
+        same = same_accepted (sym reads ∙ (walk_step _ _ _ _ k at extents walk more_lines).reads)
 
-      pub turn_ends : {line : Read.Line} {next : ℕ} → decoded ≡ D.Line line next → Ends (is_wide s) layout.places all k line.extent.length
-      turn_ends e = line_ends _ _ _ _ k more_lines table_known.sizes (turn_passed e).said
+        pub turn_said : line_said read.0 ≡ line_in all k
+        turn_said = ap (λ (r : Line × ℕ). r.0) same
+
+        pub turn_passed : Walk s layout.signals layout.samples all (k + 1) read.1 (set extents k read.0.extent)
+        turn_passed =
+            let step = walk_step _ _ _ _ k at extents walk more_lines in
+            subst (λ (next : ℕ). Walk s layout.signals layout.samples all (k + 1) next (set extents k read.0.extent)) (sym (ap (λ (r : Line × ℕ). r.1) same))
+            (step.walk read.0.extent (ap (λ (l : Line). l.extent) turn_said))
+
+        pub turn_ends : Ends (is_wide s) layout.places all k read.0.extent.length
+        turn_ends = line_ends _ _ _ _ k more_lines table_known.sizes turn_said

@@ -1,7 +1,9 @@
 pub mod EarlierLines
 pub mod LineMeant
 pub mod SpaceTable
+pub mod Writers
 pub mod LineLocated
 pub mod LineWords
 pub mod AcceptedTable
 pub mod LinesDone
+pub mod Turn

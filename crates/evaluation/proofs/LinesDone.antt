@@ -1,18 +1,17 @@
 -- What stands after the first k lines are written; that line k can be written on it, and what it then becomes.
 use mathlib.Core.Path.{◌≡◌, refl, sym, ◌∙◌, ap, ap₂, subst}
 use mathlib.Core.Logic.{⊎_elim}
-use mathlib.Core.List.{List, [], ◌∷◌}
-use Prim.Native.Nat.{ℕ, ◌+◌, ◌-◌, ◌*◌, ◌<◌, ◌≤◌, max}
-use native.Mathlib.Decide.{ℕ_discrete}
+use mathlib.Core.List.{List, ◌∷◌}
+use Prim.Native.Nat.{ℕ, ◌+◌, ◌-◌, ◌*◌, ◌<◌, ◌≤◌, ◌^◌, max}
+use native.Mathlib.Decide.{dec_lt}
 use native.Mathlib.Nat.{not-suc-le-zero, mul-le-mul}
 use native.Mathlib.Numerals.{add-one}
 use native.Mathlib.Omega.{arith}
-use lib.ListN.{length, get_or, set, take, replicate, length-append, length-set, length-replicate}
-use lib.Seq.{length-take-le, get_or-set_same, get_or-set_other}
+use lib.ListN.{length, get_or, set, take, replicate, length-set, length-replicate, get_or-eq_default}
+use lib.Seq.{length-take-le, get_or-take, get_or-set_same, get_or-set_other}
 use Rattle.words.specs.Rows.{concat, put}
-use Rattle.words.proofs.Zeros.{zero_at}
 use Rattle.words.proofs.Puts.{put_nil, length-put, put-append}
-use Rattle.formulas.specs.Formulas.{Extent, Line, line_in, InBits}
+use Rattle.formulas.specs.Formulas.{Extent, Line, line_in, no_line, InBits}
 use Rattle.formulas.proofs.Extents.{Has}
 use Rattle.logic.specs.Table.{verdicts, margins, value_at}
 use Rattle.counting.specs.Totals.{count, sum_below, most_below}
@@ -24,22 +23,26 @@ use Rattle.sheet.specs.declared.check.Layout as Code
 use Rattle.checks.specs.Limits.{most_places, most_samples, most_lines}
 use Rattle.checks.specs.Heads.{head_words, is_wide}
 use Rattle.checks.proofs.Heads.{most_of_any}
-use Rattle.lines.specs.GoodLines.{extents_of}
+use Rattle.lines.specs.declared.extent.Extent as Read
+use Rattle.lines.specs.Decoding.{extent_in}
+use Rattle.lines.specs.GoodLines.{extents_of, GoodLine}
 use Rattle.sheet.specs.Layout.{Layout}
 use Rattle.sheet.specs.Recording.{network, recording}
-use Rattle.lines.proofs.AcceptedLines.{good_end, good_constants}
+use Rattle.lines.proofs.AcceptedLines.{good_end, extent_same, good_constants}
+use Rattle.lines.proofs.Lines.{Extents}
 use Rattle.values.specs.Chain.{chains, Valid}
 use Rattle.values.specs.Signals.{signal_in}
 use Rattle.values.proofs.ChainTable.{chains_valid}
 use Rattle.samples.specs.declared.tally.Tally.{Tally}
 use Rattle.samples.specs.Tally.{together}
 use Rattle.answers.specs.Answer.{line_index, first_word, line_words}
+use Rattle.locating.specs.Starts.{StartsLow}
 use Rattle.verdicts.specs.Rows.{sheet_recording}
 use Rattle.verdicts.specs.Around.{sheet_network}
 use Rattle.answers.proofs.AnswerWords.{lines_size, sizes_below}
 use Rattle.verdicts.proofs.Points.{sheet_bits}
 use Rattle.evaluation.specs.Writing.{earlier, line_value, line_rounds}
-use Rattle.evaluation.specs.Line.{LineReady, LineWritten, words_up_to, value_here, rounds_here}
+use Rattle.evaluation.specs.Line.{LineReady, LineWritten, value_here, rounds_here}
 use Rattle.evaluation.specs.Lines.{found, Accepting, LinesWritten}
 use Rattle.evaluation.proofs.AcceptedTable.{Table, line_ends}
 use Rattle.evaluation.proofs.EarlierLines.{signal_before}
@@ -65,7 +68,6 @@ module _ (s : List ℕ) (layout : Code.Layout) (lines : List Line) where
     -- where the signal of each line begins, and where the next line will
     pub room : length starts ≡ most_lines
     pub begins : (i : ℕ) → i < k → get_or starts i 0 ≡ line_index (is_wide s) layout.places lines i + 1
-    pub low : (i : ℕ) → get_or starts i 0 ≤ to
     pub ends : to ≡ line_index (is_wide s) layout.places lines k
     pub written : words ≡ put answer (head_words (is_wide s)) (concat words_of_line k)
     pub greatest : tally.rounds ≡ most_below rounds_of_line k
@@ -76,7 +78,6 @@ module _ (s : List ℕ) (layout : Code.Layout) (lines : List Line) where
   none_done answer = record {
     room = length-replicate {A = ℕ} most_lines 0;
     begins = λ i h. absurd (not-suc-le-zero h);
-    low = λ i. omega (arith, zero_at most_lines i);
     ends = omega arith;
     written = sym (put_nil answer (head_words (is_wide s)));
     greatest = refl;
@@ -111,12 +112,31 @@ module _ (s : List ℕ) (layout : Code.Layout) (distances : List ℕ) (lines : L
 
   module _ (answer : List ℕ) (enough : line_index (is_wide s) layout.places lines layout.lines ≤ length answer)
       (k : ℕ) (inside : k < length lines) (words starts : List ℕ) (to : ℕ) (tally : Tally) (done : LinesDone s layout lines answer k words starts to tally)
-      (firsts : List ℕ) (first_known : (i : ℕ) → i < k → get_or firsts i 0 ≡ (line_in lines i).extent.first) where
+      (extents : List Read.Extent) (known : Extents (take k lines) (take k extents)) (many : length extents ≡ most_lines) where
     abbrev n : ℕ
     n = layout.places
 
     before : List ℕ
-    before = words_up_to words to (line_in lines k)
+    before = take to words
+
+    -- where the signals of the earlier lines begin, and their extents
+    passed : length (take k extents) ≡ k
+    passed = length-take-le k extents (omega (arith, many, table.sizes.count))
+
+    start_known : (i : ℕ) → i < k → get_or (take k starts) i 0 ≡ line_index (is_wide s) n lines i + 1
+    start_known i h = get_or-take k starts i 0 h ∙ done.begins i h
+
+    extent_known : (i : ℕ) → i < k → extent_in (take k extents) i ≡ (line_in lines i).extent
+    extent_known i h = known i ∙ ap (λ (line : Line). line.extent) (get_or-take k lines i no_line h)
+
+    -- no start is too far for the samples behind it
+    pub starts_low : StartsLow (take k starts) n
+    unfolding line_index
+    starts_low = record { few_places = omega (arith, table.sizes.places, most_of_any (is_wide s)); low = λ i. go i (dec_lt i k) }
+      where
+        go : (i : ℕ) → Dec (i < k) → get_or (take k starts) i 0 < 2 ^ 62
+        go i (yes h) = omega (arith, start_known i h, sizes_below (sheet_network s layout) layout.samples (sheet_recording s layout) lines i k h, line_ends (is_wide s) n layout.samples lines k inside table.sizes refl)
+        go i (no h) = let none = get_or-eq_default (take k starts) 0 {n = i} (omega (arith, length-take-le k starts (omega (arith, done.room, table.sizes.count)))) in omega arith
 
     -- the words of the lines up to k fit
     fits : line_index (is_wide s) n lines k + (1 + (line_in lines k).extent.length * n) ≤ length answer
@@ -135,39 +155,44 @@ module _ (s : List ℕ) (layout : Code.Layout) (distances : List ℕ) (lines : L
 
     -- u samples after a line's first, and by the recording's own samples
     signal_after : (i u l : ℕ) → i < k → u < (line_in lines i).extent.length → l < n
-        → signal_in before (get_or starts i 0) n u l ≡ value_at chains (sheet_network s layout) (sheet_recording s layout) lines i ((line_in lines i).extent.first + u) l
+        → signal_in before (get_or (take k starts) i 0) n u l ≡ value_at chains (sheet_network s layout) (sheet_recording s layout) lines i ((line_in lines i).extent.first + u) l
     unfolding before
     signal_after i u l h among b =
-        rw (done.begins i h, done.ends, done.written)
-        (signal_before (sheet_network s layout) layout.samples (sheet_recording s layout) (sheet_bits s layout) lines constants (is_wide s) answer (omega (arith, fits, length_done)) k (first_word (line_in lines k).extent) i u l h among b)
+        rw (start_known i h, done.ends, done.written)
+        (signal_before (sheet_network s layout) layout.samples (sheet_recording s layout) (sheet_bits s layout) lines constants (is_wide s) answer (omega (arith, fits, length_done)) k i u l h among b)
 
-    signal_here : (i t l : ℕ) → i < k → Has (extents_of lines i) t → l < n → earlier layout before starts firsts i t l ≡ value_at chains (sheet_network s layout) (sheet_recording s layout) lines i t l
+    signal_here : (i t l : ℕ) → i < k → Has (extents_of lines i) t → l < n → earlier layout before (take k starts) (take k extents) i t l ≡ value_at chains (sheet_network s layout) (sheet_recording s layout) lines i t l
     signal_here i t l h among b =
         let first : ℕ = (line_in lines i).extent.first in
         let back : first + (t - first) ≡ t = omega (arith, among.from) in
-        ap (λ (f : ℕ). signal_in before (get_or starts i 0) n (t - f) l) (first_known i h)
+        ap (λ (e : Extent). signal_in before (get_or (take k starts) i 0) n (t - e.first) l) (extent_known i h)
         ∙ signal_after i (t - first) l h (omega (arith, among.from, among.to)) b
         ∙ ap (λ (u : ℕ). value_at chains (sheet_network s layout) (sheet_recording s layout) lines i u l) back
 
-    ready : LineReady s layout distances (words_up_to words to (line_in lines k)) starts firsts (line_in lines k)
+    good : GoodLine layout.signals layout.samples (extents_of lines) k (line_in lines k)
+    good = table.good k inside
+
+    ready : LineReady layout (take to words) (take k starts) (take k extents) (line_in lines k)
     unfolding before line_index
     ready = record {
-      surveyed = table.surveyed;
-      roads = table.roads;
-      earlier = k;
-      extents = extents_of lines;
-      good = table.good k inside;
-      begins = first_known;
-      low = λ i. omega (arith, done.low i, done.ends, line_ends (is_wide s) n layout.samples lines k inside table.sizes refl);
+      good = rw passed (record {
+        some = good.some;
+        ends = good.ends;
+        extent = good.extent
+            ∙ extent_same layout.samples layout.signals k (extents_of lines) (extent_in (take k extents)) (λ i h. sym (extent_known i h)) (line_in lines k).operator good.sound;
+        sound = good.sound;
+      });
       written = λ i h. omega (
         arith,
-        done.begins i h,
+        start_known i (omega (arith, passed)),
+        ap (λ (e : Extent). e.length * n) (extent_known i (omega (arith, passed))),
         done.ends,
-        length-append (take to words) (first_word (line_in lines k).extent ∷ []),
         length-take-le to words (omega (arith, room_left)),
-        sizes_below (sheet_network s layout) layout.samples (sheet_recording s layout) lines i k h,
+        sizes_below (sheet_network s layout) layout.samples (sheet_recording s layout) lines i k (omega (arith, passed)),
       );
-      valid = λ i u l h among b. subst Valid (sym (signal_after i u l h among b))
+      valid = λ i u l h among b.
+          let before_k : i < k = omega (arith, passed) in
+          subst Valid (sym (signal_after i u l before_k (omega (arith, ap (λ (e : Extent). e.length) (extent_known i before_k))) b))
           (chains_valid (sheet_network s layout) (sheet_recording s layout) (sheet_bits s layout) lines constants i ((line_in lines i).extent.first + u) l b);
     }
 
@@ -185,28 +210,19 @@ module _ (s : List ℕ) (layout : Code.Layout) (distances : List ℕ) (lines : L
         (λ l. get_or-set_other starts k i (to + 1) 0 (λ e. omega arith) ∙ done.begins i l)
         (below (omega arith))
 
-    -- no start lies beyond the line
-    low_more : (i : ℕ) → get_or (set starts k (to + 1)) i 0 ≤ to + (1 + (line_in lines k).extent.length * n)
-    low_more i = by (ℕ_discrete i k)
-      where
-        by : Dec (i ≡ k) → get_or (set starts k (to + 1)) i 0 ≤ to + (1 + (line_in lines k).extent.length * n)
-        by (yes e) = rw e (omega (arith, get_or-set_same starts k (to + 1) 0 (omega (arith, done.room, table.sizes.count))))
-        by (no e) = omega (arith, get_or-set_other starts k i (to + 1) 0 e, done.low i)
-
-    more_done : (after : List ℕ) (more : Tally) → LineWritten s layout words starts firsts to (line_in lines k) after more
+    more_done : (after : List ℕ) (more : Tally) → LineWritten s layout (take to words) (take k starts) (take k extents) (line_in lines k) words to after more
         → LinesDone s layout lines answer (k + 1) after (set starts k (to + 1)) (to + (1 + (line_in lines k).extent.length * n)) (together tally more)
     unfolding before value_here rounds_here line_value line_rounds line_words
     more_done after more here =
         let N = sheet_network s layout in
         let x = sheet_recording s layout in
         let T : ℕ = layout.samples in
-        let meant = words_meant N T x (sheet_bits s layout) lines constants layout.signals table.good k inside (earlier layout before starts firsts) signal_here in
-        let many = yes_meant N T x (sheet_bits s layout) lines constants layout.signals table.good k inside (earlier layout before starts firsts) signal_here in
-        let most = rounds_meant N T x (sheet_bits s layout) lines constants layout.signals table.good k inside (earlier layout before starts firsts) signal_here in
+        let meant = words_meant N T x (sheet_bits s layout) lines constants layout.signals table.good k inside (earlier layout before (take k starts) (take k extents)) signal_here in
+        let many = yes_meant N T x (sheet_bits s layout) lines constants layout.signals table.good k inside (earlier layout before (take k starts) (take k extents)) signal_here in
+        let most = rounds_meant N T x (sheet_bits s layout) lines constants layout.signals table.good k inside (earlier layout before (take k starts) (take k extents)) signal_here in
         record {
           room = length-set starts k (to + 1) ∙ done.room;
           begins = begun;
-          low = low_more;
           ends = omega (arith, done.ends, line_ends (is_wide s) n T lines k inside table.sizes refl);
           written = here.written ∙ ap (λ (w : List ℕ). put words to (first_word (line_in lines k).extent ∷ w)) meant ∙ joined;
           greatest = ap₂ max done.greatest (here.greatest ∙ most) ∙ sym (most_more (rounds_of_line s layout lines) k);
@@ -218,9 +234,9 @@ module _ (s : List ℕ) (layout : Code.Layout) (distances : List ℕ) (lines : L
       pub line_fits : to + (1 + line.extent.length * n) ≤ length words
       line_fits = rw said room_left
 
-      pub line_ready : LineReady s layout distances (words_up_to words to line) starts firsts line
+      pub line_ready : LineReady layout (take to words) (take k starts) (take k extents) line
       line_ready = rw said ready
 
-      pub line_done : (after : List ℕ) (more : Tally) → LineWritten s layout words starts firsts to line after more
+      pub line_done : (after : List ℕ) (more : Tally) → LineWritten s layout (take to words) (take k starts) (take k extents) line words to after more
           → LinesDone s layout lines answer (k + 1) after (set starts k (to + 1)) (to + (1 + line.extent.length * n)) (together tally more)
       line_done after more here = rw said (more_done after more (rw said at here))

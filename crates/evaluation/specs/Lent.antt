@@ -4,9 +4,8 @@ use Rattle.words.specs.Bytes.{words_of, numbers_of}
 use Rattle.sheet.specs.declared.check.Layout as Code
 use Rattle.checks.specs.Heads.{is_wide}
 use Rattle.sheet.specs.Layout.{Layout}
-use Rattle.samples.specs.declared.tally.Tally.{Tally}
 use Rattle.answers.specs.Answer.{line_index, words_needed}
-use Rattle.evaluation.specs.Lines.{found, Accepting, LinesWritten}
+use Rattle.evaluation.specs.Lines.{found, Accepting}
 
 module _ (sheet distances : List ℕ) where
   abbrev pub AcceptingIn : Code.Layout → Type 0
@@ -22,7 +21,3 @@ module _ (sheet distances : List ℕ) where
   -- where the lines of the answer end
   abbrev pub lines_end_in : Code.Layout → ℕ
   lines_end_in layout = line_index (is_wide (words_of sheet)) layout.places found_in.lines layout.lines
-
-  -- the lines in the bytes of the answer as they are left
-  abbrev pub LinesWrittenIn : List ℕ → List ℕ → ℕ → Tally → Type 0
-  LinesWrittenIn answer after = LinesWritten (words_of sheet) found_in (words_of answer) (words_of after)

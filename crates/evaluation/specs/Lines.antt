@@ -1,6 +1,10 @@
 -- For inner contracts only: all lines of the answer to an accepted sheet, what the engine knows of the sheet, and what writing its lines leaves.
-use Rattle.std.specs.Prelude.{◌≡◌, List, [], ℕ, length}
+use Rattle.std.specs.Prelude.{◌≡◌, List, [], ℕ, ◌<◌, length}
 use Rattle.words.specs.Rows.{concat, padded, put}
+use Rattle.formulas.specs.Formulas.{Line}
+use Rattle.lines.specs.declared.extent.Extent.{Extent}
+use Rattle.lines.specs.Lines.{line_at}
+use Rattle.lines.specs.Decoding.{extent_in, ExtentsWithin}
 use Rattle.logic.specs.Counts.{greatest_rounds, yes_count}
 use Rattle.sheet.specs.declared.check.Layout as Code
 use Rattle.checks.specs.Checked.{Checked, accepted, refused}
@@ -25,6 +29,17 @@ pub record Accepting (s : List ℕ) (layout : Code.Layout) (distances : List ℕ
   pub accepts : checked s (length distances) ≡ accepted (found s (length distances))
   pub laid : layout ≡ layout_of s (found s (length distances))
   pub measured : distances ≡ padded (distance_table (network s (found s (length distances)))) (length distances)
+
+-- what the check reads at an index, after earlier lines of these extents
+abbrev pub line_read : List ℕ → Code.Layout → List Extent → ℕ → Checked (Line × ℕ)
+line_read s layout earlier at = line_at s layout.signals layout.samples (length earlier) (extent_in earlier) at
+
+-- it is a line
+pub record LineThere (s : List ℕ) (layout : Code.Layout) (earlier : List Extent) (at : ℕ) : Type 0 where
+  pub there : at < length s
+  pub within : ExtentsWithin layout.samples earlier
+  pub found : Line × ℕ
+  pub reads : line_read s layout earlier at ≡ accepted found
 
 -- the lines of an accepted sheet, written one after the other behind the head
 module _ (s : List ℕ) (L : Layout) (answer : List ℕ) where

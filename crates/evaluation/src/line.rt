@@ -7,51 +7,66 @@ ghost use Rattle.lines.specs.Decoding.{extent_said, line_said};
 ghost use Rattle.answers.specs.Answer.{first_word};
 ghost use Rattle.evaluation.specs.Line.{LineReadyIn, LineFitsIn, LineWrittenIn};
 
+use crate::accepted::Accepted;
+use checks::kind::Kind;
 use lines::extent::Extent;
 use lines::line::Line;
+use locating::earlier::Earlier;
 use locating::{Located, locate};
 use samples::tally::Tally;
-use sheet::check::Layout;
-use verdicts::around::write_around;
-use verdicts::row::write_rows;
-
-// Kind 14, in bits 31..28.
-const LINE: u32 = 3758096384;
+use verdicts::around::{SpaceLine, write_around};
+use verdicts::row::{RowLine, write_rows};
 
 // The first sample in bits 23..12, the length in 11..0.
 fn first_word(extent: Extent) -> u32
     requires { end_of (extent_said extent) ≤ most_samples }
     ensures { result ≡ first_word (extent_said extent) }
 {
-    let first = extent.first;
-    let length = extent.length;
-    LINE + first * 4096 + length
+    Kind::AnswerLine.word(extent.first * 4096 + extent.length)
 }
 
-// Writes a line from index `to` on, after the earlier lines, whose signals begin where `starts` tells, with the samples that `firsts` tells.
+// Writes a line of a sheet, of which the words before its own have the earlier lines.
 #[tactic(auto, using(words::proofs::Words::words_count))]
 pub(crate) fn write_line(
     line: Line,
-    sheet: &[u8],
-    layout: Layout,
-    distances: &[u8],
-    starts: &[usize],
-    firsts: &[u32],
-    answer: &mut [u8],
-    to: usize,
+    accepted: Accepted,
+    earlier: Earlier,
+    before: &[u8],
+    own: &mut [u8],
 ) -> Tally
-    requires { LineReadyIn sheet.now layout distances.now answer.old starts.now firsts.now to (line_said line) × LineFitsIn layout answer.old to (line_said line) }
-    ensures written { LineWrittenIn sheet.now layout answer.old starts.now firsts.now to (line_said line) answer.new result }
-    ensures tail { after_words answer.new ≡ after_words answer.old }
+    requires places { earlier.places ≡ accepted.layout.places }
+    requires ready { LineReadyIn accepted earlier line before.now }
+    requires fits { LineFitsIn accepted line own.old }
+    ensures written { LineWrittenIn accepted.entry earlier.entry line before.now own.old own.new result }
+    ensures tail { after_words own.new ≡ after_words own.old }
 {
-    let extent = line.extent;
-    words::put_word(answer, to, first_word(extent));
-    let begin = to + 1;
-    let samples = extent.length as usize;
-    match locate(line, starts, firsts, layout.places) {
-        Located::Rows(row) => write_rows(row, sheet, layout, answer, begin, samples),
+    let Accepted {
+        sheet,
+        layout,
+        distances,
+    } = accepted;
+    words::put_word(own, 0, first_word(line.extent));
+    let (_, verdicts) = own.split_at_mut(4);
+    let samples = line.extent.length as usize;
+    match locate(line, earlier) {
+        Located::Rows(operator) => {
+            let by_sample = RowLine {
+                operator,
+                sheet,
+                layout,
+                before,
+            };
+            write_rows(by_sample, verdicts, samples)
+        }
         Located::Blocks(around) => {
-            write_around(around, sheet, layout, distances, answer, begin, samples)
+            let over_space = SpaceLine {
+                around,
+                sheet,
+                layout,
+                distances,
+                before,
+            };
+            write_around(over_space, verdicts, samples)
         }
     }
 }

@@ -6,8 +6,8 @@ ghost use Rattle.std.specs.Prelude.{◌≡◌, length};
 ghost use Rattle.engine.specs.Result.{result_said};
 ghost use Rattle.host.specs.Host.{result_size, result_bytes, lent_whole, not_whole, host_judged, host_looked_up};
 
-use engine::Result;
-use tools::BYTES_REFUSED;
+use checks::fault::{Fault, Refusal};
+use engine::Answered;
 
 mod tool_calls;
 
@@ -21,24 +21,22 @@ const RESULT_BYTES: usize = 40;
 fn lent_whole(sheet: usize, distances: usize, answer: usize, res: usize) -> bool
     ensures { result ≡ lent_whole sheet distances answer res }
 {
-    if sheet % 4 != 0 {
-        return false;
-    }
-    if answer % 4 != 0 {
-        return false;
-    }
-    if distances % 8 != 0 {
-        return false;
-    }
-    res == RESULT_BYTES
+    sheet % 4 == 0 && answer % 4 == 0 && distances % 8 == 0 && res == RESULT_BYTES
 }
 
-fn put_result(res: &mut [u8], told: Result)
+// The five numbers of what the engine answers, and the first of them: here, and in `put_told` of tools, 0 stands for no refusal. Tools have three
+// numbers of another answer; what is common to both is `words::put_numbers`.
+fn put_result(res: &mut [u8], told: Result<Answered, Refusal>) -> u64
     requires { length res.old ≡ result_size }
-    ensures { res.new ≡ result_bytes (result_said told) }
+    ensures number { result ≡ (result_said told).number }
+    ensures held { res.new ≡ result_bytes (result_said told) }
 {
-    let numbers = [told.number, told.place, told.words, told.rounds, told.yes];
+    let numbers = match told {
+        Ok(answered) => [0, 0, answered.words, answered.rounds, answered.yes],
+        Err(refusal) => [refusal.fault.number(), refusal.place as u64, 0, 0, 0],
+    };
     words::put_numbers(res, &numbers);
+    numbers[0]
 }
 
 // Refuses lengths that are not whole: zeros in all that is lent, but for the number in a result of the right size.
@@ -51,14 +49,13 @@ fn refuse(distances: &mut [u8], answer: &mut [u8], res: &mut [u8]) -> u64
     words::fill_zero(distances);
     words::fill_zero(answer);
     words::fill_zero(res);
-    if res.len() != RESULT_BYTES {
-        return BYTES_REFUSED;
+    if res.len() == RESULT_BYTES {
+        return put_result(res, Err(Fault::BytesRefused.at(0)));
     }
-    put_result(res, engine::refusal(BYTES_REFUSED, 0));
-    BYTES_REFUSED
+    Fault::BytesRefused.number()
 }
 
-// Judges a sheet and returns the number of its refusal, 0 for none. Lengths that are not whole are 16, before all else.
+// Judges a sheet and returns the number of its refusal, 0 for none, as C takes it. Lengths that are not whole are 16, before all else.
 #[tactic(auto, using(crate::proofs::Lent::whole_lengths, crate::proofs::Lent::refused_lengths))]
 pub fn judge(sheet: &[u8], distances: &mut [u8], answer: &mut [u8], res: &mut [u8]) -> u64
     ensures told { result ≡ (host_judged sheet.now distances.old answer.old res.old).number }
@@ -69,12 +66,10 @@ pub fn judge(sheet: &[u8], distances: &mut [u8], answer: &mut [u8], res: &mut [u
     if !lent_whole(sheet.len(), distances.len(), answer.len(), res.len()) {
         return refuse(distances, answer, res);
     }
-    let told = engine::judge(sheet, distances, answer);
-    put_result(res, told);
-    told.number
+    put_result(res, engine::judge(sheet, distances, answer))
 }
 
-// 1 yes, 2 no, 0 no verdict: bytes past the last whole word are no part of an answer.
+// 1 yes, 2 no, 0 no verdict, a number as C takes it: bytes past the last whole word are no part of an answer.
 #[tactic(auto, unfolding(crate::specs::Host::host_looked_up))]
 pub fn lookup(answer: &[u8], line: u64, sample: u64, place: u64) -> u64
     ensures { result ≡ host_looked_up answer.now line sample place }

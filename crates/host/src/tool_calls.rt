@@ -1,4 +1,4 @@
-// The tools for a host.
+// The tools for a host, each by a name that its calls in C have.
 ghost use Rattle.std.specs.Prelude.{◌≡◌, true, false};
 ghost use Rattle.tools.specs.Tools.{host_converted, host_corrected};
 

@@ -20,6 +20,7 @@ pub fn read_full<R: Read>(input: &mut R, buf: &mut [u8]) -> io::Result<usize>
     ensures no_room { length buf.new ≡ 0 → IsOk result }
     ensures failed { IfErr result (λ _. HeldAtStart (R.remaining input.old) (R.remaining input.new) buf.new) }
 {
+    // each read tells how far it came
     let mut done = 0;
     while done < buf.len() {
         let n = input.read(&mut buf[done..])?;

@@ -9,7 +9,7 @@ use native.Mathlib.Decide.{ℕ_discrete}
 use native.Mathlib.Numerals.{add-one}
 use native.Mathlib.Omega.{arith}
 use lib.Dec.{T, eqb, eqb_refl}
-use lib.ListN.{length}
+use lib.ListN.{length, get_or}
 use Rattle.logic.specs.Lattice.{least_over}
 use Rattle.network.specs.Distance.{Distance, dist}
 use Rattle.network.specs.Network.{is_road}
@@ -20,12 +20,13 @@ use Rattle.roads.specs.Roads.{leads_by, first_of, second_of, forth_of, back_of, 
 use Rattle.roads.proofs.Ways.{leads_ends}
 use Rattle.values.specs.Chain.{chain_lattice, highest}
 use Rattle.values.proofs.Naturals.{meet_min}
-use Rattle.lanes.specs.Lanes.{lanes, row_count, Numbers, row_in}
-use Rattle.lanes.specs.Rows.{KeptBelow}
-use Rattle.lanes.proofs.RowLaws.{kept_below_trans, kept_below_lower}
-use Rattle.iteration.specs.WorkRows.{ring_row, x_row, old_row, both_row, Worked, KeptBut}
+use Rattle.lanes.specs.declared.Place.{Place}
+use Rattle.lanes.specs.Lanes.{lanes, Numbers, row_in}
+use Rattle.lanes.specs.Rows.{Kept, KeptPast}
+use Rattle.lanes.proofs.RowLaws.{kept_trans, kept_past_trans}
+use Rattle.iteration.specs.WorkRows.{ring_row, x_row, former_row, both_row, joined_part, stepped_part, Worked, KeptBut}
 use Rattle.iteration.specs.Steps.{joined_by, RoadsIn, Bounded, Joined, Pulled, LeastOf, Stepped, Round}
-use Rattle.iteration.proofs.Outside.{row_same, but_below, stepped_low}
+use Rattle.iteration.proofs.Outside.{ring_same, stepped_of_joined, stepped_of_x, stepped_low}
 
 -- ---- least_over on chain numbers
 cond_le : (t : Bool) (z a b : ℕ) → (T t → z ≤ a) → z ≤ b → z ≤ cond t a b
@@ -125,7 +126,7 @@ module _ (sheet : List ℕ) (r : ℕ) where
       swapped true false v = refl
       swapped false u v = refl
 
-  pub road_more : {both x₀ x y z : Numbers} → Pulled (forth_of sheet r) both x y → Pulled (back_of sheet r) both y z
+  road_more : {both x₀ x y z : Numbers} → Pulled (forth_of sheet r) both x y → Pulled (back_of sheet r) both y z
       → Stepped (joined_by sheet r) both x₀ x → Stepped (joined_by sheet (r + 1)) both x₀ z
   road_more {both} {x₀} {x} {y} {z} forth back s = rw add-one (
       subst (λ (joined : ℕ → ℕ → Bool). Stepped joined both x₀ z) (λ i a b. both_ways a b i)
@@ -167,16 +168,16 @@ joined_inside sheet roads n i (suc r) l q p h =
     ends way b k = let e = leads_ends way q p k in (rw (← e.1) b.0, rw (← e.2) b.1)
 
 -- ---- a round, in which x is joined and then steps
-module _ {sheet : List ℕ} {roads : ℕ} {inside : List Bool} {before middle after : List ℕ} (i : RoadsIn sheet roads (length inside)) (b : Bounded (row_in before x_row) (length inside))
-    (j : Joined (row_in before x_row) (row_in before ring_row) (row_in middle old_row) (row_in middle both_row) (length inside)) (w : Worked old_row inside before middle)
+module _ {sheet : List ℕ} {roads : ℕ} {inside : List Bool} {before middle after : List Place} (i : RoadsIn sheet roads (length inside)) (b : Bounded (row_in before x_row) (length inside))
+    (j : Joined (row_in before x_row) (row_in before ring_row) (row_in middle former_row) (row_in middle both_row) (length inside)) (w : Worked joined_part inside before middle)
     (s : Stepped (joined_by sheet roads) (row_in middle both_row) (row_in middle x_row) (row_in after x_row)) (k : KeptBut x_row middle after) where
   from_before : (place lane : ℕ) → lane < lanes → LeastOf (row_in after x_row lane place) (row_in before x_row lane place) (joined_by sheet roads place) (row_in middle both_row lane)
-  from_before place lane l = subst (λ (v : ℕ). LeastOf (row_in after x_row lane place) v (joined_by sheet roads place) (row_in middle both_row lane)) (w.kept.kept x_row place lane (omega arith) l) (s.least place lane l)
+  from_before place lane l = subst (λ (v : ℕ). LeastOf (row_in after x_row lane place) v (joined_by sheet roads place) (row_in middle both_row lane)) (ap (λ (q : Place). get_or q.x lane 0) (w.kept.same place)) (s.least place lane l)
 
-  pub round_joined : Joined (row_in before x_row) (row_in before ring_row) (row_in after old_row) (row_in after both_row) (length inside)
+  pub round_joined : Joined (row_in before x_row) (row_in before ring_row) (row_in after former_row) (row_in after both_row) (length inside)
   round_joined = record {
-    former = λ place lane l m. k.kept old_row place lane (omega arith) m (λ e. absurd (omega arith)) ∙ j.former place lane l m;
-    handed = λ place lane l m. k.kept both_row place lane (omega arith) m (λ e. absurd (omega arith)) ∙ j.handed place lane l m;
+    former = λ place lane l m. ap (λ (q : Place). get_or q.former lane 0) (k.same place) ∙ j.former place lane l m;
+    handed = λ place lane l m. ap (λ (q : Place). get_or q.both lane 0) (k.same place) ∙ j.handed place lane l m;
   }
 
   pub round_made : Round sheet roads (length inside) (row_in before ring_row) (row_in before x_row) (row_in after x_row)
@@ -188,29 +189,14 @@ module _ {sheet : List ℕ} {roads : ℕ} {inside : List Bool} {before middle af
         (least_kept chain_lattice chain_lattice (λ u v. u ≡ v) (same_kept chain_lattice) (joined_by sheet roads place) _ _ (length inside) (λ p c _. j.handed p lane c m));
   }
 
-  -- no road leads from a place past the last
-  x_past : (place lane : ℕ) → length inside ≤ place → lane < lanes → row_in after x_row lane place ≡ row_in before x_row lane place
-  x_past place lane l m =
-      let least = from_before place lane m in
-      let up = least.greatest (row_in before x_row lane place) (omega arith) (λ p t. absurd (omega (arith, (joined_inside sheet roads (length inside) i roads (omega arith) place p t).0))) in
-      omega (arith, least.below)
-
-  pub round_worked : Worked x_row inside before after
-  round_worked = record {
-    kept = kept_below_trans (kept_below_lower w.kept (omega arith)) (but_below (omega arith) (omega arith) k);
-    past = record { kept = λ row place lane c l m. at row place lane c l m (ℕ_discrete row x_row) };
-    low = stepped_low s k w.low;
-  }
-    where
-      at : (row place lane : ℕ) → row < row_count → length inside ≤ place → lane < lanes → Dec (row ≡ x_row) → row_in after row lane place ≡ row_in before row lane place
-      at row place lane c l m (yes same) = rw same (x_past place lane l m)
-      at row place lane c l m (no other) = k.kept row place lane c m other ∙ w.past.kept row place lane c l m
+  pub round_worked : KeptPast (length inside) middle after → Worked stepped_part inside before after
+  round_worked past = record { kept = kept_trans (stepped_of_joined w.kept) (stepped_of_x k); past = kept_past_trans w.past past; low = stepped_low s k w.low }
 
 -- the ring has not changed since the first round
-pub round_as : {sheet : List ℕ} {roads n : ℕ} {before rows : List ℕ} {x y : Numbers} → KeptBelow x_row before rows → Round sheet roads n (row_in rows ring_row) x y
+pub round_as : {sheet : List ℕ} {roads n : ℕ} {before rows : List Place} {x y : Numbers} → Kept stepped_part before rows → Round sheet roads n (row_in rows ring_row) x y
     → Round sheet roads n (row_in before ring_row) x y
 round_as {sheet} {roads} {n} {x = x} {y = y} k w = record {
   stepped = λ place lane b l. subst
       (λ (q : ℕ → ℕ). y lane place ≡ chain_lattice.meet (x lane place) (least_over chain_lattice (joined_by sheet roads place) (λ p. chain_lattice.join (x lane p) (q p)) n))
-      (row_same k ring_row (omega arith) lane l) (w.stepped place lane b l);
+      (ring_same k lane) (w.stepped place lane b l);
 }

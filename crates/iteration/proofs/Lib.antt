@@ -3,3 +3,4 @@ pub mod Least
 pub mod Masks
 pub mod Settling
 pub mod SheetRoads
+pub mod Rules

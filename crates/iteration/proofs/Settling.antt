@@ -7,7 +7,7 @@ use mathlib.Core.Logic.{◌⊎◌, inl, inr, ⊎_elim}
 use Prim.Native.Nat.{ℕ, suc, ◌+◌, ◌*◌, ◌/◌, ◌<◌, ◌≤◌}
 use native.Mathlib.Nat.{le_antisymm}
 use native.Mathlib.Omega.{arith}
-use lib.ListN.{length}
+use lib.ListN.{length, get_or}
 use Rattle.logic.specs.Iteration.{iterate, masked, rounds}
 use Rattle.counting.specs.Totals.{most_below, sum_below}
 use Rattle.logic.proofs.Keeps.{same_kept, least_kept}
@@ -15,9 +15,10 @@ use Rattle.counting.proofs.Totals.{sum_le, sum_lt, sum_bound, most_le, le_most}
 use Rattle.values.specs.Chain.{chain_lattice, highest}
 use Rattle.values.proofs.ChainSurround.{halves_rest_after, rounds_of_halves}
 use Rattle.values.proofs.Naturals.{meet_min}
+use Rattle.lanes.specs.declared.Place.{Place}
 use Rattle.lanes.specs.Lanes.{lanes, Numbers, row_in}
-use Rattle.lanes.proofs.RowLaws.{kept_below_refl, kept_below_trans, kept_past_refl, kept_past_trans}
-use Rattle.iteration.specs.WorkRows.{ring_row, x_row, Worked}
+use Rattle.lanes.proofs.RowLaws.{kept_refl, kept_trans, kept_past_refl, kept_past_trans}
+use Rattle.iteration.specs.WorkRows.{ring_row, x_row, stepped_part, Worked}
 use Rattle.iteration.specs.Steps.{joined_by, RowsApart, Bounded, ValidRow, Start, Joined, Round, step_in, rounds_in, Settled}
 use Rattle.iteration.proofs.Least.{round_as}
 
@@ -177,27 +178,28 @@ module _ {sheet : List ℕ} {roads n : ℕ} {right x₀ x old y : Numbers} {r : 
       same place lane b l = omega (arith, d.alike f place lane b l)
 
 -- at rest the former numbers are those that the places have, and what they hand over is made of them
-pub rest_joined : {x ring old both y ring' : Numbers} {n : ℕ} → Joined x ring old both n → (t : Bool) → t ≡ false → RowsApart t (λ v. v / 1) old y n
-    → ((place lane : ℕ) → lane < lanes → ring' lane place ≡ ring lane place) → Joined y ring' old both n
-rest_joined {old = old} {y = y} {n = n} j t e a kept = record {
+pub rest_joined : {inside : List Bool} {rows after : List Place} {x old both y : Numbers} {n : ℕ} → Joined x (row_in rows ring_row) old both n → (t : Bool) → t ≡ false → RowsApart t (λ v. v / 1) old y n
+    → Worked stepped_part inside rows after → Joined y (row_in after ring_row) old both n
+rest_joined {old = old} {y = y} {n = n} j t e a w = record {
   former = same;
-  handed = λ place lane b l. j.handed place lane b l ∙ ap₂ chain_lattice.join (sym (j.former place lane b l) ∙ same place lane b l) (sym (kept place lane l));
+  handed = λ place lane b l. j.handed place lane b l
+      ∙ ap₂ chain_lattice.join (sym (j.former place lane b l) ∙ same place lane b l) (sym (ap (λ (q : Place). get_or q.ring lane 0) (w.kept.same place)));
 }
   where
     same : (place lane : ℕ) → place < n → lane < lanes → old lane place ≡ y lane place
     same place lane b l = omega (arith, a.alike e place lane b l)
 
--- ---- the rows of a buffer
+-- ---- the rows of places
 
-pub worked_on : {row : ℕ} {inside : List Bool} {before rows after : List ℕ} → Worked row inside before rows → Worked row inside rows after → Worked row inside before after
-worked_on so_far w = record { kept = kept_below_trans so_far.kept w.kept; past = kept_past_trans so_far.past w.past; low = w.low }
+pub worked_on : {part : Place → Place} {inside : List Bool} {before rows after : List Place} → Worked part inside before rows → Worked part inside rows after → Worked part inside before after
+worked_on so_far w = record { kept = kept_trans so_far.kept w.kept; past = kept_past_trans so_far.past w.past; low = w.low }
 
-module _ {sheet : List ℕ} {roads : ℕ} {inside : List Bool} {before : List ℕ} (start : Start sheet roads inside before) where
+module _ {sheet : List ℕ} {roads : ℕ} {inside : List Bool} {before : List Place} (start : Start sheet roads inside before) where
   abbrev GoingIn : Numbers → ℕ → Type 0
   GoingIn = Going sheet roads (length inside) (row_in before ring_row) (row_in before x_row)
 
-  pub worked_start : Worked x_row inside before before
-  worked_start = record { kept = kept_below_refl _ _; past = kept_past_refl _ _; low = start.low }
+  pub worked_start : Worked stepped_part inside before before
+  worked_start = record { kept = kept_refl _ _; past = kept_past_refl _ _; low = start.low }
 
   pub in_start : GoingIn (row_in before x_row) 1
   in_start = going_start sheet roads (length inside) (row_in before ring_row) (row_in before x_row) start.valid start.ring_valid
@@ -206,7 +208,7 @@ module _ {sheet : List ℕ} {roads : ℕ} {inside : List Bool} {before : List �
   start_small = total_bound (row_in before x_row) (length inside) (record { bound = λ place lane l m. (start.valid.valid place lane l m).bounded })
 
   -- a round after those so far
-  module _ {rows : List ℕ} {old both y : Numbers} {r : ℕ} (so_far : Worked x_row inside before rows) (going : GoingIn (row_in rows x_row) r)
+  module _ {rows : List Place} {old both y : Numbers} {r : ℕ} (so_far : Worked stepped_part inside before rows) (going : GoingIn (row_in rows x_row) r)
       (joined : Joined (row_in rows x_row) (row_in rows ring_row) old both (length inside)) (round : Round sheet roads (length inside) (row_in rows ring_row) (row_in rows x_row) y) where
     turn : Turn sheet roads (length inside) (row_in before ring_row) (row_in before x_row) (row_in rows x_row) old y r
     turn = record { valid_start = start.valid; valid_right = start.ring_valid; going = going; former = joined.former; round = round_as so_far.kept round }

@@ -10,6 +10,7 @@ use Rattle.checks.specs.Heads.{is_wide}
 use Rattle.roads.specs.declared.road.Way.{Way}
 use Rattle.roads.specs.Roads.{road_at, first_of, second_of, weight_among}
 use Rattle.values.specs.Chain.{chain_lattice, chain_margin, highest, Valid}
+use Rattle.lanes.specs.declared.Place.{Place}
 use Rattle.lanes.specs.Lanes.{lanes, Numbers, row_in}
 use Rattle.iteration.specs.WorkRows.{ring_row, x_row, LowOutside}
 
@@ -32,7 +33,7 @@ pub record ValidRow (row : Numbers) (n : ℕ) : Type 0 where
   pub valid : (place lane : ℕ) → place < n → lane < lanes → Valid (row lane place)
 
 -- what an iteration starts from: roads, and rows of numbers that can arise
-pub record Start (sheet : List ℕ) (roads : ℕ) (inside : List Bool) (rows : List ℕ) : Type 0 where
+pub record Start (sheet : List ℕ) (roads : ℕ) (inside : List Bool) (rows : List Place) : Type 0 where
   pub few_places : length inside ≤ most_places
   pub roads_in : RoadsIn sheet roads (length inside)
   pub valid : ValidRow (row_in rows x_row) (length inside)

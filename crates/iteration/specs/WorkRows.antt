@@ -1,49 +1,61 @@
--- The rows of a buffer that an iteration works in, and what it keeps: outside a ball they are lowest, and the rows of the operands stay as they are. These
--- are for contracts inside the engine: no promise to a host speaks of them.
-use Rattle.std.specs.Prelude.{◌≡◌, Bool, false, List, ℕ, ◌<◌, ◌≤◌, length}
-use Rattle.lanes.specs.Lanes.{lanes, row_count, row_in}
-use Rattle.lanes.specs.Rows.{Room, KeptBelow, KeptPast, flagged}
+-- The strips that an iteration works in, and what it keeps: outside a ball they are lowest, and those of the operands stay as they are. These are for
+-- contracts inside the engine: no promise to a host speaks of them.
+use Rattle.std.specs.Prelude.{◌≡◌, Bool, false, List, [], ℕ, ◌<◌, length, get_or}
+use Rattle.lanes.specs.declared.Place.{Place}
+use Rattle.lanes.specs.Lanes.{lanes, Row, place_at}
+use Rattle.lanes.specs.Rows.{Room, Kept, KeptPast, flagged}
 
 -- the ring about a centre, what its places have, what they had a round before, and what they hand to their neighbours
-abbrev pub ring_row : ℕ
-ring_row = 3
+abbrev pub ring_row : Row
+ring_row = record { strip = λ p. p.ring; others = λ p. record { left = p.left; right = p.right; out = p.out; ring = []; x = p.x; former = p.former; both = p.both } }
 
-abbrev pub x_row : ℕ
-x_row = 4
+abbrev pub x_row : Row
+x_row = record { strip = λ p. p.x; others = λ p. record { left = p.left; right = p.right; out = p.out; ring = p.ring; x = []; former = p.former; both = p.both } }
 
-abbrev pub old_row : ℕ
-old_row = 5
+abbrev pub former_row : Row
+former_row = record { strip = λ p. p.former; others = λ p. record { left = p.left; right = p.right; out = p.out; ring = p.ring; x = p.x; former = []; both = p.both } }
 
-abbrev pub both_row : ℕ
-both_row = 6
+abbrev pub both_row : Row
+both_row = record { strip = λ p. p.both; others = λ p. record { left = p.left; right = p.right; out = p.out; ring = p.ring; x = p.x; former = p.former; both = [] } }
 
--- a buffer has room for the places that the flags are of, and its rows to work in are lowest at those without a flag
-pub record LowOutside (inside : List Bool) (rows : List ℕ) : Type 0 where
+-- what is kept of a place by a join, which writes what it had and what it hands over; by a round, which writes x too; and by all that works on it
+abbrev pub joined_part : Place → Place
+joined_part p = record { left = p.left; right = p.right; out = p.out; ring = p.ring; x = p.x; former = []; both = [] }
+
+abbrev pub stepped_part : Place → Place
+stepped_part p = record { left = p.left; right = p.right; out = p.out; ring = p.ring; x = []; former = []; both = [] }
+
+abbrev pub operands : Place → Place
+operands p = record { left = p.left; right = p.right; out = p.out; ring = []; x = []; former = []; both = [] }
+
+-- all rows but one are kept
+abbrev pub KeptBut : Row → List Place → List Place → Type 0
+KeptBut row = Kept row.others
+
+-- the strips of a place to work in are lowest
+pub record LowPlace (p : Place) : Type 0 where
+  pub ring_low : (lane : ℕ) → lane < lanes → get_or p.ring lane 0 ≡ 0
+  pub x_low : (lane : ℕ) → lane < lanes → get_or p.x lane 0 ≡ 0
+  pub former_low : (lane : ℕ) → lane < lanes → get_or p.former lane 0 ≡ 0
+  pub both_low : (lane : ℕ) → lane < lanes → get_or p.both lane 0 ≡ 0
+
+-- the places that the flags are of are there, and those without a flag are lowest
+pub record LowOutside (inside : List Bool) (rows : List Place) : Type 0 where
   pub room : Room (length inside) rows
-  pub low : (row place lane : ℕ) → ring_row ≤ row → row < row_count → place < length inside → lane < lanes → flagged inside place ≡ false → row_in rows row lane place ≡ 0
+  pub low : (place : ℕ) → place < length inside → flagged inside place ≡ false → LowPlace (place_at rows place)
 
--- the rows below one are kept, and what stands past the places that the flags are of; those to work in are lowest outside
-pub record Worked (row : ℕ) (inside : List Bool) (before after : List ℕ) : Type 0 where
-  pub kept : KeptBelow row before after
+-- a part of every place is kept, and what stands past the places that the flags are of; outside they are lowest
+pub record Worked (part : Place → Place) (inside : List Bool) (before after : List Place) : Type 0 where
+  pub kept : Kept part before after
   pub past : KeptPast (length inside) before after
   pub low : LowOutside inside after
 
--- all rows but one are kept
-pub record KeptBut (row : ℕ) (before after : List ℕ) : Type 0 where
-  pub kept : (other place lane : ℕ) → other < row_count → lane < lanes → (other ≡ row → ⊥) → row_in after other lane place ≡ row_in before other lane place
-  pub long : length after ≡ length before
+-- the strips to work in have become lowest at a place, and at the first k places
+pub record PlaceCleared (before after : Place) : Type 0 where
+  pub low : LowPlace after
+  pub kept : operands after ≡ operands before
 
--- only rows to work in are written, and those at one place alone
-pub record WrittenAt (place : ℕ) (before after : List ℕ) : Type 0 where
-  pub kept : KeptBelow ring_row before after
-  pub elsewhere : (row p lane : ℕ) → row < row_count → lane < lanes → (p ≡ place → ⊥) → row_in after row lane p ≡ row_in before row lane p
-
--- the rows to work in have become lowest at a place, those below one of them, and at the first k places
-pub record PlaceCleared (place row : ℕ) (before after : List ℕ) : Type 0 where
-  pub low : (other lane : ℕ) → ring_row ≤ other → other < row → lane < lanes → row_in after other lane place ≡ 0
-  pub only : WrittenAt place before after
-
-pub record Cleared (k : ℕ) (before after : List ℕ) : Type 0 where
-  pub low : (row place lane : ℕ) → ring_row ≤ row → row < row_count → place < k → lane < lanes → row_in after row lane place ≡ 0
-  pub kept : KeptBelow ring_row before after
+pub record Cleared (k : ℕ) (before after : List Place) : Type 0 where
+  pub low : (place : ℕ) → place < k → LowPlace (place_at after place)
+  pub kept : Kept operands before after
   pub past : KeptPast k before after

@@ -1,89 +1,91 @@
-// Definition 4.4's iteration on rows of lanes: all places step together from the former round. The flags say which places lie inside the ball.
+// Definition 4.4's iteration in lanes: all places step together from the former round. The flags say which places lie inside the ball.
 ghost use Rattle.std.specs.Prelude.{◌*◌, ◌/◌, ◌≤◌, ◌<◌, length};
 ghost use Rattle.words.specs.Bytes.{words_of};
 ghost use Rattle.lanes.specs.Lanes.{row_in};
-ghost use Rattle.iteration.specs.WorkRows.{x_row, old_row, both_row, LowOutside, Worked, KeptBut};
-ghost use Rattle.iteration.specs.Steps.{RoadsIn, Bounded, Start, Pulled, RowsApart};
-ghost use Rattle.iteration.specs.Lent.{JoinedIn, SteppedIn, RoundIn, SettledIn};
+ghost use Rattle.lanes.specs.Rows.{KeptPast};
+ghost use Rattle.iteration.specs.WorkRows.{x_row, former_row, both_row, joined_part, stepped_part, LowOutside, Worked, KeptBut};
+ghost use Rattle.iteration.specs.Steps.{RoadsIn, Start, Pulled, RowsApart};
+ghost use Rattle.iteration.specs.Lent.{JoinedIn, SteppedIn, RoundReadyIn, RoundIn, SettledIn};
 
 use checks::head::is_wide;
-use lanes::ROWS;
-use lanes::strips::{combine_strips, copy_strip, strip_changed};
-use roads::road::{Network, Way, road_at, way_back, way_forth};
+use lanes::Place;
+use lanes::ends::{Greatest, Least};
+use lanes::strips::{differs, of_two};
+use roads::road::{Network, Road, Way, road_at};
 
 // So many chain numbers share a margin: one says no, one says yes.
 const MARGIN: u32 = 2;
 
-// The rows to work in: the ring about a centre, what its places have, what they had a round before, and what they hand to their neighbours.
-pub(crate) const RING: usize = 3;
-
-pub const X: usize = 4;
-
-const OLD: usize = 5;
-
-const BOTH: usize = 6;
-
 // Keeps the former numbers, and makes of them what each place hands to its neighbours: a pull must not read a place that has stepped already.
-fn join(rows: &mut [u32], inside: &[bool])
+// By index: through an iterator, the proof of a turn that joins a place or passes it by did not close.
+fn join(rows: &mut [Place], inside: &[bool])
     requires { LowOutside inside.now rows.old }
     ensures joined { JoinedIn rows.old inside.now rows.new }
-    ensures worked { Worked old_row inside.now rows.old rows.new }
+    ensures worked { Worked joined_part inside.now rows.old rows.new }
 {
     for place in 0..inside.len() {
         if inside[place] {
-            let strips = place * ROWS;
-            copy_strip(rows, strips + X, strips + OLD);
-            combine_strips(rows, strips + X, strips + RING, strips + BOTH, false);
+            let at = &mut rows[place];
+            at.former = at.x;
+            at.both = of_two::<Greatest>(&at.x, &at.ring);
         }
     }
 }
 
-// A place takes over what the place hands to it to which a way leads. One outside the ball has the lowest number already.
-fn pull(rows: &mut [u32], inside: &[bool], way: Way)
+// A place takes over what the place hands to it to which a way leads. One outside the ball has the lowest number already. What is handed over is copied
+// first, as both places lie in one slice; `&` tests both flags without a branch between them.
+fn pull(rows: &mut [Place], inside: &[bool], way: Way)
     requires { (way.from < length inside.now) × (way.to < length inside.now) × LowOutside inside.now rows.old }
     ensures pulled { Pulled way (row_in rows.old both_row) (row_in rows.old x_row) (row_in rows.new x_row) }
     ensures kept { KeptBut x_row rows.old rows.new }
+    ensures past { KeptPast (length inside.now) rows.old rows.new }
 {
-    let place = way.from;
-    if way.runs & inside[place] {
-        let x = place * ROWS + X;
-        combine_strips(rows, x, way.to * ROWS + BOTH, x, true);
+    if way.runs & inside[way.from] {
+        let handed = rows[way.to].both;
+        let at = &mut rows[way.from];
+        at.x = of_two::<Least>(&at.x, &handed);
     }
 }
 
-#[tactic(auto, using(crate::proofs::SheetRoads::first_road_fits, words::proofs::Words::words_count, crate::proofs::Outside::nothing_written, crate::proofs::Outside::stepped_low, crate::proofs::Outside::pulled_low, crate::proofs::SheetRoads::forth_read, crate::proofs::SheetRoads::back_read, crate::proofs::SheetRoads::forth_inside, crate::proofs::SheetRoads::back_inside, crate::proofs::Least::stepped_none))]
-fn step(rows: &mut [u32], inside: &[bool], sheet: &[u8], network: Network)
+#[tactic(auto, using(crate::proofs::Rules::step_laws))]
+fn step(rows: &mut [Place], inside: &[bool], sheet: &[u8], network: Network)
     requires { RoadsIn (words_of sheet.now) network.roads (length inside.now) × LowOutside inside.now rows.old }
     ensures stepped { SteppedIn rows.old sheet.now network rows.new }
     ensures kept { KeptBut x_row rows.old rows.new }
+    ensures past { KeptPast (length inside.now) rows.old rows.new }
 {
     let wide = is_wide(sheet);
     let mut at = road_at(wide, 0);
     for r in 0..network.roads {
-        let road = words::word_at(sheet, at);
+        let road = Road {
+            word: words::word_at(sheet, at),
+            wide,
+        };
         at += 2;
-        pull(rows, inside, way_forth(road, wide));
-        pull(rows, inside, way_back(road, wide));
+        pull(rows, inside, road.forth());
+        pull(rows, inside, road.back());
     }
 }
 
-fn round(rows: &mut [u32], inside: &[bool], sheet: &[u8], network: Network)
-    requires { RoadsIn (words_of sheet.now) network.roads (length inside.now) × Bounded (row_in rows.old x_row) (length inside.now) × LowOutside inside.now rows.old }
+#[tactic(auto, using(crate::proofs::Least::round_joined, crate::proofs::Least::round_made, crate::proofs::Least::round_worked))]
+fn round(rows: &mut [Place], inside: &[bool], sheet: &[u8], network: Network)
+    requires { RoundReadyIn rows.old inside.now sheet.now network }
     ensures joined { JoinedIn rows.old inside.now rows.new }
     ensures stepped { RoundIn rows.old inside.now sheet.now network rows.new }
-    ensures worked { Worked x_row inside.now rows.old rows.new }
+    ensures worked { Worked stepped_part inside.now rows.old rows.new }
 {
     join(rows, inside);
     step(rows, inside, sheet, network);
 }
 
 // Whether a number inside the ball is another, with so many chain numbers as `unit` says taken as one. Outside nothing changes.
-fn changed(rows: &[u32], inside: &[bool], unit: u32) -> bool
+// A loop: of an `any` that finds none, a proof did not learn what the closure told of each place.
+fn changed(rows: &[Place], inside: &[bool], unit: u32) -> bool
     requires { (1 ≤ unit) × LowOutside inside.now rows.now }
-    ensures { RowsApart result (λ c. c / unit) (row_in rows.now old_row) (row_in rows.now x_row) (length inside.now) }
+    ensures { RowsApart result (λ c. c / unit) (row_in rows.now former_row) (row_in rows.now x_row) (length inside.now) }
 {
     for place in 0..inside.len() {
-        if inside[place] && strip_changed(rows, place * ROWS + OLD, place * ROWS + X, unit) {
+        if inside[place] && differs(&rows[place].former, &rows[place].x, unit) {
             return true;
         }
     }
@@ -91,12 +93,13 @@ fn changed(rows: &[u32], inside: &[bool], unit: u32) -> bool
 }
 
 // Steps until no place changes in any lane. The rounds are 1 plus the number of steps in which a margin fell in some lane; verdicts may still
-// move after these. At rest the former numbers are those that the places have, and what is handed over is made of them.
-#[tactic(auto, using(crate::proofs::Settling::worked_on, crate::proofs::Settling::worked_start, crate::proofs::Settling::in_start, crate::proofs::Settling::start_small, crate::proofs::Settling::in_falls, crate::proofs::Settling::in_fell, crate::proofs::Settling::in_moved, crate::proofs::Settling::rest_joined))]
-pub fn settle(rows: &mut [u32], inside: &[bool], sheet: &[u8], network: Network) -> u64
+// move after these. At rest the former numbers are those that the places have, and what is handed over is made of them. A loop that breaks with its
+// count, as the definition counts.
+#[tactic(auto, using(crate::proofs::Rules::settle_laws))]
+pub fn settle(rows: &mut [Place], inside: &[bool], sheet: &[u8], network: Network) -> u64
     requires { Start (words_of sheet.now) network.roads inside.now rows.old }
     ensures settled { SettledIn rows.old inside.now sheet.now network rows.new result }
-    ensures worked { Worked x_row inside.now rows.old rows.new }
+    ensures worked { Worked stepped_part inside.now rows.old rows.new }
     ensures joined { JoinedIn rows.new inside.now rows.new }
 {
     let mut rounds: u64 = 1;

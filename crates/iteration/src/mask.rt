@@ -1,90 +1,86 @@
-// The rows of a centre: the left operand masked by the ball, and the right one by both bounds. Outside the ball the rows to work in are lowest: what an
+// What is worked on about a centre: the left operand masked by the ball, and the right one by both bounds. Outside the ball the strips to work in are lowest: what an
 // earlier ball left there is cleared where a place leaves the ball, and nowhere else.
-ghost use Rattle.std.specs.Prelude.{◌+◌, ◌<◌, length};
-ghost use Rattle.lanes.specs.Lanes.{row_count};
-ghost use Rattle.lanes.specs.Rows.{Room, TableThere};
+ghost use Rattle.std.specs.Prelude.{◌<◌};
+ghost use Rattle.lanes.specs.Rows.{Room};
 ghost use Rattle.iteration.specs.WorkRows.{LowOutside, PlaceCleared, Cleared};
-ghost use Rattle.iteration.specs.Masks.{PlaceMasked, CentreMasked, MaskedNext};
+ghost use Rattle.iteration.specs.Masks.{PlaceMasked, FlagsFor, MaskedBelow, MaskedNext, NextReady};
 
-use crate::iteration::{RING, X};
 use codes::operator::Bounds;
+use distances::table::Distances;
 use lanes::rows::in_range;
-use lanes::strips::{copy_strip, fill_strip};
-use lanes::{LEFT, RIGHT, ROWS};
+use lanes::{LANES, Place};
 
-// A place inside the ball, in the ring or not.
-fn mask_place(rows: &mut [u32], place: usize, ring: bool)
-    requires { Room (place + 1) rows.old }
-    ensures { PlaceMasked place ring rows.old rows.new }
+// A place inside the ball, in the ring or not: a flag, since one strip of two is chosen by it.
+fn mask_place(place: &mut Place, ring: bool)
+    ensures { PlaceMasked ring place.entry.now place.exit.now }
 {
-    let strips = place * ROWS;
-    copy_strip(rows, strips + LEFT, strips + X);
-    if ring {
-        copy_strip(rows, strips + RIGHT, strips + RING);
+    place.x = place.left;
+    place.ring = if ring {
+        place.right
     } else {
-        fill_strip(rows, strips + RING, values::bottom());
-    }
+        [values::bottom(); LANES]
+    };
 }
 
-fn clear_place(rows: &mut [u32], place: usize)
-    requires { Room (place + 1) rows.old }
-    ensures { PlaceCleared place row_count rows.old rows.new }
+fn clear_place(place: &mut Place)
+    ensures { PlaceCleared place.entry.now place.exit.now }
 {
-    let strips = place * ROWS;
-    for row in RING..ROWS {
-        fill_strip(rows, strips + row, values::bottom());
-    }
+    let lowest = [values::bottom(); LANES];
+    place.ring = lowest;
+    place.x = lowest;
+    place.former = lowest;
+    place.both = lowest;
 }
 
-// The first `places` places become lowest in the rows to work in.
-pub fn clear_all(rows: &mut [u32], places: usize)
+// The first `places` places become lowest in the strips to work in.
+pub fn clear_all(rows: &mut [Place], places: usize)
     requires { Room places rows.old }
     ensures { Cleared places rows.old rows.new }
 {
-    for place in 0..places {
-        clear_place(rows, place);
+    for place in rows[..places].iter_mut() {
+        clear_place(place);
     }
 }
 
 // One place more is masked, those before it being so.
 fn mask_next(
-    rows: &mut [u32],
-    distances: &[u8],
+    rows: &mut [Place],
+    distances: Distances,
     bounds: Bounds,
     centre: usize,
     place: usize,
     inside: &mut [bool],
 )
-    requires { (centre < length inside.old) × (place < length inside.old) × TableThere distances.now (length inside.old) × LowOutside inside.old rows.old }
-    ensures { MaskedNext (length inside.old) distances.now bounds centre place inside.old rows.old inside.new rows.new }
+    requires { NextReady distances centre place inside.old rows.old }
+    ensures { MaskedNext distances.entry bounds centre place inside.old rows.old inside.new rows.new }
 {
-    let places = inside.len();
     let ball = Bounds {
         lower: 0,
         upper: bounds.upper,
     };
-    if in_range(distances, places, centre, place, ball) {
+    if in_range(distances, centre, place, ball) {
         inside[place] = true;
-        let ring = in_range(distances, places, centre, place, bounds);
-        mask_place(rows, place, ring);
+        let ring = in_range(distances, centre, place, bounds);
+        mask_place(&mut rows[place], ring);
     } else if inside[place] {
         inside[place] = false;
-        clear_place(rows, place);
+        clear_place(&mut rows[place]);
     }
 }
 
 // Flags the ball about a centre, and masks the left operand by it and the right one by both bounds.
+#[tactic(auto, using(crate::proofs::Masks::centre_none))]
 pub fn mask_centre(
-    rows: &mut [u32],
-    distances: &[u8],
+    rows: &mut [Place],
+    distances: Distances,
     bounds: Bounds,
     centre: usize,
     inside: &mut [bool],
 )
-    requires { (centre < length inside.old) × TableThere distances.now (length inside.old) × LowOutside inside.old rows.old }
-    ensures { CentreMasked (length inside.old) distances.now bounds centre (length inside.old) rows.old inside.new rows.new }
+    requires { (centre < distances.places) × FlagsFor distances inside.old × LowOutside inside.old rows.old }
+    ensures { MaskedBelow distances.entry bounds centre distances.entry.places rows.old inside.new rows.new }
 {
-    for place in 0..inside.len() {
+    for place in 0..distances.places {
         mask_next(rows, distances, bounds, centre, place, inside);
     }
 }

@@ -1,2 +1,1 @@
-pub mod StripLaws
 pub mod RowLaws

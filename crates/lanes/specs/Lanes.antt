@@ -1,36 +1,36 @@
--- Several samples lie side by side in the lanes of a strip: entry strip · lanes + lane of a buffer. A buffer holds rows: each place has one strip after the
--- other, one of each row. These are for contracts inside the engine: no promise to a host speaks of them.
-use Rattle.std.specs.Prelude.{List, ℕ, ◌+◌, ◌*◌, get_or}
+-- Several samples lie side by side in the lanes of a strip, and each place has its strips by name. A row is what all places have in the strips of one name.
+-- These are for contracts inside the engine: no promise to a host speaks of them.
+use Rattle.std.specs.Prelude.{List, [], ℕ, get_or}
+use Rattle.lanes.specs.declared.Place.{Place}
 
 -- so many samples lie side by side
 abbrev pub lanes : ℕ
 lanes = 16
 
--- a lane of a strip
-abbrev pub lane_of : List ℕ → ℕ → ℕ → ℕ
-lane_of buffer lane strip = get_or buffer (strip * lanes + lane) 0
+-- a place of a list, and what stands for one past its end
+abbrev pub no_place : Place
+no_place = record { left = []; right = []; out = []; ring = []; x = []; former = []; both = [] }
 
--- so many rows a buffer holds: the left operand, the right one, and what comes of them; then what an iteration works in, the ring about a centre, what its
--- places have, what they had a round before, and what they hand to their neighbours
-abbrev pub row_count : ℕ
-row_count = 7
+abbrev pub place_at : List Place → ℕ → Place
+place_at places p = get_or places p no_place
 
-abbrev pub left_row : ℕ
-left_row = 0
+-- a row, and what a place has in all others
+pub record Row : Type 0 where
+  pub strip : Place → List ℕ
+  pub others : Place → Place
 
-abbrev pub right_row : ℕ
-right_row = 1
+abbrev pub left_row : Row
+left_row = record { strip = λ p. p.left; others = λ p. record { left = []; right = p.right; out = p.out; ring = p.ring; x = p.x; former = p.former; both = p.both } }
 
-abbrev pub out_row : ℕ
-out_row = 2
+abbrev pub right_row : Row
+right_row = record { strip = λ p. p.right; others = λ p. record { left = p.left; right = []; out = p.out; ring = p.ring; x = p.x; former = p.former; both = p.both } }
 
--- the strip of a row at a place
-abbrev pub strip_of : ℕ → ℕ → ℕ
-strip_of row place = place * row_count + row
+abbrev pub out_row : Row
+out_row = record { strip = λ p. p.out; others = λ p. record { left = p.left; right = p.right; out = []; ring = p.ring; x = p.x; former = p.former; both = p.both } }
 
 -- numbers by lane and place, and those of a row
 abbrev pub Numbers : Type 0
 Numbers = ℕ → ℕ → ℕ
 
-unfoldable pub row_in : List ℕ → ℕ → Numbers
-row_in buffer row lane place = lane_of buffer lane (strip_of row place)
+abbrev pub row_in : List Place → Row → Numbers
+row_in places row lane place = get_or (row.strip (place_at places place)) lane 0

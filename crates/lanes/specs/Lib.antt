@@ -1,3 +1,4 @@
 pub mod Lanes
 pub mod Strips
 pub mod Rows
+pub mod EndLaws

@@ -1,36 +1,38 @@
--- Rows of a buffer that are written strip by strip, from the words of an answer, and masks. These are for contracts inside the engine: no promise to a host
+-- Rows that are written strip by strip, from the words of an answer, and masks. These are for contracts inside the engine: no promise to a host
 -- speaks of them.
 use Rattle.std.specs.Prelude.{◌≡◌, Bool, false, cond, List, ℕ, ◌+◌, ◌*◌, ◌<◌, ◌≤◌, ltb, length, get_or}
 use Rattle.words.specs.Bytes.{words_of, numbers_of}
 use Rattle.logic.specs.Iteration.{masked}
 use Rattle.codes.specs.declared.operator.Bounds.{Bounds}
+use Rattle.distances.specs.declared.table.Distances.{Distances}
 use Rattle.values.specs.Chain.{chain_lattice}
 use Rattle.values.specs.Signals.{signal_in, in_table}
 use Rattle.lanes.specs.declared.rows.Block.{Block}
-use Rattle.lanes.specs.Lanes.{lanes, row_count, Numbers, row_in}
+use Rattle.lanes.specs.declared.Place.{Place}
+use Rattle.lanes.specs.Lanes.{lanes, Row, Numbers, place_at, row_in}
 
--- a buffer has room for n places
-abbrev pub Room : ℕ → List ℕ → Type 0
-Room n buffer = n * row_count * lanes ≤ length buffer
+-- there are n places
+abbrev pub Room : ℕ → List Place → Type 0
+Room n places = n ≤ length places
 
 -- numbers that are those of another row, as far as the first k places
 pub record RowOf (f row : Numbers) (k : ℕ) : Type 0 where
   pub at : (place lane : ℕ) → place < k → lane < lanes → row lane place ≡ f lane place
 
+-- a part of every place is kept, and their count
+pub record Kept (part : Place → Place) (before after : List Place) : Type 0 where
+  pub same : (p : ℕ) → part (place_at after p) ≡ part (place_at before p)
+  pub long : length after ≡ length before
+
+-- what stands past the first n places is kept
+pub record KeptPast (n : ℕ) (before after : List Place) : Type 0 where
+  pub past : (p : ℕ) → n ≤ p → place_at after p ≡ place_at before p
+
 -- a row is written at the first k places, and nothing else is
-pub record RowWritten (row k : ℕ) (f : Numbers) (before after : List ℕ) : Type 0 where
+pub record RowWritten (row : Row) (k : ℕ) (f : Numbers) (before after : List Place) : Type 0 where
   pub written : RowOf f (row_in after row) k
-  pub kept : (other place lane : ℕ) → other < row_count → lane < lanes → (other ≡ row → k ≤ place) → row_in after other lane place ≡ row_in before other lane place
-  pub long : length after ≡ length before
-
--- the rows below one are kept
-pub record KeptBelow (row : ℕ) (before after : List ℕ) : Type 0 where
-  pub kept : (other place lane : ℕ) → other < row → lane < lanes → row_in after other lane place ≡ row_in before other lane place
-  pub long : length after ≡ length before
-
--- what stands past the first n places is kept, in every row
-pub record KeptPast (n : ℕ) (before after : List ℕ) : Type 0 where
-  pub kept : (row place lane : ℕ) → row < row_count → n ≤ place → lane < lanes → row_in after row lane place ≡ row_in before row lane place
+  pub kept : Kept row.others before after
+  pub past : KeptPast k before after
 
 -- ---- signals: n words to a sample from index `start` on
 
@@ -48,9 +50,8 @@ lane_signal words start n b lane place = cond (ltb lane b.count) (signal_in word
 abbrev pub within : List ℕ → ℕ → ℕ → Bounds → ℕ → Bool
 within distances n centre b = in_table (numbers_of (words_of distances)) n centre b.lower b.upper
 
--- there are n distances for each of n centres
-abbrev pub TableThere : List ℕ → ℕ → Type 0
-TableThere distances n = n * n ≤ length (numbers_of (words_of distances))
+abbrev pub within_in : Distances → ℕ → Bounds → ℕ → Bool
+within_in d = within d.table.now d.places
 
 -- a place has a flag
 abbrev pub flagged : List Bool → ℕ → Bool

@@ -1,25 +1,37 @@
-// Rows of lanes, all in one buffer: several samples lie side by side in a strip, and each place has a strip for each row.
+// Strips of lanes: several samples lie side by side in a strip, and each place has its strips by name.
 #![tactic(auto)]
 
+pub mod ends;
 pub mod rows;
 pub mod strips;
-
-use checks::limits::{MOST_NARROW, MOST_PLACES};
 
 // Samples side by side.
 pub const LANES: usize = 16;
 
-// So many rows there are: two operands, what comes of them, and four to work in.
-pub const ROWS: usize = 7;
+// A number for each sample.
+pub type Strip = [u32; LANES];
 
-// The rows of the two operands, and of what comes of them.
-pub const LEFT: usize = 0;
+// What one place has: two operands, what comes of them, and what an iteration works in: the ring about a centre, what the place has, what it had a round
+// before, and what it hands to its neighbours.
+#[derive(Clone, Copy)]
+pub struct Place {
+    pub left: Strip,
+    pub right: Strip,
+    pub out: Strip,
+    pub ring: Strip,
+    pub x: Strip,
+    pub former: Strip,
+    pub both: Strip,
+}
 
-pub const RIGHT: usize = 1;
-
-pub const OUT: usize = 2;
-
-// The length of a buffer for so many places as a narrow sheet has, and for the most places.
-pub const NARROW_BUFFER: usize = MOST_NARROW * ROWS * LANES;
-
-pub const WIDE_BUFFER: usize = MOST_PLACES * ROWS * LANES;
+impl Place {
+    pub const EMPTY: Place = Place {
+        left: [0; LANES],
+        right: [0; LANES],
+        out: [0; LANES],
+        ring: [0; LANES],
+        x: [0; LANES],
+        former: [0; LANES],
+        both: [0; LANES],
+    };
+}

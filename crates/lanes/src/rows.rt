@@ -1,12 +1,13 @@
-// A row of lanes from the words of an answer, and the range of a centre.
+// A strip of lanes from the words of an answer, and the range of a centre.
 ghost use Rattle.std.specs.Prelude.{◌≡◌, ◌<◌};
 ghost use Rattle.words.specs.Bytes.{words_of};
-ghost use Rattle.lanes.specs.Lanes.{lanes, row_count, strip_of};
-ghost use Rattle.lanes.specs.Strips.{Written};
-ghost use Rattle.lanes.specs.Rows.{Room, RowWritten, BlockThere, lane_signal, within, TableThere};
+ghost use Rattle.lanes.specs.Lanes.{lanes};
+ghost use Rattle.lanes.specs.Strips.{Held};
+ghost use Rattle.lanes.specs.Rows.{BlockThere, lane_signal, within_in};
 
-use crate::{LANES, ROWS};
+use crate::{LANES, Strip};
 use codes::operator::Bounds;
+use distances::table::Distances;
 
 // Samples first to first + count - 1, side by side.
 #[derive(Clone, Copy)]
@@ -16,6 +17,7 @@ pub struct Block {
 }
 
 // The chain number of a place at the sample of a lane, and the lowest past the last of the samples.
+#[tactic(auto, using(crate::proofs::RowLaws::signal_index, words::proofs::Words::words_count))]
 fn lane_signal(
     words: &[u8],
     start: usize,
@@ -34,46 +36,25 @@ fn lane_signal(
     }
 }
 
-fn load_strip(
-    words: &[u8],
-    start: usize,
-    places: usize,
-    block: Block,
-    place: usize,
-    row: usize,
-    rows: &mut [u32],
-)
-    requires { BlockThere words.now start places block × (place < places) × (row < row_count) × Room places rows.old }
-    ensures { Written (strip_of row place) lanes (λ lane. lane_signal (words_of words.now) start places block lane place) rows.old rows.new }
+// Decodes a signal at the samples of a block into a strip of one place, once for all centres.
+pub fn load(words: &[u8], start: usize, places: usize, block: Block, place: usize) -> Strip
+    requires { BlockThere words.now start places block × (place < places) }
+    ensures { Held lanes (λ lane. lane_signal (words_of words.now) start places block lane place) result }
 {
-    let strip = place * ROWS + row;
-    for lane in 0..LANES {
-        rows[strip * LANES + lane] = lane_signal(words, start, places, block, place, lane);
+    let mut strip: Strip = [0; LANES];
+    for (lane, x) in strip.iter_mut().enumerate() {
+        *x = lane_signal(words, start, places, block, place, lane);
     }
+    strip
 }
 
-// Decodes a signal at the samples of a block into a row, once for all centres.
-pub fn load(words: &[u8], start: usize, places: usize, block: Block, row: usize, rows: &mut [u32])
-    requires { BlockThere words.now start places block × (row < row_count) × Room places rows.old }
-    ensures { RowWritten row places (lane_signal (words_of words.now) start places block) rows.old rows.new }
+// Whether a place lies within bounds of a centre.
+#[tactic(auto, unfolding(values::specs::Signals::in_table))]
+pub fn in_range(distances: Distances, centre: usize, place: usize, bounds: Bounds) -> bool
+    requires { (centre < distances.places) × (place < distances.places) }
+    ensures { result ≡ within_in distances.entry centre bounds place }
 {
-    for place in 0..places {
-        load_strip(words, start, places, block, place, row, rows);
-    }
-}
-
-// Whether a place lies within bounds of a centre, by a table with a row of distances for each centre.
-pub fn in_range(
-    distances: &[u8],
-    places: usize,
-    centre: usize,
-    place: usize,
-    bounds: Bounds,
-) -> bool
-    requires { (centre < places) × (place < places) × TableThere distances.now places }
-    ensures { result ≡ within distances.now places centre bounds place }
-{
-    let distance = words::number_at(distances, centre * places + place);
+    let distance = distances.between(centre, place);
     if distance < bounds.lower as u64 {
         return false;
     }

@@ -26,6 +26,7 @@ use Rattle.codes.specs.Codes.{Code, constant, atom, unary, binary, unary_bounded
 use Rattle.lines.specs.Lines.{line_at, lines_from, line_of, has_code}
 use Rattle.codes.specs.Operators.{code_field, left_field, right_field, unused, plain, constant_at, bounds_at, with_constant, with_bounds, operator_by, operator_at}
 use Rattle.lines.specs.GoodLines.{Bounds, Sound, extents_of, GoodLine, GoodTable, GoodLines}
+use Rattle.lines.specs.Decoding.{SoundSomewhere}
 use Rattle.checks.proofs.Checks.{never, require_e, bind_accepted, same_accepted}
 use Rattle.checks.proofs.Tests.{and_rest, or_false, kind_told}
 use Rattle.lines.proofs.Reading.{lines_kept}
@@ -127,6 +128,9 @@ module _ (s : List ℕ) (v k : ℕ) (P : Operator → Type 0) where
 
 pub operator_sound : (s : List ℕ) (v k at : ℕ) (read : Operator × ℕ) → operator_at s v k at ≡ accepted read → Sound v k read.0
 operator_sound s v k at read = operator_says s v k (Sound v k) at read (each_at (codes_fit v k) (code_field (word_at s at)) unknown unknown tt)
+
+pub read_sound : (s : List ℕ) (v k at : ℕ) {o : Operator} {next : ℕ} → accepted (o, next) ≡ operator_at s v k at → SoundSomewhere o
+read_sound s v k at {o} {next} reads = record { signals = v; lines = k; sound = operator_sound s v k at (o, next) (sym reads) }
 
 -- ---- the extent of a sound line depends on the lines before it alone
 pub extent_same : (T v k : ℕ) (f g : ℕ → Extent) → ((i : ℕ) → i < k → f i ≡ g i) → (o : Operator) → Sound v k o → extent_of T f o ≡ extent_of T g o

@@ -4,21 +4,23 @@ use native.Mathlib.Decide.{dec_lt}
 use mathlib.Core.Bool.{not}
 use mathlib.Core.List.{List, [], ◌∷◌, ◌++◌}
 use mathlib.Core.Logic.{⊎_elim}
-use mathlib.Core.Path.{◌≡◌, sym, ◌∙◌, ap, fun_ext, subst}
+use mathlib.Core.Path.{◌≡◌, refl, sym, ◌∙◌, ap, fun_ext, subst}
 use native.Mathlib.Omega.{arith}
 use lib.ListN.{length, get_or, set, take, replicate, length-append, length-set, length-replicate, get_or-eq_default}
 use lib.Seq.{length-take-le, take-length, take-take, take-append_seam, get_or-take, get_or_at}
-use Rattle.formulas.specs.Formulas.{Extent, end_of, Line, no_line, line_in}
+use Rattle.formulas.specs.Formulas as Formulas
+use Rattle.formulas.specs.Formulas.{end_of, Line, no_line, line_in}
 use Rattle.checks.specs.Limits.{most_lines}
 use Rattle.checks.specs.Checked.{accepted, is_kind}
 use Rattle.lines.specs.Lines.{line_at, lines_from}
 use Rattle.lines.specs.GoodLines.{GoodTable, extents_of}
-use Rattle.lines.specs.Decoding.{extent_in, ExtentsWithin}
+use Rattle.lines.specs.declared.extent.Extent.{Extent}
+use Rattle.lines.specs.Decoding.{extent_said, extent_in, ExtentsWithin, line_after}
 use Rattle.checks.proofs.Checks.{same_accepted, require_accepted}
 use Rattle.checks.proofs.Tests.{kind_told}
 use Rattle.lines.proofs.Reading.{Stopped, LineRead, stop_or_read}
 use Rattle.lines.proofs.AcceptedLines.{good_end, table_good}
-use Rattle.lines.proofs.Lines.{Extents, extents_none, extents_more}
+use Rattle.lines.proofs.Lines.{Extents, extents_set}
 
 module _ (s : List ℕ) (v T : ℕ) where
   -- ---- what was found stands in front of what will be
@@ -66,66 +68,69 @@ first_inside s v T at {lines} e = ⊎_elim (λ stop. absurd (none stop)) (λ rea
 
 -- ---- the walk
 
--- before line k: its index, the extents of the lines before it and zeros beyond, and that the lines from here on are those left
-pub record Walk (s : List ℕ) (v T : ℕ) (lines : List Line) (k at : ℕ) (firsts lengths : List ℕ) : Type 0 where
+-- before line k: its index, the extents of the lines before it in an array, and that the lines from here on are those left
+pub record Walk (s : List ℕ) (v T : ℕ) (lines : List Line) (k at : ℕ) (extents : List Extent) : Type 0 where
   pub good : GoodTable v T lines
   pub passed : k ≤ length lines
-  pub room : (length firsts ≡ most_lines) × (length lengths ≡ most_lines)
-  pub known : Extents (take k lines) firsts lengths
+  pub room : length extents ≡ most_lines
+  pub known : Extents (take k lines) (take k extents)
   pub end : ℕ
   pub rest : lines_from s v T (most_lines - k) (take k lines) at ≡ accepted (lines, end)
 
 pub walk_start : (s : List ℕ) (v T start : ℕ) {lines : List Line} {end : ℕ} → lines_from s v T most_lines [] start ≡ accepted (lines, end)
-    → Walk s v T lines 0 start (replicate most_lines 0) (replicate most_lines 0)
-walk_start s v T start {lines} {end} e = record {
+    → (none : Extent) → Walk s v T lines 0 start (replicate most_lines none)
+walk_start s v T start {lines} {end} e none = record {
   good = (table_good s v T start (lines, end) e).good;
   passed = omega arith;
-  room = (length-replicate {A = ℕ} most_lines 0, length-replicate {A = ℕ} most_lines 0);
-  known = extents_none most_lines;
+  room = length-replicate most_lines none;
+  known = λ i. refl;
   end = end;
   rest = e;
 }
 
--- the extent of a line before, by the arrays
-pub walk_extent : (s : List ℕ) (v T : ℕ) (lines : List Line) (k at : ℕ) (firsts lengths : List ℕ) → Walk s v T lines k at firsts lengths → (i : ℕ) → i < k
-    → extent_in firsts lengths i ≡ (line_in lines i).extent
-walk_extent s v T lines k at firsts lengths walk i h = walk.known i ∙ ap (λ (line : Line). line.extent) (get_or-take k lines i no_line h)
+-- the extent of a line before
+pub walk_extent : (s : List ℕ) (v T : ℕ) (lines : List Line) (k at : ℕ) (extents : List Extent) → Walk s v T lines k at extents → (i : ℕ) → i < k
+    → extent_in (take k extents) i ≡ (line_in lines i).extent
+walk_extent s v T lines k at extents walk i h = walk.known i ∙ ap (λ (line : Line). line.extent) (get_or-take k lines i no_line h)
 
 -- no line before ends beyond the samples
-pub walk_within : (s : List ℕ) (v T : ℕ) (lines : List Line) (k at : ℕ) (firsts lengths : List ℕ) → Walk s v T lines k at firsts lengths → ExtentsWithin T firsts lengths
-walk_within s v T lines k at firsts lengths walk i = subst (λ (e : Extent). end_of e ≤ T) (sym (walk.known i)) (go (dec_lt i k))
+pub walk_within : (s : List ℕ) (v T : ℕ) (lines : List Line) (k at : ℕ) (extents : List Extent) → Walk s v T lines k at extents → ExtentsWithin T (take k extents)
+walk_within s v T lines k at extents walk i = subst (λ (e : Formulas.Extent). end_of e ≤ T) (sym (walk.known i)) (go (dec_lt i k))
   where
     go : Dec (i < k) → end_of (line_in (take k lines) i).extent ≤ T
     go (yes h) = rw (get_or-take k lines i no_line h) (good_end v T lines walk.good i)
     go (no h) = rw (get_or-eq_default (take k lines) no_line {n = i} (omega (arith, length-take-le k lines walk.passed))) zero-le
 
--- line k is read there, and the walk goes on
-pub record Step (s : List ℕ) (v T : ℕ) (lines : List Line) (k at : ℕ) (firsts lengths : List ℕ) : Type 0 where
+-- line k is read there, and the walk goes on with its extent
+pub record Step (s : List ℕ) (v T : ℕ) (lines : List Line) (k at : ℕ) (extents : List Extent) : Type 0 where
+  pub few : k < most_lines
   pub next : ℕ
   pub there : at < length s
-  pub reads : line_at s v T k (extent_in firsts lengths) at ≡ accepted (line_in lines k, next)
-  pub walk : Walk s v T lines (k + 1) next (set firsts k (line_in lines k).extent.first) (set lengths k (line_in lines k).extent.length)
+  pub reads : line_after s v T (take k extents) at ≡ accepted (line_in lines k, next)
+  pub walk : (e : Extent) → extent_said e ≡ (line_in lines k).extent → Walk s v T lines (k + 1) next (set extents k e)
 
-module _ (s : List ℕ) (v T : ℕ) (lines : List Line) (k at : ℕ) (firsts lengths : List ℕ) (walk : Walk s v T lines k at firsts lengths) (more : k < length lines) where
+module _ (s : List ℕ) (v T : ℕ) (lines : List Line) (k at : ℕ) (extents : List Extent) (walk : Walk s v T lines k at extents) (more : k < length lines) where
   before : length (take k lines) ≡ k
   before = length-take-le k lines walk.passed
 
   few : k < most_lines
   few = let front = (lines_front s v T (most_lines - k) (take k lines) at walk.rest).most in let count = before in omega arith
 
-  step_read : LineRead s v T (most_lines - (k + 1)) (take k lines) at lines walk.end → Step s v T lines k at firsts lengths
+  step_read : LineRead s v T (most_lines - (k + 1)) (take k lines) at lines walk.end → Step s v T lines k at extents
   step_read read = record {
+    few = few;
     next = read.next;
     there = (kind_told 5 s at read.kind_5).0;
     reads = rw is_line reads;
-    walk = rw is_line (record {
+    walk = λ e same. record {
       good = walk.good;
       passed = omega arith;
-      room = (length-set firsts k read.line.extent.first ∙ walk.room.0, length-set lengths k read.line.extent.length ∙ walk.room.1);
-      known = subst (λ (found : List Line). Extents found (set firsts k read.line.extent.first) (set lengths k read.line.extent.length)) (sym taken) known;
+      room = length-set extents k e ∙ walk.room;
+      known = let below = few in subst (λ (found : List Line). Extents found (take (k + 1) (set extents k e))) (sym taken)
+          (extents_set (take k lines) read.line extents k e before (omega (arith, walk.room)) (same ∙ ap (λ (line : Line). line.extent) is_line) walk.known);
       end = walk.end;
       rest = subst (λ (found : List Line). lines_from s v T (most_lines - (k + 1)) found read.next ≡ accepted (lines, walk.end)) (sym taken) read.rest;
-    });
+    };
   }
     where
       taken : take (k + 1) lines ≡ take k lines ++ (read.line ∷ [])
@@ -138,20 +143,13 @@ module _ (s : List ℕ) (v T : ℕ) (lines : List Line) (k at : ℕ) (firsts len
           sym (get_or-take (k + 1) lines k no_line (omega arith)) ∙ ap (λ (l : List Line). get_or l k no_line) taken
           ∙ get_or_at (take k lines) read.line [] no_line k before
 
-      reads : line_at s v T k (extent_in firsts lengths) at ≡ accepted (read.line, read.next)
+      reads : line_after s v T (take k extents) at ≡ accepted (read.line, read.next)
       reads =
-          ap (λ (f : ℕ → Extent). line_at s v T k f at) (fun_ext walk.known)
-          ∙ ap (λ (n : ℕ). line_at s v T n (extents_of (take k lines)) at) (sym before) ∙ read.reads
-
-      known : Extents (take k lines ++ (read.line ∷ [])) (set firsts k read.line.extent.first) (set lengths k read.line.extent.length)
-      known =
-          let room = walk.room in
-          let count = before in
           let below = few in
-          subst (λ (n : ℕ). Extents (take k lines ++ (read.line ∷ [])) (set firsts n read.line.extent.first) (set lengths n read.line.extent.length)) before
-          (extents_more (take k lines) read.line firsts lengths (omega (arith, room.0)) (omega (arith, room.1)) walk.known)
+          ap (λ (f : ℕ → Formulas.Extent). line_at s v T (length (take k extents)) f at) (fun_ext walk.known)
+          ∙ ap (λ (n : ℕ). line_at s v T n (extents_of (take k lines)) at) (length-take-le k extents (omega (arith, walk.room)) ∙ sym before) ∙ read.reads
 
-  pub walk_step : Step s v T lines k at firsts lengths
+  pub walk_step : Step s v T lines k at extents
   walk_step =
       let below = few in
       let room : most_lines - k ≡ suc (most_lines - (k + 1)) = omega arith in

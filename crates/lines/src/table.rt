@@ -1,49 +1,42 @@
 // The check of the lines of a table, one after the other.
-ghost use Rattle.std.specs.Prelude.{◌≡◌, [], ◌≤◌};
+ghost use Rattle.std.specs.Prelude.{◌≡◌, ◌≤◌};
 ghost use Rattle.words.specs.Bytes.{words_of};
-ghost use Rattle.checks.specs.Limits.{most_samples, most_lines};
-ghost use Rattle.checks.specs.Checked.{mapped};
-ghost use Rattle.lines.specs.Lines.{lines_from};
-ghost use Rattle.lines.specs.Decoding.{table_said, line_count};
+ghost use Rattle.checks.specs.Limits.{most_samples};
+ghost use Rattle.checks.specs.Said.{said};
+ghost use Rattle.lines.specs.Decoding.{table_at};
 
-use crate::line::{Decoded, decode_line};
-use checks::fault::Fault;
+use crate::extent::Extent;
+use crate::line::decode_line;
+use checks::fault::{Fault, Refusal};
+use checks::kind::Kind;
 use checks::limits::MOST_LINES;
-use checks::word::is_kind;
 
-// How many lines there are, and the index after the last.
-#[derive(Clone, Copy)]
-pub enum Table {
-    Lines(usize, usize),
-    Refused(Fault, usize),
-}
-
-// The lines from an index on: the first word of another kind ends them. A line that is not there yet has no sample.
-pub fn check_lines(s: &[u8], start: usize, signals: usize, samples: usize) -> Table
+// How many lines there are from an index on, and the index after the last: the first word of another kind ends them.
+#[tactic(auto, using(crate::proofs::Lines::line_laws, checks::proofs::Tests::kind_told))]
+pub fn check_lines(
+    s: &[u8],
+    start: usize,
+    signals: usize,
+    samples: usize,
+) -> Result<(usize, usize), Refusal>
     requires { samples ≤ most_samples }
-    ensures { table_said result ≡ mapped line_count (lines_from (words_of s.now) signals samples most_lines [] start) }
+    ensures { said (λ found. found) result ≡ table_at (words_of s.now) signals samples start }
 {
-    let mut firsts = [0u32; MOST_LINES];
-    let mut lengths = [0u32; MOST_LINES];
-    let mut lines: usize = 0;
+    // filled up to `lines`: there is no heap, and where the lines end is found on the way
+    let mut extents = [Extent::NONE; MOST_LINES];
+    let mut lines = 0;
     let mut at = start;
-    while is_kind(s, at, 5) {
+    while Kind::Line.is_at(s, at) {
         if lines == MOST_LINES {
-            return Table::Refused(Fault::LineCount, at);
+            return Err(Fault::LineCount.at(at));
         }
-        match decode_line(s, at, signals, samples, lines, &firsts, &lengths) {
-            Decoded::Refused(fault, place) => return Table::Refused(fault, place),
-            Decoded::Line(line, next) => {
-                let extent = line.extent;
-                firsts[lines] = extent.first;
-                lengths[lines] = extent.length;
-                lines += 1;
-                at = next;
-            }
-        }
+        let (line, next) = decode_line(s, at, signals, samples, &extents[..lines])?;
+        extents[lines] = line.extent;
+        lines += 1;
+        at = next;
     }
     if lines == 0 {
-        return Table::Refused(Fault::LineCount, at);
+        return Err(Fault::LineCount.at(at));
     }
-    Table::Lines(lines, at)
+    Ok((lines, at))
 }

@@ -3,11 +3,13 @@
 // reads from its upper bound earlier on, where once is eventually. What comes of it tells by its type which way the line goes.
 #![tactic(auto)]
 
-ghost use Rattle.std.specs.Prelude.{◌≡◌, ◌-◌, get_or};
-ghost use Rattle.locating.specs.Located.{StartsLow, start_at, both_located, until_located, eventually_located, surround_located, range_located, located_of};
+ghost use Rattle.std.specs.Prelude.{◌≡◌};
+ghost use Rattle.locating.specs.Located.{read_on, both_located, until_located, eventually_located, surround_located, range_located, located_of};
 
+pub mod earlier;
+
+use crate::earlier::Earlier;
 use codes::operator::{Bounds, Direction, Operator};
-use lines::extent::{less, number_or_zero};
 use lines::line::Line;
 use ranges::Range;
 use surrounds::surround::Surround;
@@ -21,7 +23,7 @@ pub enum Around {
 }
 
 // What is evaluated sample by sample. Operands are the indices from which their signals are read. Since is until looking back, or the dual of and,
-// always that of eventually.
+// always that of eventually: flags, as in the definitions.
 #[derive(Clone, Copy)]
 pub enum RowOperator {
     True,
@@ -53,38 +55,100 @@ pub enum Located {
     Blocks(Around),
 }
 
-// Operands are read from this sample of the recording on, with so many words to a sample.
-#[derive(Clone, Copy)]
-struct Origin {
-    pub sample: u32,
-    pub places: usize,
-}
-
-// So many samples earlier.
-fn earlier(origin: Origin, samples: u32) -> Origin
-    ensures { result ≡ record { sample = origin.sample - samples; places = origin.places } }
+// The sample from which the operands of a line are read that begins with the first: earlier by the upper bound, where it looks back.
+fn read_on(first: u32, direction: Direction, upper: u32) -> u32
+    ensures { result ≡ read_on first direction upper }
 {
-    Origin {
-        sample: less(origin.sample, samples),
-        places: origin.places,
+    match direction {
+        Direction::Forward => first,
+        Direction::Backward => first.saturating_sub(upper),
     }
 }
 
-// The index at which the signal of a line begins, 0 for a line that is not there.
-fn start_or_zero(starts: &[usize], line: usize) -> usize
-    ensures { result ≡ get_or starts.now line 0 }
-{
-    if line < starts.len() { starts[line] } else { 0 }
-}
+// A line's operands are read among the earlier lines, from its first sample on or, to look back, before it.
+impl Earlier<'_> {
+    // Codes 4 and 8.
+    fn both(self, first: u32, left: usize, right: usize, dual: bool) -> Located
+        ensures { result ≡ both_located self.entry.starts.now self.entry.extents.now self.entry.places first left right dual }
+    {
+        Located::Rows(RowOperator::Both {
+            left: self.read_from(left, first),
+            right: self.read_from(right, first),
+            dual,
+        })
+    }
 
-// The index from which a line is read.
-fn start_of(starts: &[usize], firsts: &[u32], line: usize, origin: Origin) -> usize
-    requires { StartsLow starts.now origin.places }
-    ensures { result ≡ start_at starts.now firsts.now origin.places origin.sample line }
-{
-    let places = origin.places;
-    let skipped = less(origin.sample, number_or_zero(firsts, line)) as usize;
-    start_or_zero(starts, line) + skipped * places
+    // Codes 5 and 12.
+    fn until(
+        self,
+        first: u32,
+        direction: Direction,
+        left: usize,
+        right: usize,
+        bounds: Bounds,
+    ) -> Located
+        ensures { result ≡ until_located self.entry.starts.now self.entry.extents.now self.entry.places first direction left right bounds }
+    {
+        let sample = read_on(first, direction, bounds.upper);
+        Located::Rows(RowOperator::Until(Until {
+            left: self.read_from(left, sample),
+            right: self.read_from(right, sample),
+            bounds,
+            direction,
+        }))
+    }
+
+    // Codes 9, 10, 13 and 14.
+    fn eventually(
+        self,
+        first: u32,
+        direction: Direction,
+        left: usize,
+        bounds: Bounds,
+        dual: bool,
+    ) -> Located
+        ensures { result ≡ eventually_located self.entry.starts.now self.entry.extents.now self.entry.places first direction left bounds dual }
+    {
+        let left = self.read_from(left, read_on(first, direction, bounds.upper));
+        let bounds = match direction {
+            Direction::Forward => bounds,
+            Direction::Backward => Bounds {
+                lower: 0,
+                upper: bounds.upper.saturating_sub(bounds.lower),
+            },
+        };
+        Located::Rows(RowOperator::Eventually { left, bounds, dual })
+    }
+
+    // Codes 7 and 15.
+    fn surround(
+        self,
+        first: u32,
+        islands: bool,
+        left: usize,
+        right: usize,
+        bounds: Bounds,
+    ) -> Located
+        ensures { result ≡ surround_located self.entry.starts.now self.entry.extents.now self.entry.places first islands left right bounds }
+    {
+        Located::Blocks(Around::Surround(Surround {
+            left: self.read_from(left, first),
+            right: self.read_from(right, first),
+            bounds,
+            islands,
+        }))
+    }
+
+    // Codes 6 and 11.
+    fn range(self, first: u32, left: usize, bounds: Bounds, dual: bool) -> Located
+        ensures { result ≡ range_located self.entry.starts.now self.entry.extents.now self.entry.places first left bounds dual }
+    {
+        Located::Blocks(Around::Range(Range {
+            left: self.read_from(left, first),
+            bounds,
+            dual,
+        }))
+    }
 }
 
 // Codes 1 and 2: no operand.
@@ -98,171 +162,42 @@ fn atom(signal: usize, constant: i32, atleast: bool) -> Located
     })
 }
 
-// Codes 4 and 8.
-fn both(
-    starts: &[usize],
-    firsts: &[u32],
-    left: usize,
-    right: usize,
-    origin: Origin,
-    dual: bool,
-) -> Located
-    requires { StartsLow starts.now origin.places }
-    ensures { result ≡ both_located starts.now firsts.now origin.places origin.sample left right dual }
+pub fn locate(line: Line, earlier: Earlier<'_>) -> Located
+    ensures { result ≡ located_of earlier.entry.starts.now earlier.entry.extents.now earlier.entry.places line }
 {
-    Located::Rows(RowOperator::Both {
-        left: start_of(starts, firsts, left, origin),
-        right: start_of(starts, firsts, right, origin),
-        dual,
-    })
-}
-
-// Codes 5 and 12.
-fn until(
-    direction: Direction,
-    starts: &[usize],
-    firsts: &[u32],
-    left: usize,
-    right: usize,
-    origin: Origin,
-    bounds: Bounds,
-) -> Located
-    requires { StartsLow starts.now origin.places }
-    ensures { result ≡ until_located starts.now firsts.now origin.places origin.sample direction left right bounds }
-{
-    match direction {
-        Direction::Forward => Located::Rows(RowOperator::Until(Until {
-            left: start_of(starts, firsts, left, origin),
-            right: start_of(starts, firsts, right, origin),
-            bounds,
-            backward: false,
-        })),
-        Direction::Backward => {
-            let back = earlier(origin, bounds.upper);
-            Located::Rows(RowOperator::Until(Until {
-                left: start_of(starts, firsts, left, back),
-                right: start_of(starts, firsts, right, back),
-                bounds,
-                backward: true,
-            }))
-        }
-    }
-}
-
-// Codes 9, 10, 13 and 14.
-fn eventually(
-    direction: Direction,
-    starts: &[usize],
-    firsts: &[u32],
-    left: usize,
-    origin: Origin,
-    bounds: Bounds,
-    dual: bool,
-) -> Located
-    requires { StartsLow starts.now origin.places }
-    ensures { result ≡ eventually_located starts.now firsts.now origin.places origin.sample direction left bounds dual }
-{
-    match direction {
-        Direction::Forward => Located::Rows(RowOperator::Eventually {
-            left: start_of(starts, firsts, left, origin),
-            bounds,
-            dual,
-        }),
-        Direction::Backward => {
-            let back = earlier(origin, bounds.upper);
-            let upper = less(bounds.upper, bounds.lower);
-            Located::Rows(RowOperator::Eventually {
-                left: start_of(starts, firsts, left, back),
-                bounds: Bounds { lower: 0, upper },
-                dual,
-            })
-        }
-    }
-}
-
-// Codes 7 and 15.
-fn surround(
-    islands: bool,
-    starts: &[usize],
-    firsts: &[u32],
-    left: usize,
-    right: usize,
-    origin: Origin,
-    bounds: Bounds,
-) -> Located
-    requires { StartsLow starts.now origin.places }
-    ensures { result ≡ surround_located starts.now firsts.now origin.places origin.sample islands left right bounds }
-{
-    Located::Blocks(Around::Surround(Surround {
-        left: start_of(starts, firsts, left, origin),
-        right: start_of(starts, firsts, right, origin),
-        bounds,
-        islands,
-    }))
-}
-
-// Codes 6 and 11.
-fn range(
-    starts: &[usize],
-    firsts: &[u32],
-    left: usize,
-    origin: Origin,
-    bounds: Bounds,
-    dual: bool,
-) -> Located
-    requires { StartsLow starts.now origin.places }
-    ensures { result ≡ range_located starts.now firsts.now origin.places origin.sample left bounds dual }
-{
-    Located::Blocks(Around::Range(Range {
-        left: start_of(starts, firsts, left, origin),
-        bounds,
-        dual,
-    }))
-}
-
-// `starts` tells at which index the signal of each earlier line begins, and `firsts` with which sample.
-pub fn locate(line: Line, starts: &[usize], firsts: &[u32], places: usize) -> Located
-    requires { StartsLow starts.now places }
-    ensures { result ≡ located_of starts.now firsts.now places line }
-{
-    let operator = line.operator;
-    let extent = line.extent;
-    let origin = Origin {
-        sample: extent.first,
-        places,
-    };
-    match operator {
+    let first = line.extent.first;
+    match line.operator {
         Operator::True => Located::Rows(RowOperator::True),
         Operator::AtLeast { signal, constant } => atom(signal, constant, true),
         Operator::AtMost { signal, constant } => atom(signal, constant, false),
         Operator::Not { left } => Located::Rows(RowOperator::Not {
-            left: start_of(starts, firsts, left, origin),
+            left: earlier.read_from(left, first),
         }),
-        Operator::And { left, right } => both(starts, firsts, left, right, origin, false),
+        Operator::And { left, right } => earlier.both(first, left, right, false),
         Operator::Until {
             direction,
             left,
             right,
             bounds,
-        } => until(direction, starts, firsts, left, right, origin, bounds),
-        Operator::Somewhere { left, bounds } => range(starts, firsts, left, origin, bounds, false),
+        } => earlier.until(first, direction, left, right, bounds),
+        Operator::Somewhere { left, bounds } => earlier.range(first, left, bounds, false),
         Operator::Surrounded {
             islands,
             left,
             right,
             bounds,
-        } => surround(islands, starts, firsts, left, right, origin, bounds),
-        Operator::Or { left, right } => both(starts, firsts, left, right, origin, true),
+        } => earlier.surround(first, islands, left, right, bounds),
+        Operator::Or { left, right } => earlier.both(first, left, right, true),
         Operator::Eventually {
             direction,
             left,
             bounds,
-        } => eventually(direction, starts, firsts, left, origin, bounds, false),
+        } => earlier.eventually(first, direction, left, bounds, false),
         Operator::Always {
             direction,
             left,
             bounds,
-        } => eventually(direction, starts, firsts, left, origin, bounds, true),
-        Operator::Everywhere { left, bounds } => range(starts, firsts, left, origin, bounds, true),
+        } => earlier.eventually(first, direction, left, bounds, true),
+        Operator::Everywhere { left, bounds } => earlier.range(first, left, bounds, true),
     }
 }

@@ -1,11 +1,11 @@
 // Codes 1 and 2: a signal of the recording is at least a constant, or at most.
-ghost use Rattle.std.specs.Prelude.{◌≡◌, ◌+◌, ◌*◌, ◌≤◌, ◌<◌, length, get_or};
+ghost use Rattle.std.specs.Prelude.{◌≡◌, ◌<◌, length, get_or};
 ghost use Rattle.words.specs.Word.{sample_of};
 ghost use Rattle.words.specs.Bytes.{words_of};
 ghost use Rattle.formulas.specs.Formulas.{InBits};
-ghost use Rattle.operators.specs.Rows.{RowLeft, atom_value, sample_in};
+ghost use Rattle.operators.specs.Rows.{RowLeft, atom_value, atom_in, AtomReady};
 
-// The value of sample i, given the part of a sheet that begins with its samples.
+// The value of sample i, given the part of a sheet that begins with its samples. `atleast` stays a flag, as the definition has it.
 fn atom_at(samples: &[u8], i: usize, constant: i32, atleast: bool) -> u32
     requires { (i < length (words_of samples.now)) × InBits 27 constant }
     ensures { result ≡ atom_value atleast (sample_of (get_or (words_of samples.now) i 0)) constant }
@@ -18,7 +18,8 @@ fn atom_at(samples: &[u8], i: usize, constant: i32, atleast: bool) -> u32
     }
 }
 
-// A sheet has time outermost, then place, then signal.
+// A sheet has time outermost, then place, then signal. By index: over the row's places the proof that a sample is there did not close.
+#[tactic(auto, using(words::proofs::Rows::in_table, words::proofs::Words::words_count, crate::proofs::Bounds::in_row, crate::proofs::RowLaws::one_passed))]
 pub fn atom_row(
     samples: &[u8],
     places: usize,
@@ -29,8 +30,8 @@ pub fn atom_row(
     t: usize,
     row: &mut [u32],
 )
-    requires { (signal < signals) × ((t + 1) * places * signals ≤ length (words_of samples.now)) × InBits 27 constant × (places ≤ length row.old) }
-    ensures { RowLeft places (λ l. atom_value atleast (sample_in (words_of samples.now) places signals signal t l) constant) row.old row.new }
+    requires { AtomReady (words_of samples.now) places signals signal constant t row.old }
+    ensures { RowLeft places (atom_in (words_of samples.now) places signals signal atleast constant t) row.old row.new }
 {
     for l in 0..places {
         row[l] = atom_at(

@@ -1,11 +1,11 @@
 // Signals where they stand in the words of an answer: a value, turned or not.
-ghost use Rattle.std.specs.Prelude.{◌≡◌, ◌+◌, ◌*◌, ◌≤◌, ◌<◌, length};
-ghost use Rattle.words.specs.Bytes.{words_of};
+ghost use Rattle.std.specs.Prelude.{◌≡◌, ◌≤◌};
 ghost use Rattle.values.specs.Chain.{highest};
-ghost use Rattle.values.specs.Signals.{signal_in, turned};
-ghost use Rattle.operators.specs.Rows.{turned_to};
+ghost use Rattle.values.specs.Signals.{turned};
+ghost use Rattle.operators.specs.Rows.{turned_to, operand_signal, OperandAt};
 
-// A value, or its opposite.
+// A value, or its opposite. `negated`, and `dual` in what is built on it, stays a flag, as in the definitions: one loop serves an operator and its
+// dual.
 pub fn turn(c: u32, negated: bool) -> u32
     requires { c ≤ highest }
     ensures { result ≡ turned_to negated c }
@@ -13,17 +13,31 @@ pub fn turn(c: u32, negated: bool) -> u32
     if negated { values::opposite(c) } else { c }
 }
 
-// The value of a signal, or its opposite.
-pub fn turned_at(
-    words: &[u8],
-    start: usize,
-    places: usize,
-    t: usize,
-    l: usize,
-    negated: bool,
-) -> u32
-    requires { start + (t * places + l) < length (words_of words.now) }
-    ensures { result ≡ turned negated (signal_in (words_of words.now) start places) t l }
-{
-    turn(values::signal_at(words, start, places, t, l), negated)
+// An operand of an operator: the signal of an earlier line, which begins at index `start` of the words and has `places` words to a sample.
+#[derive(Clone, Copy)]
+pub struct Operand<'a> {
+    pub words: &'a [u8],
+    pub start: usize,
+    pub places: usize,
+}
+
+impl Operand<'_> {
+    // Its value.
+    #[inline(always)]
+    pub fn at(self, t: usize, l: usize) -> u32
+        requires { OperandAt self t l }
+        ensures { result ≡ operand_signal self.entry t l }
+    {
+        values::signal_at(self.words, self.start, self.places, t, l)
+    }
+
+    // Its value, or the opposite.
+    #[inline(always)]
+    #[tactic(auto, using(values::proofs::ChainWords::signal_bound, crate::proofs::RowLaws::turned_number))]
+    pub fn turned_at(self, t: usize, l: usize, negated: bool) -> u32
+        requires { OperandAt self t l }
+        ensures { result ≡ turned negated (operand_signal self.entry) t l }
+    {
+        turn(self.at(t, l), negated)
+    }
 }

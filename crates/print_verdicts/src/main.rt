@@ -18,9 +18,10 @@ ghost use Rattle.words.specs.Word.{payload_of, signed};
 ghost use Rattle.engine.specs.Result.{result_said};
 ghost use Rattle.host.specs.Host.{program_distances, program_words, input_taken, program_judged};
 
-use engine::Result;
-use std::io;
-use tools::BYTES_REFUSED;
+use checks::fault::{Fault, Refusal};
+use engine::Answered;
+use std::{fmt, io};
+use values::VerdictKind;
 
 // What is read at most: more than is taken, so that an input that is too long is seen.
 const READ_BYTES: usize = 65536;
@@ -32,7 +33,7 @@ const DISTANCES_BYTES: usize = 32768;
 
 const ANSWER_BYTES: usize = 65536;
 
-// The margin of a word of kind 9 or 10: its payload in two's complement.
+// The margin of a word that says a finite one: its payload in two's complement.
 fn margin(word: u32) -> i32
     ensures { result ≡ signed 28 (payload_of word) }
 {
@@ -44,14 +45,19 @@ fn margin(word: u32) -> i32
     }
 }
 
-// A word of an answer, of kind 9 to 12.
-fn print_verdict(rt: &impl Print, word: u32) -> io::Result<()> {
-    match words::kind(word) {
-        9 => print!(rt; " yes {}", margin(word)),
-        10 => print!(rt; " no {}", margin(word)),
-        11 => print!(rt; " yes +inf"),
-        // 12: an answer has no other
-        _ => print!(rt; " no -inf"),
+// A word of an answer that says a verdict.
+#[derive(Clone, Copy)]
+struct Verdict(u32);
+
+impl fmt::Display for Verdict {
+    fn fmt<W: fmt::Write>(&self, f: &mut fmt::Formatter<W>) -> fmt::Result {
+        match VerdictKind::of(self.0) {
+            Some(VerdictKind::Yes) => write!(f, "yes {}", margin(self.0)),
+            Some(VerdictKind::No) => write!(f, "no {}", margin(self.0)),
+            Some(VerdictKind::InfiniteYes) => write!(f, "yes +inf"),
+            // an answer has no other
+            Some(VerdictKind::InfiniteNo) | None => write!(f, "no -inf"),
+        }
     }
 }
 
@@ -60,7 +66,7 @@ fn print_places(rt: &impl Print, answer: &[u8], at: usize, places: usize) -> io:
     requires { at + places ≤ 2 ^ 40 }
 {
     for place in 0..places {
-        print_verdict(rt, words::word_or_zero(answer, at + place))?;
+        print!(rt; " {}", Verdict(words::word_or_zero(answer, at + place)))?;
     }
     println!(rt)
 }
@@ -99,11 +105,7 @@ fn print_lines(rt: &impl Print, answer: &[u8]) -> io::Result<()> {
     println!(rt; "end {rows}")
 }
 
-fn print_refused(rt: &impl Print, number: u64, place: u64) -> io::Result<()> {
-    println!(rt; "refused {number} {place}")
-}
-
-fn print_accepted(rt: &impl Print, told: Result) -> io::Result<()> {
+fn print_accepted(rt: &impl Print, told: Answered) -> io::Result<()> {
     println!(rt; "accepted {} {} {}", told.words, told.rounds, told.yes)
 }
 
@@ -111,15 +113,12 @@ fn print_accepted(rt: &impl Print, told: Result) -> io::Result<()> {
 fn input_taken(bytes: usize) -> bool
     ensures { result ≡ input_taken bytes }
 {
-    if bytes % 4 != 0 {
-        return false;
-    }
-    bytes <= INPUT_BYTES
+    bytes % 4 == 0 && bytes <= INPUT_BYTES
 }
 
 // Judges the input, where it is taken.
 #[tactic(auto, using(words::proofs::Numbers::length_numbers, words::proofs::Words::length_words), unfolding(host::specs::Host::program_judged))]
-fn judge_input(input: &[u8], distances: &mut [u8], answer: &mut [u8]) -> Result
+fn judge_input(input: &[u8], distances: &mut [u8], answer: &mut [u8]) -> Result<Answered, Refusal>
     requires { (length distances.old ≡ program_distances * 8) × (length answer.old ≡ program_words * 4) }
     ensures told { result_said result ≡ (program_judged input.now).result }
     ensures said { words_of answer.new ≡ (program_judged input.now).answer }
@@ -128,7 +127,7 @@ fn judge_input(input: &[u8], distances: &mut [u8], answer: &mut [u8]) -> Result
     if !input_taken(input.len()) {
         words::fill_zero(distances);
         words::fill_zero(answer);
-        return engine::refusal(BYTES_REFUSED, 0);
+        return Err(Fault::BytesRefused.at(0));
     }
     engine::judge(input, distances, answer)
 }
@@ -136,12 +135,12 @@ fn judge_input(input: &[u8], distances: &mut [u8], answer: &mut [u8]) -> Result
 fn print_judged(rt: &impl Print, input: &[u8]) -> io::Result<()> {
     let mut distances = [0u8; DISTANCES_BYTES];
     let mut answer = [0u8; ANSWER_BYTES];
-    let told = judge_input(input, &mut distances, &mut answer);
-    if told.number == 0 {
-        print_accepted(rt, told)?;
-        print_lines(rt, &answer)
-    } else {
-        print_refused(rt, told.number, told.place)
+    match judge_input(input, &mut distances, &mut answer) {
+        Ok(told) => {
+            print_accepted(rt, told)?;
+            print_lines(rt, &answer)
+        }
+        Err(refusal) => println!(rt; "refused {} {}", refusal.fault.number(), refusal.place),
     }
 }
 

@@ -1,17 +1,20 @@
 // Somewhere and its dual, everywhere, for several samples side by side: the greatest, or the least, within range of every centre.
 #![tactic(auto)]
 
-ghost use Rattle.std.specs.Prelude.{◌≡◌, ◌<◌};
-ghost use Rattle.lanes.specs.Rows.{Room, TableThere};
-ghost use Rattle.ranges.specs.Ranges.{of_none};
+ghost use Rattle.std.specs.Prelude.{◌<◌};
+ghost use Rattle.words.specs.Bytes.{words_of};
+ghost use Rattle.lanes.specs.Lanes.{left_row};
+ghost use Rattle.lanes.specs.Rows.{Room, RowWritten, BlockThere, lane_signal};
 ghost use Rattle.ranges.specs.Lent.{CentreGatheredIn, CentresGatheredIn, RangeReadyIn, RangeDoneIn};
 
 use codes::operator::Bounds;
+use distances::table::Distances;
+use lanes::ends::{End, Greatest, Least};
 use lanes::rows::{Block, in_range, load};
-use lanes::strips::{combine_strips, fill_strip};
-use lanes::{LEFT, OUT, ROWS};
+use lanes::strips::of_two;
+use lanes::{LANES, Place, Strip};
 
-// What is asked about every centre. The operand is the index at which its signal begins.
+// What is asked about every centre. The operand is the index at which its signal begins. Somewhere or its dual is a flag, as in the definitions.
 #[derive(Clone, Copy)]
 pub struct Range {
     pub left: usize,
@@ -19,62 +22,58 @@ pub struct Range {
     pub dual: bool,
 }
 
-// The least of nothing, or the greatest.
-fn of_none(least: bool) -> u32
-    ensures { result ≡ of_none least }
+// Decodes the operand, once for all centres.
+fn load_left(words: &[u8], start: usize, places: usize, block: Block, rows: &mut [Place])
+    requires { BlockThere words.now start places block × Room places rows.old }
+    ensures { RowWritten left_row places (lane_signal (words_of words.now) start places block) rows.old rows.new }
 {
-    if least {
-        values::top()
-    } else {
-        values::bottom()
+    for (l, place) in rows[..places].iter_mut().enumerate() {
+        place.left = load(words, start, places, block, l);
     }
 }
 
-// All places within range of one centre.
-fn gather(
-    rows: &mut [u32],
-    distances: &[u8],
-    centre: usize,
-    places: usize,
-    bounds: Bounds,
-    least: bool,
-)
-    requires { (centre < places) × TableThere distances.now places × Room places rows.old }
-    ensures { CentreGatheredIn rows.old distances.now places bounds least centre rows.new }
+// All places within range of one centre. By number: the table of distances is asked for each place, and a strip is read only where it says so.
+fn gather<E: End>(rows: &[Place], distances: Distances, centre: usize, bounds: Bounds) -> Strip
+    requires { (centre < distances.places) × Room distances.places rows.now }
+    ensures { CentreGatheredIn E.over rows.now distances.entry bounds centre result }
 {
-    let to = centre * ROWS + OUT;
-    fill_strip(rows, to, of_none(least));
-    for place in 0..places {
-        if in_range(distances, places, centre, place, bounds) {
-            combine_strips(rows, to, place * ROWS + LEFT, to, least);
+    let mut strip: Strip = [E::none(); LANES];
+    for place in 0..distances.places {
+        if in_range(distances, centre, place, bounds) {
+            strip = of_two::<E>(&strip, &rows[place].left);
         }
     }
+    strip
 }
 
-fn gather_all(rows: &mut [u32], distances: &[u8], places: usize, bounds: Bounds, least: bool)
-    requires { TableThere distances.now places × Room places rows.old }
-    ensures { CentresGatheredIn rows.old distances.now places bounds least rows.new }
+// About every centre. By index: one place is written, and all are read.
+fn gather_all<E: End>(rows: &mut [Place], distances: Distances, bounds: Bounds)
+    requires { Room distances.places rows.old }
+    ensures { CentresGatheredIn E.over rows.old distances.entry bounds rows.new }
 {
-    for centre in 0..places {
-        gather(rows, distances, centre, places, bounds, least);
+    for centre in 0..distances.places {
+        let strip = gather::<E>(rows, distances, centre, bounds);
+        rows[centre].out = strip;
     }
 }
 
-// Of a signal that stands in the words of an answer, at samples first to first + count - 1: lane `lane` of row OUT has, at each centre, the chain number
+// Of a signal that stands in the words of an answer, at samples first to first + count - 1: lane `lane` of each place's `out` has, at each centre, the chain number
 // of sample first + lane about it, and from lane `count` on that of the lowest signal. Everywhere is the dual, the opposite of somewhere of the opposite,
 // and comes to the least.
 pub fn somewhere_block(
     words: &[u8],
     range: Range,
-    places: usize,
-    distances: &[u8],
+    distances: Distances,
     block: Block,
-    rows: &mut [u32],
+    rows: &mut [Place],
 )
-    requires { RangeReadyIn words.now range places distances.now block × Room places rows.old }
-    ensures { RangeDoneIn words.now range places distances.now block rows.old rows.new }
+    requires { RangeReadyIn words.now range distances block × Room distances.places rows.old }
+    ensures { RangeDoneIn words.now range distances.entry block rows.old rows.new }
 {
-    load(words, range.left, places, block, LEFT, rows);
-    let bounds = range.bounds;
-    gather_all(rows, distances, places, bounds, range.dual);
+    load_left(words, range.left, distances.places, block, rows);
+    if range.dual {
+        gather_all::<Least>(rows, distances, range.bounds);
+    } else {
+        gather_all::<Greatest>(rows, distances, range.bounds);
+    }
 }

@@ -9,7 +9,7 @@ use lib.ListN.{length}
 use Rattle.words.specs.Word.{payload_of}
 use Rattle.checks.specs.Checked.{accepted, refused, ◌>>=◌, mapped, word_at, is_kind}
 use Rattle.checks.specs.Heads.{head_words, is_wide}
-use Rattle.roads.specs.Roads.{road_at, first_place, second_place, bits_fit, place_pair, road_checked, roads_from}
+use Rattle.roads.specs.Roads.{road_at, first_place, second_place, bits_fit, place_pair, road_checked, roads_from, roads_checked}
 use Rattle.checks.proofs.Checks.{require_accepted}
 use Rattle.checks.proofs.Tests.{and_true, kind_told}
 
@@ -47,11 +47,11 @@ roads_start s n =
     record { passed = 0; place = omega arith; rest = ap (λ (m : ℕ). roads_from s n m 0 0) none }
 
 module _ (s : List ℕ) (n : ℕ) {at last : ℕ} (so_far : Roads s n at last) where
-  pub roads_done : is_kind 2 s at ≡ false → mapped (road_at (is_wide s)) (roads_from s n (length s) 0 0) ≡ accepted at
+  pub roads_done : is_kind 2 s at ≡ false → accepted at ≡ roads_checked s n
   roads_done other =
       let r = so_far.passed in
       let all = so_far.rest ∙ roads_end s n (length s - r) r last (rw so_far.place at other) in
-      ap (mapped (road_at (is_wide s))) all ∙ ap accepted (sym so_far.place)
+      ap accepted so_far.place ∙ ap (mapped (road_at (is_wide s))) (sym all)
 
   module _ (kind_2 : is_kind 2 s at ≡ true) where
     one_more : roads_from s n (length s) 0 0
@@ -65,7 +65,7 @@ module _ (s : List ℕ) (n : ℕ) {at last : ℕ} (so_far : Roads s n at last) w
         ∙ rw so_far.place (road_more s n (length s - suc r) r last (rw so_far.place at kind_2))
 
     pub road_refused : {number place : ℕ} → road_checked s n at last ≡ refused number place
-        → mapped (road_at (is_wide s)) (roads_from s n (length s) 0 0) ≡ refused number place
+        → roads_checked s n ≡ refused number place
     road_refused {number} {place} e =
         let whole : roads_from s n (length s) 0 0 ≡ refused number place = one_more ∙ simp e in
         ap (mapped (road_at (is_wide s))) whole

@@ -1,9 +1,9 @@
 -- The roads of a sheet, narrow or wide ("The sheet", requests M-104 and M-106; refusals 4 to 7), and the network that they make.
-use Rattle.std.specs.Prelude.{ℕ, zero, suc, ◌+◌, ◌-◌, ◌*◌, ◌<◌, Bool, true, false, cond, ◌&&◌, ◌||◌, List, T, eqb, ltb}
+use Rattle.std.specs.Prelude.{ℕ, zero, suc, ◌+◌, ◌-◌, ◌*◌, ◌<◌, Bool, true, false, cond, ◌&&◌, ◌||◌, List, T, eqb, ltb, length}
 use Rattle.words.specs.Word.{bits, payload_of}
 use Rattle.network.specs.Distance.{Distance, dist, none}
 use Rattle.network.specs.Network.{Network}
-use Rattle.checks.specs.Checked.{Checked, accepted, ◌>>=◌, require, word_at, is_kind}
+use Rattle.checks.specs.Checked.{Checked, accepted, ◌>>=◌, mapped, require, word_at, is_kind}
 use Rattle.checks.specs.Heads.{head_words, is_wide}
 use Rattle.roads.specs.declared.road.Way.{Way}
 
@@ -75,6 +75,10 @@ module _ (s : List ℕ) where
     | false ↦ accepted r
   ]
 
+  -- all of them among n places: the index after them
+  abbrev pub roads_checked : ℕ → Checked ℕ
+  roads_checked n = mapped (road_at (is_wide s)) (roads_from n (length s) 0 0)
+
   -- the ends and the weight of a road
   abbrev pub first_of : ℕ → ℕ
   first_of r = first_place (is_wide s) (word_at s (road_at (is_wide s) r))
@@ -98,6 +102,10 @@ module _ (s : List ℕ) where
     pub weight : T (is_kind 3 s (weight_at (is_wide s) r))
     pub order : first_of r < second_of r
     pub inside : second_of r < n
+
+  -- each of the first roads is such a one
+  abbrev pub GoodRoads : ℕ → ℕ → Type 0
+  GoodRoads n roads = (r : ℕ) → r < roads → GoodRoad n r
 
   -- road r leads from a to b: forth, or back (M-106)
   unfoldable pub leads : ℕ → ℕ → ℕ → Bool

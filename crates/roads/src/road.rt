@@ -14,7 +14,7 @@ pub struct Network {
     pub roads: usize,
 }
 
-// One of the two ways of a road: from which place it leads to which, and whether the road runs so.
+// One of the two ways of a road: from which place it leads to which, and whether the road runs so: a flag, as in the definitions.
 #[derive(Clone, Copy)]
 pub struct Way {
     pub from: usize,
@@ -30,80 +30,88 @@ pub fn road_at(wide: bool, r: usize) -> usize
     head_words(wide) + 2 * r
 }
 
-pub fn first_place(road: u32, wide: bool) -> usize
-    ensures { result ≡ first_place wide road }
-{
-    if wide {
-        return (road / 4096 % 4096) as usize;
+// The first word of a road, in a narrow sheet or in a wide one: which, is a flag, as in the definitions.
+#[derive(Clone, Copy)]
+pub struct Road {
+    pub word: u32,
+    pub wide: bool,
+}
+
+impl Road {
+    pub fn first(self) -> usize
+        ensures { result ≡ first_place self.wide self.word }
+    {
+        if self.wide {
+            return words::bits::<12, 12>(self.word) as usize;
+        }
+        words::bits::<8, 8>(self.word) as usize
     }
-    (road / 256 % 256) as usize
-}
 
-pub fn second_place(road: u32, wide: bool) -> usize
-    ensures { result ≡ second_place wide road }
-{
-    if wide {
-        return (road % 4096) as usize;
+    pub fn second(self) -> usize
+        ensures { result ≡ second_place self.wide self.word }
+    {
+        if self.wide {
+            return words::bits::<0, 12>(self.word) as usize;
+        }
+        words::bits::<0, 8>(self.word) as usize
     }
-    (road % 256) as usize
-}
 
-fn spare_bits(road: u32, wide: bool) -> u32
-    ensures { result ≡ spare_bits wide road }
-{
-    if wide {
-        return road / 16777216 % 4;
+    // Both places as one number.
+    pub(crate) fn pair(self) -> usize
+        ensures { result ≡ place_pair self.wide self.word }
+    {
+        if self.wide {
+            return words::bits::<0, 24>(self.word) as usize;
+        }
+        words::bits::<0, 16>(self.word) as usize
     }
-    road / 65536 % 1024
-}
 
-// From its first place to its second: bit 26 is zero.
-fn runs_forth(road: u32) -> bool
-    ensures { result ≡ runs_forth road }
-{
-    road / 67108864 % 2 == 0
-}
-
-// From its second place to its first: bit 27 is zero.
-fn runs_back(road: u32) -> bool
-    ensures { result ≡ runs_back road }
-{
-    road / 134217728 % 2 == 0
-}
-
-pub(crate) fn bits_fit(road: u32, wide: bool) -> bool
-    ensures { result ≡ bits_fit wide road }
-{
-    (spare_bits(road, wide) == 0) & (runs_forth(road) | runs_back(road))
-}
-
-pub fn way_forth(road: u32, wide: bool) -> Way
-    ensures { result ≡ way_forth wide road }
-{
-    Way {
-        from: first_place(road, wide),
-        to: second_place(road, wide),
-        runs: runs_forth(road),
+    pub fn forth(self) -> Way
+        ensures { result ≡ way_forth self.wide self.word }
+    {
+        Way {
+            from: self.first(),
+            to: self.second(),
+            runs: self.runs_forth(),
+        }
     }
-}
 
-pub fn way_back(road: u32, wide: bool) -> Way
-    ensures { result ≡ way_back wide road }
-{
-    Way {
-        from: second_place(road, wide),
-        to: first_place(road, wide),
-        runs: runs_back(road),
+    pub fn back(self) -> Way
+        ensures { result ≡ way_back self.wide self.word }
+    {
+        Way {
+            from: self.second(),
+            to: self.first(),
+            runs: self.runs_back(),
+        }
     }
-}
 
-pub(crate) fn place_pair(road: u32, wide: bool) -> usize
-    ensures { result ≡ place_pair wide road }
-{
-    if wide {
-        return (road % 16777216) as usize;
+    pub(crate) fn bits_fit(self) -> bool
+        ensures { result ≡ bits_fit self.wide self.word }
+    {
+        (self.spare_bits() == 0) & (self.runs_forth() | self.runs_back())
     }
-    (road % 65536) as usize
+
+    fn spare_bits(self) -> u32
+        ensures { result ≡ spare_bits self.wide self.word }
+    {
+        if self.wide {
+            return words::bits::<24, 2>(self.word);
+        }
+        words::bits::<16, 10>(self.word)
+    }
+
+    fn runs_forth(self) -> bool
+        ensures { result ≡ runs_forth self.word }
+    {
+        words::bits::<26, 1>(self.word) == 0
+    }
+
+    fn runs_back(self) -> bool
+        ensures { result ≡ runs_back self.word }
+    {
+        words::bits::<27, 1>(self.word) == 0
+    }
 }
 
 // The weight in the word after the first, as wide as a distance.

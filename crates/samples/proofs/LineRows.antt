@@ -5,16 +5,15 @@ use Prim.Native.Nat.{ℕ, ◌+◌, ◌*◌, ◌<◌, ◌≤◌}
 use native.Mathlib.Nat.{mul-le-mul_right, suc-mul}
 use native.Mathlib.Numerals.{add-one}
 use native.Mathlib.Omega.{arith}
-use lib.ListN.{length, get_or, take}
+use lib.ListN.{length}
 use Rattle.words.specs.Bytes.{words_of, after_words}
 use Rattle.words.specs.Rows.{row, concat, rows, put}
-use Rattle.words.proofs.Puts.{put_nil, put-append, take-put}
+use Rattle.words.proofs.Puts.{put_nil, put-append}
 use Rattle.words.proofs.Rows.{length-rows}
 use Rattle.words.proofs.Words.{words_count}
 use Rattle.counting.specs.Totals.{count, sum_below}
 use Rattle.counting.proofs.Totals.{sum_more, yes_bound, table_yes_bound, most_none}
 use Rattle.values.specs.Chain.{chain_word, chain_verdict}
-use Rattle.samples.specs.Sample.{entry}
 use Rattle.samples.specs.Written.{SamplesWritten}
 
 put-row : (s : List ℕ) (begin : ℕ) (f : ℕ → ℕ → ℕ) (t m : ℕ) → begin ≤ length s → put (put s begin (rows f t m)) (begin + t * m) (row (f t) m) ≡ put s begin (rows f (t + 1) m)
@@ -53,10 +52,6 @@ module _ (value : ℕ → ℕ → ℕ) (n : ℕ) (answer : List ℕ) (begin : �
     pub all_done : {samples : ℕ} → t ≡ samples → SamplesWritten value (λ _ _. 0) n (words_of answer) begin samples (words_of after) (record { rounds = 0; yes = many })
     all_done e = rw (← e) (record { written = done.written; counted = done.counted; greatest = most_none t n })
 
-    -- the words before the line stay as they are
-    pub before_kept : begin ≤ length (words_of answer) → take begin (words_of after) ≡ take begin (words_of answer)
-    before_kept begins = ap (take begin) done.written ∙ take-put (words_of answer) begin _ begins
-
     -- the numbers f of sample t are written
     pub one_more : {f : ℕ → ℕ} {later : List ℕ} {more : ℕ} → f ≡ value t → begin ≤ length (words_of answer) → length later ≡ length after
         → words_of later ≡ put (words_of after) to (row (λ l. chain_word (f l)) n) → more ≡ sum_below (λ l. count (chain_verdict (f l))) n → after_words later ≡ after_words after
@@ -69,7 +64,3 @@ module _ (value : ℕ → ℕ → ℕ) (n : ℕ) (answer : List ℕ) (begin : �
       counted = ap₂ ◌+◌ done.counted (counts ∙ ap (λ g. sum_below (λ l. count (chain_verdict (g l))) n) same) ∙ sym (sum_more yes_at t);
       tail = tail ∙ done.tail;
     }
-
--- a row of one sample alone
-pub entry_one : (values : List ℕ) (l : ℕ) → entry values 1 0 l ≡ get_or values l 0
-entry_one values l = ap (λ (i : ℕ). get_or values i 0) (omega arith)

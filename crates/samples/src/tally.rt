@@ -12,21 +12,14 @@ impl Tally {
     // Of no verdict.
     pub const NONE: Tally = Tally { rounds: 0, yes: 0 };
 
-    // Of these verdicts and the others.
+    // Of these verdicts and the others. No `impl Add`: that may ask nothing, and the sum of yes verdicts has to fit.
     pub fn with(self, other: Tally) -> Tally
         requires { self.yes + other.yes < 2 ^ 64 }
         ensures { result ≡ together self other }
     {
-        let yes = self.yes + other.yes;
-        if self.rounds < other.rounds {
-            return Tally {
-                rounds: other.rounds,
-                yes,
-            };
-        }
         Tally {
-            rounds: self.rounds,
-            yes,
+            rounds: self.rounds.max(other.rounds),
+            yes: self.yes + other.yes,
         }
     }
 }

@@ -2,7 +2,7 @@
 use Prim.Native.Nat.{ℕ, zero, suc, ◌+◌, ◌-◌, ◌*◌, ◌<◌}
 use mathlib.Core.List.{List}
 use mathlib.Core.Bool.{true, false}
-use mathlib.Core.Path.{◌≡◌, ◌∙◌}
+use mathlib.Core.Path.{◌≡◌, ap, ◌∙◌}
 use native.Mathlib.Omega.{arith}
 use lib.Dec.{eqb}
 use borrow.Author.Tests.{eqb-true}
@@ -32,6 +32,14 @@ spare_bit_set s left at some right set = sample_more s left at some ∙ simp (ri
 pub one_less : (s : List ℕ) (left at : ℕ) → 0 < left → is_kind 4 s at ≡ true → eqb (bits 27 1 (word_at s at)) 0 ≡ true
     → samples_from s left at ≡ samples_from s (left - 1) (at + 1)
 one_less s left at some right clear = sample_more s left at some ∙ simp (right, clear)
+
+pub none_left : (s : List ℕ) (count start i : ℕ) → i ≡ count → samples_from s count start ≡ samples_from s (count - i) (start + i)
+    → accepted (start + count) ≡ samples_from s count start
+unfolding samples_from
+none_left s count start i all e =
+    let none : 0 ≡ count - i = omega arith in
+    let end : start + count ≡ start + i = omega arith in
+    rw (e, end) (ap (λ (left : ℕ). samples_from s left (start + i)) none)
 
 -- each word of samples that are accepted is one
 pub samples_told : (s : List ℕ) (count at : ℕ) {next : ℕ} → samples_from s count at ≡ accepted next → (i : ℕ) → i < count → IsSample (word_at s (at + i))

@@ -1,5 +1,5 @@
 -- What an accepted sheet gives the distances, and what a survey leaves, by the outcome of the check.
-use mathlib.Core.Path.{◌≡◌, ap, subst}
+use mathlib.Core.Path.{◌≡◌, sym, ap, subst, ◌∙◌}
 use mathlib.Core.List.{List}
 use Prim.Native.Nat.{ℕ, ◌*◌, ◌<◌, ◌≤◌, zero-le}
 use lib.ListN.{length, replicate}
@@ -7,10 +7,11 @@ use Rattle.words.specs.Rows.{padded}
 use Rattle.sheet.specs.declared.check.Layout as F
 use Rattle.checks.specs.Checked.{accepted, refused, mapped}
 use Rattle.sheet.specs.Layout.{Layout, checked}
-use Rattle.roads.specs.Roads.{GoodRoad, network_of}
-use Rattle.distances.specs.Distances.{distance_table}
+use Rattle.roads.specs.Roads.{GoodRoad, GoodRoads, network_of}
+use Rattle.distances.specs.Distances.{distance_table, numbers_in, room_in, HasRoom}
+use Rattle.words.proofs.Zeros.{zero_numbers}
 use Rattle.sheet.specs.Recording.{network}
-use Rattle.sheet.specs.Checking.{layout_of}
+use Rattle.sheet.specs.Checking.{layout_of, layout_checked}
 use Rattle.sheet.specs.Survey.{surveyed_by, surveyed}
 use Rattle.checks.proofs.Checks.{mapped_accepted, mapped_refused}
 use Rattle.roads.proofs.AcceptedRoads.{road_good}
@@ -36,3 +37,12 @@ accepting s room layout e =
 pub refusing : (s : List ℕ) (room number place : ℕ) → mapped (layout_of s) (checked s room) ≡ refused number place → surveyed s room ≡ replicate room 0
 unfolding surveyed
 refusing s room number place e = ap (surveyed_by s room) (mapped_refused (layout_of s) (checked s room) e)
+
+-- ---- the same of a count that was read, and of the bytes b that are lent
+module _ (s b : List ℕ) (room : ℕ) (lent : room ≡ room_in b) where
+  pub lent_roads : (layout : F.Layout) → accepted layout ≡ layout_checked s room → GoodRoads s layout.places layout.roads × HasRoom layout.places b
+  lent_roads layout e = rw lent at (accepting s room layout (sym e)).roads
+
+  pub left_zero : (number place : ℕ) (left : List ℕ) → refused number place ≡ layout_checked s room → left ≡ replicate (length b) 0
+      → numbers_in left ≡ surveyed s (room_in b)
+  left_zero number place left e zero = ap numbers_in zero ∙ zero_numbers b ∙ sym (rw lent at (refusing s room number place (sym e)))

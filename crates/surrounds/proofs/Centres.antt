@@ -5,11 +5,10 @@ use mathlib.Core.Logic.{⊎_elim}
 use mathlib.Core.Bool.{Bool, true, false, not, cond, ◌&&◌, ◌||◌}
 use mathlib.Core.List.{List}
 use Prim.Native.Nat.{ℕ, zero, suc, ◌-◌, ◌<◌, ◌≤◌}
-use native.Mathlib.Decide.{ℕ_discrete}
 use native.Mathlib.Omega.{arith}
-use borrow.Author.Tests.{ne_eqb}
 use lib.Dec.{T_not, eqb, eqb→eq, eqb_refl}
-use lib.ListN.{length}
+use lib.ListN.{length, get_or, set}
+use lib.Seq.{get_or-set_same, get_or-set_other}
 use Rattle.words.specs.Bytes.{words_of, numbers_of}
 use Rattle.codes.specs.declared.operator.Bounds.{Bounds}
 use Rattle.network.specs.Network as Roads
@@ -29,16 +28,15 @@ use Rattle.values.specs.Signals.{in_table}
 use Rattle.values.proofs.Valid.{valid_kept}
 use Rattle.values.proofs.Projections.{margin_kept}
 use Rattle.values.proofs.ChainSurround.{surround_rested}
-use Rattle.lanes.specs.Lanes.{lanes, row_count, left_row, right_row, out_row, lane_of, strip_of, Numbers, row_in}
-use Rattle.lanes.specs.Strips.{Written}
-use Rattle.lanes.specs.Rows.{RowOf, KeptBelow, KeptPast, within, masked_by}
-use Rattle.lanes.proofs.RowLaws.{strip_written, strip_kept, kept_below_trans, kept_below_lower, kept_below_strip, kept_past_trans, kept_past_strip}
-use Rattle.iteration.specs.WorkRows.{ring_row, x_row, Worked, KeptBut}
+use Rattle.lanes.specs.declared.Place.{Place}
+use Rattle.lanes.specs.Lanes.{lanes, left_row, right_row, out_row, no_place, Numbers, row_in}
+use Rattle.lanes.specs.Rows.{RowOf, Kept, KeptPast, within, masked_by}
+use Rattle.iteration.specs.WorkRows.{ring_row, x_row, stepped_part, operands, Worked, KeptBut}
 use Rattle.iteration.specs.Steps.{joined_by, RoadsIn, ValidRow, Start, Settled, rounds_in}
 use Rattle.iteration.specs.Masks.{ball_of, CentreMasked}
 use Rattle.surrounds.specs.Runs.{left_out, LeftOut, beyond, is_made, run_surround, run_rounds_at, CentreRun}
-use Rattle.surrounds.specs.Blocks.{reached_by, RowsReady}
-use Rattle.iteration.proofs.Outside.{but_below, low_fallen}
+use Rattle.surrounds.specs.Blocks.{reached_by, given, CentreRaised, RowsReady}
+use Rattle.iteration.proofs.Outside.{low_fallen}
 use Rattle.surrounds.proofs.Tables.{range_at, reached_at}
 
 -- ---- which runs are made, by tests that are the same below n
@@ -65,41 +63,24 @@ pub left_out_none : {row : Numbers} → LeftOut 0 row row
 unfolding left_out
 left_out_none = record { at = λ _ _ _. refl }
 
-module _ (k : ℕ) {v : ℕ} {before after : List ℕ} (w : Written (strip_of x_row k) lanes (λ _. v) before after) where
-  pub left_out_strip : v ≡ 0 → LeftOut (suc k) (row_in before x_row) (row_in after x_row)
-  unfolding left_out except masked
-  left_out_strip e = record {
-    at = λ p lane l. ⊎_elim
-        (λ t. let same = eqb→eq p k t in rw (holds (eqb p k) t) (rw same (strip_written x_row k w lane l ∙ e)))
-        (λ t. rw (fails (eqb p k) t) (strip_kept x_row k w (omega arith) x_row p lane (omega arith) l (λ _ same. absurd (T_not (eqb p k) t (rw same (eqb_refl k))))))
-        (dec_T (eqb p k));
-  }
-
-  pub left_out_kept : length after ≡ length before → KeptBut x_row before after
-  left_out_kept long = record { kept = λ row p lane c l other. strip_kept x_row k w (omega arith) row p lane c l (λ same _. other same); long = long }
+left_out_set : (k : ℕ) (rows : List Place) (v : Place) → k < length rows → ((lane : ℕ) → lane < lanes → get_or v.x lane 0 ≡ 0) → LeftOut (suc k) (row_in rows x_row) (row_in (set rows k v) x_row)
+unfolding left_out except masked
+left_out_set k rows v b lowest = record {
+  at = λ p lane l. ⊎_elim
+      (λ t. let same = eqb→eq p k t in rw (holds (eqb p k) t) (rw same (ap (λ (q : Place). get_or q.x lane 0) (get_or-set_same rows k v no_place b) ∙ lowest lane l)))
+      (λ t. rw (fails (eqb p k) t) (ap (λ (q : Place). get_or q.x lane 0) (get_or-set_other rows k p v no_place (λ same. absurd (T_not (eqb p k) t (rw same (eqb_refl k)))))))
+      (dec_T (eqb p k));
+}
 
 -- by the number of a run: 0 leaves nothing out, any other the place of the number before
 pub left_out_nothing : {run : ℕ} {row : Numbers} → run ≡ 0 → LeftOut run row row
 left_out_nothing e = rw e left_out_none
 
-pub left_out_number : {run v : ℕ} {before after : List ℕ} → 0 < run → Written (strip_of x_row (run - 1)) lanes (λ _. v) before after → v ≡ 0
-    → LeftOut run (row_in before x_row) (row_in after x_row)
-left_out_number {run} {v} {before} {after} some w e =
+pub left_out_number : {run : ℕ} (rows : List Place) (v : Place) → 0 < run → run ≤ length rows → ((lane : ℕ) → lane < lanes → get_or v.x lane 0 ≡ 0)
+    → LeftOut run (row_in rows x_row) (row_in (set rows (run - 1) v) x_row)
+left_out_number {run} rows v some room lowest =
     let number : suc (run - 1) ≡ run = omega arith in
-    subst (λ (k : ℕ). LeftOut k (row_in before x_row) (row_in after x_row)) number (left_out_strip (run - 1) w e)
-
--- past the place that it leaves out a run leaves all as it is
-left_out_same : (run : ℕ) (f : ℕ → ℕ) (p : ℕ) → run ≤ p → left_out chain_lattice run f p ≡ f p
-unfolding left_out except masked
-left_out_same zero f p b = refl
-left_out_same (suc k) f p b = rw (ne_eqb p k (λ e. absurd (omega arith))) refl
-
-left_out_past : {run n : ℕ} {before after : List ℕ} → run ≤ n → LeftOut run (row_in before x_row) (row_in after x_row) → KeptBut x_row before after → KeptPast n before after
-left_out_past {run} {n} {before} {after} b out k = record { kept = λ row p lane c h l. at row p lane c h l (ℕ_discrete row x_row) }
-  where
-    at : (row p lane : ℕ) → row < row_count → n ≤ p → lane < lanes → Dec (row ≡ x_row) → row_in after row lane p ≡ row_in before row lane p
-    at row p lane c h l (yes same) = rw same (out.at p lane l ∙ left_out_same run (row_in before x_row lane) p (omega arith))
-    at row p lane c h l (no other) = k.kept row p lane c l other
+    subst (λ (k : ℕ). LeftOut k (row_in rows x_row) (row_in (set rows (run - 1) v) x_row)) number (left_out_set (run - 1) rows v (omega arith) lowest)
 
 -- leaving out after masking is masking after leaving out
 left_out_masked : (run : ℕ) (test : ℕ → Bool) (f g : ℕ → ℕ) (p : ℕ) → f p ≡ masked chain_lattice test g p
@@ -153,7 +134,7 @@ pub record RunGiven (left right : Numbers) (N : Network) (b : Bounds) (islands :
   pub values : (lane : ℕ) → lane < lanes → y lane centre ≡ run_surround left right N b islands run lane centre
   pub rounds : r ≡ most_below (run_rounds_at left right N b islands run centre) lanes
 
-module _ {rows masked_rows start : List ℕ} {n : ℕ} {sheet : List ℕ} {roads : ℕ} {distances : List ℕ} {bounds : Bounds} {centre : ℕ} {inside : List Bool} {run : ℕ}
+module _ {rows masked_rows start : List Place} {n : ℕ} {sheet : List ℕ} {roads : ℕ} {distances : List ℕ} {bounds : Bounds} {centre : ℕ} {inside : List Bool} {run : ℕ}
     (ready : RowsReady (row_in rows left_row) (row_in rows right_row) n sheet roads (numbers_of (words_of distances)) bounds) (m : CentreMasked n distances bounds centre n rows inside masked_rows)
     (out : LeftOut run (row_in masked_rows x_row) (row_in start x_row)) (kept : KeptBut x_row masked_rows start) where
   abbrev N : Network
@@ -179,7 +160,7 @@ module _ {rows masked_rows start : List ℕ} {n : ℕ} {sheet : List ℕ} {roads
   ring = row_in start ring_row
 
   ring_masked : RowOf (masked_by (within distances n centre bounds) right) ring n
-  ring_masked = record { at = λ p lane b l. kept.kept ring_row p lane (omega arith) l (λ e. absurd (omega arith)) ∙ m.right_masked.at p lane b l }
+  ring_masked = record { at = λ p lane b l. ap (λ (q : Place). get_or q.ring lane 0) (kept.same p) ∙ m.right_masked.at p lane b l }
 
   -- the iteration can start
   pub run_start : length inside ≡ n → Start sheet roads inside start
@@ -218,11 +199,11 @@ module _ {rows masked_rows start : List ℕ} {n : ℕ} {sheet : List ℕ} {roads
     right_margin lane l p b = ap chain_margin (right_at lane l p b)
         ∙ masked_kept chain_lattice margin_lattice (λ u v. chain_margin u ≡ v) margin_kept about (right lane) _ n (λ _ _. refl) p b
 
-    -- what settling leaves is the run's surround
-    pub run_settled : {y : Numbers} {r : ℕ} {islands : Bool} → is_made ball (Roads.reached N centre) n centre islands run ≡ true → Settled sheet roads n ring x r y
+    -- what settling leaves, where the run is made by the network
+    run_rested : {y : Numbers} {r : ℕ} {islands : Bool} → is_made ball (Roads.reached N centre) n centre islands run ≡ true → Settled sheet roads n ring x r y
         → RunGiven left right N bounds islands run centre y r
     unfolding run_surround run_rounds_at run_rounds joined_by joined
-    run_settled made s = record {
+    run_rested made s = record {
       values = λ lane l.
           s.reached centre lane here l ∙ same lane l s.steps centre here
           ∙ surround_rested (joined_by sheet roads) n ball about (left_out chain_lattice run (left lane)) (right lane)
@@ -234,32 +215,40 @@ module _ {rows masked_rows start : List ℕ} {n : ℕ} {sheet : List ℕ} {roads
           (λ lane l. rounds_same (joined_by sheet roads) n _ _ _ _ (left_margin lane l) (right_margin lane l) ∙ rw made refl);
     }
 
--- ---- the centre is raised to what the run gives
-module _ {n : ℕ} {distances : List ℕ} {bounds : Bounds} {centre : ℕ} {rows masked_rows start settled after : List ℕ} {inside : List Bool} (m : CentreMasked n distances bounds centre n rows inside masked_rows)
-    (kept : KeptBut x_row masked_rows start) (s : Worked x_row inside start settled)
-    (w : Written (strip_of out_row centre) lanes (λ lane. chain_lattice.join (lane_of settled lane (strip_of out_row centre)) (lane_of settled lane (strip_of x_row centre))) settled after)
-    (long : length after ≡ length settled) where
-  -- the rows of the operands, and of what comes of them, till then
-  untouched : KeptBelow ring_row rows settled
-  untouched = kept_below_trans m.kept (kept_below_trans (but_below (omega arith) (omega arith) kept) (kept_below_lower s.kept (omega arith)))
+    -- what settling leaves is the run's surround, where the run is made by the table
+    pub run_settled : {y : Numbers} {r k : ℕ} {islands : Bool} → run ≤ n → k ≡ n → is_made (within distances n centre (ball_of bounds)) (reached_by distances n centre) n centre islands run ≡ true
+        → Settled sheet roads k ring x r y → RunGiven left right N bounds islands run centre y r
+    run_settled {y} {r} number all made s =
+        run_rested (sym (made_at distances ready here _ run number) ∙ made) (subst (λ (m : ℕ). Settled sheet roads m ring x r y) all s)
 
-  pub raised_worked : {run : ℕ} → LeftOut run (row_in masked_rows x_row) (row_in start x_row) → run ≤ n → centre < n → length inside ≡ n → Worked out_row inside rows after
-  raised_worked out number here all = record {
-    kept = kept_below_trans (kept_below_lower untouched (omega arith)) (kept_below_strip out_row out_row centre (omega arith) (omega arith) w long);
-    past = subst (λ (k : ℕ). KeptPast k rows after) (sym all)
-        (kept_past_trans (kept_past_trans m.past (left_out_past number out kept))
-        (kept_past_trans (subst (λ (k : ℕ). KeptPast k start settled) all s.past) (kept_past_strip n out_row centre (omega arith) here w)));
+-- ---- the centre is raised to what the run gives
+module _ {n : ℕ} {distances : List ℕ} {bounds : Bounds} {centre : ℕ} {rows masked_rows start settled after : List Place} {inside : List Bool} (m : CentreMasked n distances bounds centre n rows inside masked_rows)
+    (kept : KeptBut x_row masked_rows start) (s : Worked stepped_part inside start settled) (w : CentreRaised centre settled after) where
+  -- the operands, and what comes of them, till then
+  untouched : Kept operands rows settled
+  untouched = record { same = λ p. ap operands (s.kept.same p) ∙ ap operands (kept.same p) ∙ m.kept.same p; long = s.kept.long ∙ kept.long ∙ m.kept.long }
+
+  pub raised_worked : {run : ℕ} → KeptPast run masked_rows start → run ≤ n → centre < n → length inside ≡ n → Worked given inside rows after
+  raised_worked past number here all = record {
+    kept = record { same = λ p. ap given (w.kept.same p) ∙ ap given (untouched.same p); long = w.kept.long ∙ untouched.long };
+    past = record {
+      past = λ p h. w.elsewhere p (λ e. absurd (omega (arith, all))) ∙ s.past.past p h ∙ past.past p (omega (arith, all)) ∙ m.past.past p (omega (arith, all));
+    };
     low = record {
-      room = omega (arith, s.low.room);
-      low = λ row p lane c d h l e. strip_kept out_row centre w (omega arith) row p lane d l (λ same _. absurd (omega arith)) ∙ s.low.low row p lane c d h l e;
+      room = omega (arith, s.low.room, w.kept.long);
+      low = λ p h e. let low = s.low.low p h e in record {
+        ring_low = λ lane l. ap (λ (q : Place). get_or q.ring lane 0) (w.kept.same p) ∙ low.ring_low lane l;
+        x_low = λ lane l. ap (λ (q : Place). get_or q.x lane 0) (w.kept.same p) ∙ low.x_low lane l;
+        former_low = λ lane l. ap (λ (q : Place). get_or q.former lane 0) (w.kept.same p) ∙ low.former_low lane l;
+        both_low = λ lane l. ap (λ (q : Place). get_or q.both lane 0) (w.kept.same p) ∙ low.both_low lane l;
+      };
     };
   }
 
   pub raised_run : {left right : Numbers} {N : Network} {b : Bounds} {islands : Bool} {run r : ℕ} → RunGiven left right N b islands run centre (row_in settled x_row) r
       → CentreRun left right N b islands run centre (row_in rows out_row) (row_in after out_row) r
-  unfolding row_in
   raised_run g = record {
-    raised = λ lane l. strip_written out_row centre w lane l ∙ ap₂ chain_lattice.join (untouched.kept out_row centre lane (omega arith) l) (g.values lane l);
-    kept = λ p lane l other. strip_kept out_row centre w (omega arith) out_row p lane (omega arith) l (λ _ e. other e) ∙ untouched.kept out_row p lane (omega arith) l;
+    raised = λ lane l. w.raised lane l ∙ ap₂ chain_lattice.join (ap (λ (q : Place). get_or q.out lane 0) (untouched.same centre)) (g.values lane l);
+    kept = λ p lane l other. ap (λ (q : Place). get_or q.out lane 0) (w.elsewhere p other) ∙ ap (λ (q : Place). get_or q.out lane 0) (untouched.same p);
     rounds = g.rounds;
   }

@@ -4,38 +4,50 @@ use mathlib.Core.Path.{◌≡◌, subst, sym, ap, ap₂, ◌∙◌}
 use mathlib.Core.Bool.{Bool, cond}
 use mathlib.Core.List.{List}
 use Prim.Native.Nat.{ℕ, ◌<◌}
-use native.Mathlib.Omega.{arith}
 use Rattle.codes.specs.declared.operator.Bounds.{Bounds}
 use Rattle.network.specs.Network.{Network, within, reached}
 use Rattle.logic.specs.Margin.{margin_lattice}
 use Rattle.logic.specs.Counts.{run_rounds}
 use Rattle.counting.proofs.Totals.{most_same}
 use Rattle.values.specs.Chain.{chain_lattice, chain_margin, Valid}
+use lib.ListN.{get_or, length}
+use Rattle.lanes.specs.declared.Place.{Place}
 use Rattle.lanes.specs.Lanes.{lanes, left_row, right_row, out_row, Numbers, row_in}
-use Rattle.lanes.specs.Rows.{KeptBelow}
-use Rattle.iteration.specs.Steps.{ValidRow}
+use Rattle.lanes.specs.Rows.{Kept, KeptPast, RowWritten}
+use Rattle.lanes.proofs.RowLaws.{kept_trans, kept_past_trans}
+use Rattle.iteration.specs.WorkRows.{operands, Worked}
 use Rattle.surrounds.specs.Runs.{left_out, is_made, run_surround, run_rounds_at, CentreRun, RunDone, RunsDone}
-use Rattle.surrounds.specs.Blocks.{RowsReady}
-use Rattle.iteration.proofs.Outside.{row_same}
+use Rattle.surrounds.specs.Blocks.{given, RowsReady}
 
-module _ {before after : List ℕ} (k : KeptBelow out_row before after) where
+pub given_kept : {before after : List Place} → Kept operands before after → Kept given before after
+given_kept k = record { same = λ p. ap given (k.same p); long = k.long }
+
+pub written_kept : {n : ℕ} {f : Numbers} {before after : List Place} → RowWritten out_row n f before after → Kept given before after
+written_kept w = record { same = λ p. ap given (w.kept.same p); long = w.kept.long }
+
+-- the flags may be another ball's
+pub worked_next : {part : Place → Place} {inside inside' : List Bool} {before rows after : List Place} → length inside' ≡ length inside → Worked part inside before rows → Worked part inside' rows after
+    → Worked part inside' before after
+worked_next {before = before} {rows} e v w = record {
+  kept = kept_trans v.kept w.kept;
+  past = kept_past_trans (subst (λ (n : ℕ). KeptPast n before rows) (sym e) v.past) w.past;
+  low = w.low;
+}
+
+module _ {before after : List Place} (k : Kept given before after) where
   left_same : (lane : ℕ) → lane < lanes → row_in after left_row lane ≡ row_in before left_row lane
-  left_same = row_same k left_row (omega arith)
+  left_same lane l = λ i p. get_or (k.same p i).left lane 0
 
   right_same : (lane : ℕ) → lane < lanes → row_in after right_row lane ≡ row_in before right_row lane
-  right_same = row_same k right_row (omega arith)
-
-  valid_same : (row n : ℕ) → row < out_row → ValidRow (row_in before row) n → ValidRow (row_in after row) n
-  valid_same row n b v = record { valid = λ p lane c l. subst Valid (sym (k.kept row p lane b l)) (v.valid p lane c l) }
+  right_same lane l = λ i p. get_or (k.same p i).right lane 0
 
   pub ready_kept : {n : ℕ} {sheet : List ℕ} {roads : ℕ} {distances : List ℕ} {b : Bounds} → RowsReady (row_in before left_row) (row_in before right_row) n sheet roads distances b
       → RowsReady (row_in after left_row) (row_in after right_row) n sheet roads distances b
   ready_kept {n} ready = record {
     few_places = ready.few_places;
-    left_valid = valid_same left_row n (omega arith) ready.left_valid;
-    right_valid = valid_same right_row n (omega arith) ready.right_valid;
+    left_valid = record { valid = λ p lane c l. subst Valid (sym (ap (λ (f : ℕ → ℕ). f p) (left_same lane l))) (ready.left_valid.valid p lane c l) };
+    right_valid = record { valid = λ p lane c l. subst Valid (sym (ap (λ (f : ℕ → ℕ). f p) (right_same lane l))) (ready.right_valid.valid p lane c l) };
     roads_in = ready.roads_in;
-    distances_there = ready.distances_there;
     measured = ready.measured;
     small = ready.small;
   }

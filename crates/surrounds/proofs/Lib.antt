@@ -5,3 +5,4 @@ pub mod RunRows
 pub mod KeptRows
 pub mod Centres
 pub mod BlockLaws
+pub mod RunCentres

@@ -1,6 +1,6 @@
 -- Run after run, centre after centre: the row is raised to what each gives, and in the end has the surrounds of all centres, with their greatest rounds.
 use mathlib.Core.Path.{◌≡◌, refl, sym, ap, ap₂, ◌∙◌}
-use mathlib.Core.Bool.{Bool, false}
+use mathlib.Core.Bool.{Bool, true, false}
 use Prim.Native.Nat.{ℕ, ◌+◌, ◌≤◌, max, zero-le}
 use native.Mathlib.Numerals.{add-one}
 use native.Mathlib.Omega.{arith}
@@ -16,6 +16,11 @@ use Rattle.lanes.specs.Rows.{RowOf}
 use Rattle.iteration.specs.Steps.{ValidRow}
 use Rattle.surrounds.specs.Runs.{runs_of, is_made, lane_surround, lane_rounds, run_surround, run_rounds_at, CentreRun, RunDone, RunsDone, CentresDone}
 use Rattle.surrounds.proofs.RunLaws.{surround_runs, rounds_runs}
+
+-- no run is above that of the last place
+pub few_runs : (islands : Bool) (n : ℕ) → runs_of islands n ≤ n + 1
+few_runs true n = omega arith
+few_runs false n = omega arith
 
 module _ {left right : Numbers} {N : Network} {b : Bounds} {islands : Bool} where
   -- ---- centre after centre

@@ -3,18 +3,16 @@
 // beyond the ball are all run 0, for what they leave out is masked already.
 ghost use Rattle.std.specs.Prelude.{◌≡◌, not, ◌&&◌, ◌≤◌, ◌<◌, ◌^◌};
 ghost use Rattle.lanes.specs.Lanes.{row_in};
-ghost use Rattle.lanes.specs.Rows.{Room, TableThere, within};
+ghost use Rattle.lanes.specs.Rows.{Room, KeptPast, within_in};
 ghost use Rattle.iteration.specs.WorkRows.{x_row, KeptBut};
 ghost use Rattle.surrounds.specs.Runs.{runs_of, LeftOut};
-ghost use Rattle.surrounds.specs.Blocks.{reached_by};
-ghost use Rattle.surrounds.specs.Lent.{beyond_in, is_made_in};
+ghost use Rattle.surrounds.specs.Lent.{reached_in, beyond_in, is_made_in};
 
 use codes::operator::Bounds;
 use distances::NONE;
-use iteration::iteration::X;
-use lanes::ROWS;
+use distances::table::Distances;
 use lanes::rows::in_range;
-use lanes::strips::fill_strip;
+use lanes::{LANES, Place};
 
 // A run about every centre that has it.
 #[derive(Clone, Copy)]
@@ -33,23 +31,24 @@ pub(crate) fn run_count(islands: bool, places: usize) -> usize
 }
 
 // Whether a place has a distance from the centre, but lies beyond the ball.
-#[tactic(auto, using(lanes::proofs::RowLaws::distance_there))]
-fn lies_beyond(distances: &[u8], places: usize, centre: usize, place: usize, ball: Bounds) -> bool
-    requires { (centre < places) × (place < places) × TableThere distances.now places }
-    ensures { result ≡ (reached_by distances.now places centre place && not (within distances.now places centre ball place)) }
+fn lies_beyond(distances: Distances, centre: usize, place: usize, ball: Bounds) -> bool
+    requires { (centre < distances.places) × (place < distances.places) }
+    ensures { result ≡ (reached_in distances.entry centre place && not (within_in distances.entry centre ball place)) }
 {
-    if words::number_at(distances, centre * places + place) == NONE {
+    if distances.between(centre, place) == NONE {
         return false;
     }
-    !in_range(distances, places, centre, place, ball)
+    !in_range(distances, centre, place, ball)
 }
 
-fn reaches_beyond(distances: &[u8], places: usize, centre: usize, ball: Bounds) -> bool
-    requires { (centre < places) × TableThere distances.now places }
-    ensures { result ≡ beyond_in distances.now places centre ball }
+// A loop: of an `any` that finds none, a proof did not learn what the closure told of each place.
+#[tactic(auto, using(crate::proofs::RunLaws::beyond_none, crate::proofs::RunLaws::beyond_more))]
+fn reaches_beyond(distances: Distances, centre: usize, ball: Bounds) -> bool
+    requires { centre < distances.places }
+    ensures { result ≡ beyond_in distances.entry centre ball }
 {
-    for place in 0..places {
-        if lies_beyond(distances, places, centre, place, ball) {
+    for place in 0..distances.places {
+        if lies_beyond(distances, centre, place, ball) {
             return true;
         }
     }
@@ -58,29 +57,30 @@ fn reaches_beyond(distances: &[u8], places: usize, centre: usize, ball: Bounds) 
 
 // Whether a run is made about a centre.
 #[tactic(auto, using(crate::proofs::RunLaws::islands_made, crate::proofs::RunLaws::beyond_made, crate::proofs::RunLaws::ball_made, crate::proofs::RunLaws::centre_not_made))]
-pub(crate) fn is_made(distances: &[u8], places: usize, centre: usize, run: Run) -> bool
-    requires { (centre < places) × (run.number ≤ places) × TableThere distances.now places }
-    ensures { result ≡ is_made_in distances.now places centre run }
+pub(crate) fn is_made(distances: Distances, centre: usize, run: Run) -> bool
+    requires { (centre < distances.places) × (run.number ≤ distances.places) }
+    ensures { result ≡ is_made_in distances.entry centre run }
 {
     let ball = Bounds {
         lower: 0,
         upper: run.bounds.upper,
     };
     if run.number == 0 {
-        return run.islands || reaches_beyond(distances, places, centre, ball);
+        return run.islands || reaches_beyond(distances, centre, ball);
     }
     let place = run.number - 1;
-    place != centre && in_range(distances, places, centre, place, ball)
+    place != centre && in_range(distances, centre, place, ball)
 }
 
 // The place that a run leaves out becomes lowest.
-#[tactic(auto, using(crate::proofs::Centres::left_out_nothing, crate::proofs::Centres::left_out_number, iteration::proofs::Outside::nothing_written))]
-pub(crate) fn leave_out(rows: &mut [u32], run: Run)
+#[tactic(auto, using(crate::proofs::Centres::left_out_nothing, crate::proofs::Centres::left_out_number))]
+pub(crate) fn leave_out(rows: &mut [Place], run: Run)
     requires { Room run.number rows.old }
     ensures out { LeftOut run.number (row_in rows.old x_row) (row_in rows.new x_row) }
     ensures kept { KeptBut x_row rows.old rows.new }
+    ensures past { KeptPast run.number rows.old rows.new }
 {
     if run.number > 0 {
-        fill_strip(rows, (run.number - 1) * ROWS + X, values::bottom());
+        rows[run.number - 1].x = [values::bottom(); LANES];
     }
 }

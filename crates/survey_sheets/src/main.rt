@@ -11,41 +11,46 @@
 // A read or a write that fails ends it: with an error on standard error, and status 1.
 #![tactic(auto)]
 
-ghost use Rattle.std.specs.Prelude.{◌≡◌, ◌+◌, ◌*◌, ◌≤◌, ◌↔◌, length, IsTrue, slice_index, EachIndex};
-ghost use Rattle.words.specs.Bytes.{words_of, numbers_of};
+ghost use Rattle.std.specs.Prelude.{◌≡◌, ◌+◌, ◌≤◌, ◌↔◌, IsTrue, slice_index, EachIndex};
+ghost use Rattle.distances.specs.Distances.{room_in, HasRoom};
 
-use checks::fault::Fault;
 use distances::NONE;
-use sheet::check::{Check, Layout};
-use std::io;
+use sheet::check::Layout;
+use std::{fmt, io};
 
 // What is read at most.
 const READ_BYTES: usize = 65536;
 
-fn print_distance(rt: &impl Print, distance: u64) -> io::Result<()> {
-    if distance == NONE {
-        print!(rt; "none")
-    } else {
-        print!(rt; "{distance}")
+// A number of the table, printed as a distance.
+#[derive(Clone, Copy)]
+struct Distance(u64);
+
+impl fmt::Display for Distance {
+    fn fmt<W: fmt::Write>(&self, f: &mut fmt::Formatter<W>) -> fmt::Result {
+        if self.0 == NONE {
+            write!(f, "none")
+        } else {
+            write!(f, "{}", self.0)
+        }
     }
 }
 
 // So many distances of the table, from the one at `first` on.
 #[tactic(auto, using(words::proofs::Numbers::length_numbers))]
 fn print_row(rt: &impl Print, table: &[u8], first: usize, count: usize) -> io::Result<()>
-    requires { first + count ≤ length (numbers_of (words_of table.now)) }
+    requires { first + count ≤ room_in table.now }
 {
     for i in 0..count {
         if 0 < i {
             print!(rt; " ")?;
         }
-        print_distance(rt, words::number_at(table, first + i))?;
+        print!(rt; "{}", Distance(words::number_at(table, first + i)))?;
     }
     println!(rt)
 }
 
 fn print_rows(rt: &impl Print, table: &[u8], places: usize) -> io::Result<()>
-    requires { places * places ≤ length (numbers_of (words_of table.now)) }
+    requires { HasRoom places table.now }
 {
     for place in 0..places {
         print_row(rt, table, place * places, places)?;
@@ -60,10 +65,6 @@ fn print_accepted(rt: &impl Print, layout: Layout) -> io::Result<()> {
     )
 }
 
-fn print_refused(rt: &impl Print, fault: Fault, place: usize) -> io::Result<()> {
-    println!(rt; "refused {} {place}", checks::fault::number(fault))
-}
-
 // A refusal must leave nothing behind. That it doesn't is proved of the survey; here it is seen in a run.
 fn is_zero(table: &[u8]) -> bool
     ensures { IsTrue result ↔ EachIndex table.now (λ k. slice_index table.now k ≡ 0) }
@@ -72,14 +73,15 @@ fn is_zero(table: &[u8]) -> bool
 }
 
 // The table need not be clean: the survey writes all of it.
+#[tactic(auto, using(sheet::proofs::Surveys::lent_roads, words::proofs::Numbers::same_count))]
 fn survey_one(rt: &impl Print, sheet_bytes: &[u8], table: &mut [u8]) -> io::Result<()> {
     match sheet::survey::survey(sheet_bytes, table) {
-        Check::Accepted(layout) => {
+        Ok(layout) => {
             print_accepted(rt, layout)?;
             print_rows(rt, table, layout.places)
         }
-        Check::Refused(fault, place) => {
-            print_refused(rt, fault, place)?;
+        Err(refusal) => {
+            println!(rt; "refused {} {}", refusal.fault.number(), refusal.place)?;
             if !is_zero(table) {
                 println!(rt; "table not zero")?;
             }
@@ -98,19 +100,19 @@ fn size_with_count(rest: &[u8]) -> usize
     4 + words::word_at(rest, 0) as usize * 4
 }
 
-// Each sheet is lent a table of 4,096 distances in which every byte is set: its zeros are then the survey's.
+// Each sheet is lent a table of 4,096 distances in which every byte is set: its zeros are then the survey's. Each count tells where the next sheet
+// begins, so there is no number of turns to go through.
 fn survey_all(rt: &impl Print, input: &[u8]) -> io::Result<()> {
-    let mut at = 0;
-    while at < input.len() {
-        let size = size_with_count(&input[at..]);
-        if input.len() - at < size {
+    let mut rest = input;
+    while !rest.is_empty() {
+        let size = size_with_count(rest);
+        if rest.len() < size {
             return println!(rt; "cut off");
         }
-        let start = at + 4;
-        let end = at + size;
-        let mut table = [255u8; 32768];
-        survey_one(rt, &input[start..end], &mut table)?;
-        at = end;
+        let (with_count, behind) = rest.split_at(size);
+        let mut table = [u8::MAX; 32768];
+        survey_one(rt, &with_count[4..], &mut table)?;
+        rest = behind;
     }
     Ok(())
 }

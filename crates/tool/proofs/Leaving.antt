@@ -1,17 +1,18 @@
--- What a tool has left once its code has refused, or has ended with the words that it made: what is promised of it, by the bytes as they were lent.
+-- What a tool makes that refuses, or that has written the words that it was to make: what is promised of it, by the words as they were lent.
 use mathlib.Core.Path.{◌≡◌, sym, ap, ap₂, ◌∙◌}
 use mathlib.Core.List.{List}
 use Prim.Native.Nat.{ℕ, ◌*◌, ◌<◌, ◌≤◌}
 use native.Mathlib.Omega.{arith}
 use lib.ListN.{length, take, replicate, length-drop}
 use borrow.Author.Tests.{le-leb, lt-leb}
+use Rattle.std.specs.Prelude.{Ok, Err}
 use Rattle.words.specs.Bytes.{words_of, after_words}
 use Rattle.words.specs.Rows.{padded}
 use Rattle.words.proofs.Words.{words_count}
-use Rattle.words.proofs.Zeros.{zero_words, zero_words_tail}
+use Rattle.checks.specs.declared.fault.Refusal.{Refusal}
+use Rattle.checks.specs.Faults.{fault_number}
 use Rattle.checks.specs.Checked.{accepted}
-use Rattle.tool.specs.declared.Told.{Told}
-use Rattle.tool.specs.Tool.{Left, refusal, whole, left}
+use Rattle.tool.specs.Tool.{Left, refusal, whole, left, told_by, Makes}
 
 -- there is room for what was made, or there is not
 module _ (words : List ℕ) (first room : ℕ) where
@@ -23,37 +24,27 @@ module _ (words : List ℕ) (first room : ℕ) where
   unfolding left
   no_room_for h = simp (lt-leb (length words) room h)
 
-abbrev pub told : (number place words : ℕ) → Told
-told number place words = record { number = number; place = place; words = words }
-
 -- as many bytes hold as many words
 pub same_words : (before output : List ℕ) → length before ≡ length output → length (words_of before) ≡ length (words_of output)
 same_words before output kept = omega (arith, words_count before, words_count output)
 
-module _ (output : List ℕ) where
-  -- what is told, the words that are left, and zeros past the last whole word
-  abbrev pub Leaves : (after : List ℕ) → Told → Left → Type 0
-  Leaves after r l = (r ≡ l.told) × ((words_of after ≡ l.output) × (after_words after ≡ replicate (length (after_words output)) 0))
+pub same_tail : (before output : List ℕ) → length before ≡ length output → length (after_words before) ≡ length (after_words output)
+same_tail before output kept =
+    omega (arith, same_words before output kept, length-drop (length (words_of before) * 4) before, length-drop (length (words_of output) * 4) output)
 
-  pub refused_leaves : {after : List ℕ} {r : Told} {number place m : ℕ} {l : Left} → m ≡ length output
-      → r ≡ told number place 0 → after ≡ replicate m 0
-      → l ≡ refusal (length (words_of output)) number place → Leaves after r l
-  refused_leaves {m} kept says zeros left = (
-    says ∙ ap (λ (l : Left). l.told) (sym left),
-    (
-      ap words_of (zeros ∙ ap (λ n. replicate n 0) kept) ∙ zero_words output ∙ ap (λ (l : Left). l.output) (sym left),
-      zero_words_tail output _ m kept zeros,
-    ),
-  )
+-- a refusal, whatever stands in the output
+pub refusal_made : (l : Left) (r : Refusal) (room : ℕ) (output : List ℕ) → length output ≡ room → l ≡ refusal room (fault_number r.fault) r.place → Makes l (Err r) output
+refusal_made l r room output long left = record {
+  told = ap (λ (l : Left). l.told) (sym left);
+  room = tt;
+  words = ap (λ n. replicate n 0) long ∙ ap (λ (l : Left). l.output) (sym left);
+}
 
-  -- before the end the words that were made stood at the front
-  pub finished_leaves : (before made after : List ℕ) {r : Told} {count : ℕ} {l : Left} → length before ≡ length output
-      → count ≡ length made → take count (words_of before) ≡ made → r ≡ told 0 0 count
-      → words_of after ≡ padded (take count (words_of before)) (length (words_of before)) → after_words after ≡ replicate (length (after_words before)) 0
-      → l ≡ whole (length (words_of output)) made → Leaves after r l
-  finished_leaves before made after kept long front says words zeros left =
-      let same = same_words before output kept in
-      let rest : length (after_words before) ≡ length (after_words output) = omega (arith, length-drop (length (words_of before) * 4) before, length-drop (length (words_of output) * 4) output) in (
-        says ∙ ap (told 0 0) long ∙ ap (λ (l : Left). l.told) (sym left),
-        (words ∙ ap₂ padded front same ∙ ap (λ (l : Left). l.output) (sym left), zeros ∙ ap (λ n. replicate n 0) rest),
-      )
+-- the words that were to be made stand at the front
+pub words_made : (l : Left) (made : List ℕ) (count room : ℕ) (output : List ℕ) → length output ≡ room → count ≡ length made → count ≤ room → take count output ≡ made
+    → l ≡ whole room made → Makes l (Ok count) output
+words_made l made count room output long counted inside front left = record {
+  told = ap (λ words. told_by (Ok words)) counted ∙ ap (λ (l : Left). l.told) (sym left);
+  room = omega arith;
+  words = ap₂ padded front long ∙ ap (λ (l : Left). l.output) (sym left);
+}

@@ -10,8 +10,7 @@ use Rattle.words.specs.Bytes.{words_of, bytes_of}
 use Rattle.words.proofs.Below.{Below}
 use Rattle.words.proofs.RoundTrips.{words_bytes}
 use Rattle.checks.proofs.Tests.{and_true}
-use Rattle.tool.specs.declared.Told.{Told}
-use Rattle.tool.specs.Tool.{Left}
+use Rattle.tool.specs.Tool.{Told, Left}
 use Rattle.tools.specs.Tools.{multiple, tool_result_size, told_bytes, tool_whole, left_in_bytes, tool_not_whole, host_tool}
 
 pub tool_lengths : (inputs : Bool) (output result : ℕ) → tool_whole inputs output result ≡ true → (inputs ≡ true) × (output % 4 ≡ 0) × (result ≡ tool_result_size)
@@ -32,10 +31,10 @@ module _ (inputs : Bool) (left : Left) (output result : List ℕ) where
     tool_whole_lem = rw whole refl
 
     -- a tool that has told, and left as words, what it is to leave, and put what it told in the result
-    pub tool_left : (told : Told) (made held : List ℕ) → told ≡ left.told → words_of made ≡ left.output → Below (2 ^ 8) made → length made ≡ length output
+    pub tool_left : {number : ℕ} (told : Told) (made held : List ℕ) → number ≡ told.number → told ≡ left.told → words_of made ≡ left.output → Below (2 ^ 8) made → length made ≡ length output
         → held ≡ told_bytes told →
         let host = host_tool inputs left output result in
-        (told.number ≡ host.number) × ((made ≡ host.output) × (held ≡ host.result))
-    tool_left told made held same words below long put =
+        (number ≡ host.number) × ((made ≡ host.output) × (held ≡ host.result))
+    tool_left told made held first same words below long put =
         let bytes = words_bytes made (length made / 4) below (omega (arith, (tool_lengths _ _ _ whole).1, long)) in
-        rw tool_whole_lem (ap (λ (t : Told). t.number) same, (sym bytes ∙ ap bytes_of words, put ∙ ap told_bytes same))
+        rw tool_whole_lem (first ∙ ap (λ (t : Told). t.number) same, (sym bytes ∙ ap bytes_of words, put ∙ ap told_bytes same))

@@ -11,8 +11,7 @@ use Rattle.words.specs.Bytes.{words_of, numbers_of}
 use Rattle.words.proofs.Below.{Below, below_padded}
 use Rattle.words.proofs.RoundTrips.{bytes_words, bytes_numbers}
 use Rattle.checks.specs.Checked.{Checked, accepted, refused}
-use Rattle.tool.specs.declared.Told.{Told}
-use Rattle.tool.specs.Tool.{told_numbers, Left, whole, left}
+use Rattle.tool.specs.Tool.{Told, told_numbers, Left, whole, left}
 use Rattle.tool.proofs.Whole.{Whole, whole_told}
 use Rattle.tools.specs.Tools.{tool_whole, HostTool, left_in_bytes, host_tool}
 use Rattle.tools.proofs.LentTools.{tool_whole_lem, tool_refused}

@@ -1,8 +1,7 @@
 -- What every tool leaves a host written in C (M-105, and so M-107, M-109, M-111 and M-113), in bytes, by what it leaves in words.
 use Rattle.std.specs.Prelude.{ℕ, ◌%◌, Bool, cond, ◌&&◌, List, eqb, length, replicate}
 use Rattle.words.specs.Bytes.{bytes_of, halves_of}
-use Rattle.tool.specs.declared.Told.{Told}
-use Rattle.tool.specs.Tool.{told_numbers, Left}
+use Rattle.tool.specs.Tool.{Told, told_numbers, Left}
 use Rattle.conversion.specs.Lent.{converted_in}
 use Rattle.correcting.specs.Lent.{corrected_in}
 

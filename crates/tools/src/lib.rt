@@ -1,44 +1,42 @@
 // The tools over bytes, for hosts, and what they have in common: the test of the lengths, the refusal of bytes, and the numbers that are told.
 #![tactic(auto)]
 
-ghost use Rattle.std.specs.Prelude.{◌≡◌, ◌&&◌, length};
+ghost use Rattle.std.specs.Prelude.{◌≡◌, ◌&&◌, Result, length};
+ghost use Rattle.tool.specs.Tool.{told_by};
 ghost use Rattle.tools.specs.Tools.{multiple, tool_result_size, told_bytes, tool_whole, tool_not_whole, host_converted, host_corrected};
 
-use tool::Told;
-
-// Told of bytes, before all else: their lengths are not whole, or the program's input is too long.
-pub const BYTES_REFUSED: u64 = 16;
+use checks::fault::{Fault, Refusal};
 
 // Three numbers of eight bytes.
 const TOLD_BYTES: usize = 24;
 
-// Whether a length has whole words, and others, of which it is told, had them.
-fn also_whole(others: bool, length: usize) -> bool
-    ensures { result ≡ (others && multiple 4 length) }
+// Whether a length has whole words.
+fn whole_words(length: usize) -> bool
+    ensures { result ≡ multiple 4 length }
 {
-    if !others {
-        return false;
-    }
     length % 4 == 0
 }
 
-// Whether the lengths have whole words and a result; of the inputs it is told.
+// Whether the lengths have whole words and a result; of the inputs it is told, as some tools have one and some two.
 #[tactic(auto, unfolding(crate::specs::Tools::tool_whole))]
 fn tool_whole(inputs: bool, output: usize, res: usize) -> bool
     ensures { result ≡ tool_whole inputs output res }
 {
-    if !also_whole(inputs, output) {
-        return false;
-    }
-    res == TOLD_BYTES
+    inputs && whole_words(output) && res == TOLD_BYTES
 }
 
-fn put_told(res: &mut [u8], told: Told)
+// The numbers of what a tool answers, and the first of them: here, and in `put_result` of host, 0 stands for no refusal.
+fn put_told(res: &mut [u8], made: Result<usize, Refusal>) -> u64
     requires { length res.old ≡ tool_result_size }
-    ensures { res.new ≡ told_bytes told }
+    ensures number { result ≡ (told_by made).number }
+    ensures held { res.new ≡ told_bytes (told_by made) }
 {
-    let numbers = [told.number, told.place, told.words];
+    let numbers = match made {
+        Ok(words) => [0, 0, words as u64],
+        Err(refusal) => [refusal.fault.number(), refusal.place as u64, 0],
+    };
     words::put_numbers(res, &numbers);
+    numbers[0]
 }
 
 // Refuses lengths that are not whole: zeros in all that is lent, but for the number in a result of the right size.
@@ -47,13 +45,12 @@ fn refuse_tool(output: &mut [u8], res: &mut [u8]) -> u64
     ensures said { output.new ≡ (tool_not_whole output.old res.old).output }
     ensures held { res.new ≡ (tool_not_whole output.old res.old).result }
 {
-    let told = tool::refuse(output, BYTES_REFUSED, 0);
+    words::fill_zero(output);
     words::fill_zero(res);
-    if res.len() != TOLD_BYTES {
-        return BYTES_REFUSED;
+    if res.len() == TOLD_BYTES {
+        return put_told(res, Err(Fault::BytesRefused.at(0)));
     }
-    put_told(res, told);
-    BYTES_REFUSED
+    Fault::BytesRefused.number()
 }
 
 // Converts a sheet to the layout that is asked for and returns the number of its refusal, 0 for none. Lengths that are not whole are 16, before
@@ -64,26 +61,22 @@ pub fn convert_sheet(sheet: &[u8], to: bool, output: &mut [u8], res: &mut [u8]) 
     ensures said { output.new ≡ (host_converted to sheet.now output.old res.old).output }
     ensures held { res.new ≡ (host_converted to sheet.now output.old res.old).result }
 {
-    if !tool_whole(sheet.len() % 4 == 0, output.len(), res.len()) {
+    if !tool_whole(whole_words(sheet.len()), output.len(), res.len()) {
         return refuse_tool(output, res);
     }
-    let told = conversion::convert(sheet, to, output);
-    put_told(res, told);
-    told.number
+    put_told(res, conversion::convert(sheet, to, output))
 }
 
-// Corrects a sheet by a list of corrections, in the same way.
+// Corrects a sheet by a list of corrections, in the same way: a function for both would take the tool as a closure, and be no shorter.
 #[tactic(auto, using(crate::proofs::LentTools::tool_lengths, crate::proofs::LentTools::tool_refused))]
 pub fn correct_sheet(sheet: &[u8], list: &[u8], output: &mut [u8], res: &mut [u8]) -> u64
     ensures told { result ≡ (host_corrected sheet.now list.now output.old res.old).number }
     ensures said { output.new ≡ (host_corrected sheet.now list.now output.old res.old).output }
     ensures held { res.new ≡ (host_corrected sheet.now list.now output.old res.old).result }
 {
-    let inputs = also_whole(sheet.len() % 4 == 0, list.len());
+    let inputs = whole_words(sheet.len()) && whole_words(list.len());
     if !tool_whole(inputs, output.len(), res.len()) {
         return refuse_tool(output, res);
     }
-    let told = correcting::correct(sheet, list, output);
-    put_told(res, told);
-    told.number
+    put_told(res, correcting::correct(sheet, list, output))
 }

@@ -1,3 +1,4 @@
 pub mod Said
 pub mod Chain
+pub mod Kinds
 pub mod Signals

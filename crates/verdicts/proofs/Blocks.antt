@@ -2,22 +2,25 @@
 use mathlib.Core.Path.{◌≡◌, refl, sym, ap, ap₂, ◌∙◌}
 use mathlib.Core.Bool.{Bool, true, false}
 use mathlib.Core.List.{List, ◌++◌, append_assoc, append-nil}
-use Prim.Native.Nat.{ℕ, zero, suc, ◌+◌, ◌*◌, ◌≤◌, max}
-use native.Mathlib.Nat.{add-zero, add-suc, mul-le-mul_right}
+use Prim.Native.Nat.{ℕ, zero, suc, ◌+◌, ◌*◌, ◌-◌, ◌/◌, ◌%◌, ◌<◌, ◌≤◌, min, max}
+use native.Mathlib.Nat.{add-zero, add-suc, mul-le-mul, mul-le-mul_right}
 use native.Mathlib.Omega.{arith}
-use lib.ListN.{length, get_or}
-use Rattle.words.specs.Rows.{concat, rows, put}
+use lib.ListN.{length, get_or, take}
+use Rattle.words.specs.Bytes.{words_of, after_words}
+use Rattle.words.specs.Rows.{concat, row, rows, put}
 use Rattle.words.proofs.Puts.{put_nil, put-append}
 use Rattle.words.proofs.Rows.{length-rows, rows_ext}
 use Rattle.counting.specs.Totals.{count, sum_below, most_below}
 use Rattle.counting.proofs.Totals.{sum_parts, sum_same, table_yes_bound, most_parts, most_swap, most_none}
 use Rattle.sheet.specs.declared.check.Layout.{Layout}
-use Rattle.checks.specs.Limits.{most_places}
+use Rattle.checks.specs.Limits.{most_places, most_samples}
 use Rattle.values.specs.Chain.{highest, chain_word, chain_verdict}
 use Rattle.values.specs.Signals.{signal_in}
 use Rattle.values.proofs.ChainWords.{signal_bound}
+use Rattle.operators.specs.Rows.{Filled}
 use Rattle.operators.proofs.Bounds.{greatest_bound}
-use Rattle.lanes.specs.Lanes.{lanes, row_count, out_row, row_in}
+use Rattle.lanes.specs.declared.Place.{Place}
+use Rattle.lanes.specs.Lanes.{lanes}
 use Rattle.lanes.specs.Rows.{Room}
 use Rattle.lanes.specs.declared.rows.Block.{Block}
 use Rattle.surrounds.specs.Surround.{surround_rounds_in, block_rounds}
@@ -29,10 +32,10 @@ use Rattle.samples.specs.declared.tally.Tally.{Tally}
 use Rattle.samples.specs.Tally.{together}
 use Rattle.locating.specs.declared.Around.{Around}
 use Rattle.locating.specs.declared.Around.TheVariants.{Surround, Range}
-use Rattle.samples.specs.Sample.{entry}
 use Rattle.samples.specs.Written.{SamplesWritten}
+use Rattle.samples.proofs.LineRows.{RowsDone, one_more}
 use Rattle.verdicts.specs.Around.{sheet_network, LanesBounded, LanesWritten, AroundReads, AroundReady, BlockFits, around_value, around_rounds, BlockFilled}
-use Rattle.verdicts.proofs.Points.{surround_bound}
+use Rattle.verdicts.proofs.Points.{surround_bound, row_words, row_yes}
 
 -- ---- a + b samples
 
@@ -65,12 +68,19 @@ pub few_yes : {value rounds_at : ℕ → ℕ → ℕ} {n : ℕ} {answer : List �
     → SamplesWritten value rounds_at n answer begin samples after tally → tally.yes ≤ samples * n
 few_yes {value} w = rw w.counted (table_yes_bound (λ t l. chain_verdict (value t l)) _ _)
 
--- ---- a block
+-- ---- lane after lane
 
--- the numbers of a lane are every so many-th of the buffer
-pub lane_entry : (buffer : List ℕ) (lane l : ℕ) → entry buffer (row_count * lanes) (out_row * lanes + lane) l ≡ row_in buffer out_row lane l
-unfolding row_in
-lane_entry buffer lane l = ap (λ (i : ℕ). get_or buffer i 0) (omega arith)
+-- the numbers of one lane more are written
+module _ {value : ℕ → ℕ → ℕ} {n : ℕ} {line : List ℕ} {begin t : ℕ} {after : List ℕ} {to many : ℕ} (done : RowsDone value n line begin t after to many) {values : List ℕ} (filled : Filled n (value t) values)
+    (room : n ≤ length values) where
+  pub one_lane : {later : List ℕ} {more : ℕ} → begin ≤ length (words_of line) → length later ≡ length after
+      → words_of later ≡ put (words_of after) to (row (λ l. chain_word (get_or (take n values) l 0)) (length (take n values)))
+      → more ≡ sum_below (λ l. count (chain_verdict (get_or (take n values) l 0))) (length (take n values))
+      → after_words later ≡ after_words after → RowsDone value n line begin (t + 1) later (to + n) (many + more)
+  one_lane begins kept put_one counts tail =
+      one_more _ _ _ _ done refl begins kept (put_one ∙ ap (put (words_of after) to) (row_words filled room)) (counts ∙ row_yes filled room) tail
+
+-- ---- a block
 
 reads_fewer : (words : List ℕ) (L : Layout) (sheet distances : List ℕ) (around : Around) (samples k : ℕ) → AroundReads words L sheet distances around samples → k ≤ samples
     → AroundReads words L sheet distances around k
@@ -113,7 +123,6 @@ module _ {words : List ℕ} {L : Layout} {sheet distances : List ℕ} where
     left_there = fits.ready.reads.left_there;
     right_there = fits.ready.reads.right_there;
     roads_in = fits.ready.reads.roads_in;
-    distances_there = fits.ready.distances_there;
     measured = fits.ready.reads.measured;
     small = fits.ready.reads.small;
     left_valid = λ t l _. fits.ready.reads.left_valid t l;
@@ -122,9 +131,9 @@ module _ {words : List ℕ} {L : Layout} {sheet distances : List ℕ} where
 
   pub range_ready : {a : Within.Range} {b : Block} → BlockFits words L sheet distances (Range a) b
       → RangeReady words a.left L.places distances b.first b.count
-  range_ready fits = record { few_places = fits.ready.few_places.1; few = fits.few; there = fits.ready.reads; distances_there = fits.ready.distances_there }
+  range_ready fits = record { few_places = fits.ready.few_places.1; few = fits.few; there = fits.ready.reads }
 
-  pub surround_filled : {a : Asked.Surround} (b : Block) {before after : List ℕ} {r : ℕ}
+  pub surround_filled : {a : Asked.Surround} (b : Block) {before after : List Place} {r : ℕ}
       → BlockDone words a L.places sheet L.roads b.first b.count before after r
       → BlockFilled words L sheet distances (Surround a) b after r
   unfolding block_rounds
@@ -133,12 +142,12 @@ module _ {words : List ℕ} {L : Layout} {sheet distances : List ℕ} where
     rounds = done.rounds ∙ most_swap (λ centre lane. surround_rounds_in words a (sheet_network sheet L) (b.first + lane) centre) L.places b.count;
   }
 
-  pub somewhere_filled : {a : Within.Range} (b : Block) {before after : List ℕ}
+  pub somewhere_filled : {a : Within.Range} (b : Block) {before after : List Place}
       → RangeDone words a.left L.places distances b.first b.count a.bounds.lower a.bounds.upper a.dual before after
       → BlockFilled words L sheet distances (Range a) b after 0
   somewhere_filled b done = record { values = done.values; rounds = most_none b.count L.places }
 
-  module _ {around : Around} {b : Block} {buffer : List ℕ} {r : ℕ} (done : BlockFilled words L sheet distances around b buffer r) where
+  module _ {around : Around} {b : Block} {buffer : List Place} {r : ℕ} (done : BlockFilled words L sheet distances around b buffer r) where
     pub lanes_bounded : L.places ≤ most_places → b.count ≤ lanes → Room L.places buffer → LanesBounded buffer L.places b.count
     lanes_bounded places few room = record {
       few_places = places;
@@ -156,3 +165,39 @@ module _ {words : List ℕ} {L : Layout} {sheet distances : List ℕ} where
       counted = w.counted ∙ sum_same _ _ b.count (λ lane c. sum_same _ _ L.places (λ l d. ap (λ v. count (chain_verdict v)) (done.values l lane d c)));
       greatest = done.rounds;
     }
+
+-- ---- block after block
+
+-- so many blocks cover the samples, and here one of them begins and ends
+pub block_inside : {k blocks samples size : ℕ} → blocks ≡ samples / lanes + min 1 (samples % lanes) → k < blocks → size ≡ min lanes (samples - k * lanes)
+    → (1 ≤ size) × (size ≤ lanes) × (k * lanes + size ≤ samples) × (min (k * lanes) samples ≡ k * lanes) × (min ((k + 1) * lanes) samples ≡ k * lanes + size)
+block_inside all h size = (omega arith, omega arith, omega arith, omega arith, omega arith)
+
+-- the first samples of a line are written
+module _ (value rounds_at : ℕ → ℕ → ℕ) (n : ℕ) (line : List ℕ) where
+  pub record SoFar (samples : ℕ) (after : List ℕ) (tally : Tally) : Type 0 where
+    pub long : length after ≡ length line
+    pub written : SamplesWritten value rounds_at n (words_of line) 0 samples (words_of after) tally
+    pub tail : after_words after ≡ after_words line
+
+  pub none_so_far : SoFar 0 line (record { rounds = 0; yes = 0 })
+  none_so_far = record { long = refl; written = no_samples value rounds_at n (words_of line) 0; tail = refl }
+
+  module _ {first : ℕ} {middle : List ℕ} {tally : Tally} (so_far : SoFar first middle tally) where
+    pub more_so_far : (size : ℕ) {after : List ℕ} {here : Tally} → length after ≡ length middle
+        → SamplesWritten (λ t. value (first + t)) (λ t. rounds_at (first + t)) n (words_of middle) (first * n) size (words_of after) here
+        → after_words after ≡ after_words middle → SoFar (first + size) after (together tally here)
+    more_so_far size {after} {here} long block tail =
+        let at_line : 0 + first * n ≡ first * n = omega arith in record {
+          long = long ∙ so_far.long;
+          written = more_samples value rounds_at n (words_of line) 0 first size (words_of middle) (words_of after) tally here (omega arith) so_far.written (rw at_line block);
+          tail = tail ∙ so_far.tail;
+        }
+
+  pub yes_small : {samples : ℕ} {after : List ℕ} {tally : Tally} → SoFar samples after tally → samples ≤ most_samples → n ≤ most_places → tally.yes ≤ most_samples * most_places
+  yes_small so_far few places = omega (arith, few_yes so_far.written, mul-le-mul few places)
+
+-- a block of the samples can be evaluated and written
+pub block_fits : {words : List ℕ} {L : Layout} {sheet distances : List ℕ} {around : Around} {samples first size room : ℕ} → AroundReady words L sheet distances around samples → samples * L.places ≤ room
+    → 1 ≤ size → size ≤ lanes → first + size ≤ samples → BlockFits words L sheet distances around (record { first = first; count = size }) × ((first + size) * L.places ≤ room)
+block_fits {L = L} ready fits some few inside = (record { ready = fewer_ready ready inside; some = some; few = few }, omega (arith, fits, mul-le-mul_right L.places inside))

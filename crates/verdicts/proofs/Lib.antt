@@ -1,3 +1,3 @@
 pub mod Points
 pub mod Blocks
-pub mod Halves
+pub mod Lent

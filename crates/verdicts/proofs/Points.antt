@@ -13,8 +13,8 @@ use mir.Syntax.{w32}
 use mir.Val.{to_z, of_z}
 use mir.Facts.{to_z-of_z}
 use Rattle.words.specs.Word.{sample_of}
-use Rattle.words.specs.Bytes.{words_of, after_words}
-use Rattle.words.specs.Rows.{row, put}
+use Rattle.words.specs.Bytes.{words_of}
+use Rattle.words.specs.Rows.{row}
 use Rattle.words.proofs.Rows.{in_table, row_ext}
 use Rattle.words.proofs.Words.{words_drop, words_take}
 use Rattle.counting.specs.Totals.{count, sum_below}
@@ -26,7 +26,6 @@ use Rattle.logic.proofs.Keeps.{surround_kept}
 use Rattle.logic.proofs.Small.{difference_small}
 use Rattle.sheet.specs.declared.check.Layout.{Layout}
 use Rattle.sheet.proofs.Samples.{recording_bits}
-use Rattle.checks.specs.Limits.{most_places}
 use Rattle.values.specs.Chain.{chain_lattice, highest, chain_word, chain_verdict}
 use Rattle.values.specs.Signals.{signal_in}
 use Rattle.values.proofs.Machine.{small_fits}
@@ -34,14 +33,14 @@ use Rattle.values.proofs.Valid.{valid_difference}
 use Rattle.values.proofs.ChainWords.{signal_bound}
 use Rattle.operators.specs.Rows.{Filled}
 use Rattle.operators.proofs.Bounds.{bounded_kept, meet_bound}
-use Rattle.windows.specs.Rows.{side_of, present_of}
+use Rattle.codes.specs.Decoding.{side_said}
+use Rattle.windows.specs.Rows.{present_of}
 use Rattle.windows.proofs.Bounds.{until_bound, ahead_bound}
 use Rattle.surrounds.specs.declared.surround.Surround.{Surround}
 use Rattle.surrounds.specs.Surround.{surround_in}
 use Rattle.locating.specs.declared.RowOperator.{RowOperator}
 use Rattle.locating.specs.declared.RowOperator.TheVariants.{True, Atom, Not, Both, Until, Eventually}
-use Rattle.samples.specs.Sample.{entry, SampleThere}
-use Rattle.samples.proofs.LineRows.{entry_one, RowsDone, before_kept, one_more}
+use Rattle.samples.specs.Sample.{SampleThere}
 use Rattle.verdicts.specs.Rows.{sheet_recording, row_value, RowReads, RowReady}
 
 -- ---- no value is beyond `highest`
@@ -69,7 +68,7 @@ module _ (s : List ℕ) (L : Layout) where
   row_bound words (Not left) t l reads = omega arith
   row_bound words (Both left right true) t l reads = omega arith
   row_bound words (Both left right false) t l reads = meet_bound _ _ (signal_bound words left L.places t l) (signal_bound words right L.places t l)
-  row_bound words (Until u) t l reads = until_bound (side_of u.backward) (signal_in words u.left L.places) (signal_in words u.right L.places) u.bounds.lower u.bounds.upper (present_of u t) l
+  row_bound words (Until u) t l reads = until_bound (side_said u.direction) (signal_in words u.left L.places) (signal_in words u.right L.places) u.bounds.lower u.bounds.upper (present_of u t) l
       (λ v. signal_bound words u.left L.places v l) (λ v. signal_bound words u.right L.places v l)
   row_bound words (Eventually left b true) t l reads = omega arith
   row_bound words (Eventually left b false) t l reads = ahead_bound false words left L.places b.lower b.upper t l
@@ -117,38 +116,22 @@ pub ready_as : {s : List ℕ} {L : Layout} {words : List ℕ} {o p : RowOperator
 ready_as {s} {L} {words} {t = t} {held} ready e = subst (λ q. RowReady s L words q t held) e ready
 
 -- as words
-module _ {n : ℕ} {f : ℕ → ℕ} {values : List ℕ} (filled : Filled n f values) where
-  number_there : (l : ℕ) → l < n → entry values 1 0 l ≡ f l
-  number_there l b = entry_one values l ∙ filled.at l b
+module _ {n : ℕ} {f : ℕ → ℕ} {values : List ℕ} (filled : Filled n f values) (room : n ≤ length values) where
+  pub sample_long : length (take n values) ≡ n
+  sample_long = length-take-le n values room
 
-  pub row_there : n ≤ most_places → n ≤ length values → ((l : ℕ) → f l ≤ highest) → SampleThere values 1 0 n
-  row_there few room small = record {
-    few_places = few;
-    inside = λ l b. omega arith;
-    bound = λ l b. rw (number_there l b) (small l);
-  }
+  number_there : (l : ℕ) → l < n → get_or (take n values) l 0 ≡ f l
+  number_there l b = get_or-take n values l 0 b ∙ filled.at l b
 
-  pub row_words : row (λ l. chain_word (entry values 1 0 l)) n ≡ row (λ l. chain_word (f l)) n
-  row_words = row_ext _ _ n (λ l b. ap chain_word (number_there l b))
+  pub row_there : ((l : ℕ) → l < n → f l ≤ highest) → SampleThere (take n values)
+  row_there small l b = let inside : l < n = omega (arith, sample_long) in rw (number_there l inside) (small l inside)
 
-  pub row_yes : sum_below (λ l. count (chain_verdict (entry values 1 0 l))) n ≡ sum_below (λ l. count (chain_verdict (f l))) n
-  row_yes = sum_same _ _ n (λ l b. ap (λ v. count (chain_verdict v)) (number_there l b))
+  pub row_words : row (λ l. chain_word (get_or (take n values) l 0)) (length (take n values)) ≡ row (λ l. chain_word (f l)) n
+  row_words = rw sample_long (row_ext _ _ n (λ l b. ap chain_word (number_there l b)))
+
+  pub row_yes : sum_below (λ l. count (chain_verdict (get_or (take n values) l 0))) (length (take n values)) ≡ sum_below (λ l. count (chain_verdict (f l))) n
+  row_yes = rw sample_long (sum_same _ _ n (λ l b. ap (λ v. count (chain_verdict v)) (number_there l b)))
 
 -- so many bytes before a line are there
 pub length_before : (s : List ℕ) (k : ℕ) → k ≤ length s → length (take k s) ≡ k
 length_before s k h = length-take-le k s h
-
--- ---- a row after those of a line: it is made from the words before the line, which stay as they are
-module _ (s : List ℕ) (L : Layout) (o : RowOperator) {answer : List ℕ} {begin t : ℕ} {after : List ℕ} {to many : ℕ}
-    (done : RowsDone (row_value s L (take begin (words_of answer)) o) L.places answer begin t after to many) (begins : begin ≤ length (words_of answer)) where
-  pub ready_after : {held : List ℕ} → RowReady s L (take begin (words_of answer)) o t held → RowReady s L (take begin (words_of after)) o t held
-  ready_after {held} ready = subst (λ words. RowReady s L words o t held) (sym (before_kept _ _ _ _ done begins)) ready
-
-  pub filled_after : {u : ℕ} {held : List ℕ} → Filled L.places (row_value s L (take begin (words_of after)) o t) held → t ≡ u → Filled L.places (row_value s L (take begin (words_of answer)) o u) held
-  filled_after {u} {held} filled e = subst (λ v. Filled L.places (row_value s L (take begin (words_of answer)) o v) held) e
-      (subst (λ words. Filled L.places (row_value s L words o t) held) (before_kept _ _ _ _ done begins) filled)
-
-  pub one_row : {later : List ℕ} {more : ℕ} → length later ≡ length after → words_of later ≡ put (words_of after) to (row (λ l. chain_word (row_value s L (take begin (words_of after)) o t l)) L.places)
-      → more ≡ sum_below (λ l. count (chain_verdict (row_value s L (take begin (words_of after)) o t l))) L.places → after_words later ≡ after_words after
-      → RowsDone (row_value s L (take begin (words_of answer)) o) L.places answer begin (t + 1) later (to + L.places) (many + more)
-  one_row = one_more _ _ _ _ done (ap (λ words. row_value s L words o t) (before_kept _ _ _ _ done begins)) begins

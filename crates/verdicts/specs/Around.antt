@@ -1,5 +1,5 @@
 -- For inner contracts only: what the writers of a line over space are given and what they leave.
-use Rattle.std.specs.Prelude.{◌≡◌, List, ℕ, ◌+◌, ◌*◌, ◌<◌, ◌≤◌, ◌^◌, length, take}
+use Rattle.std.specs.Prelude.{◌≡◌, List, ℕ, ◌+◌, ◌*◌, ◌<◌, ◌≤◌, ◌^◌, length}
 use Rattle.words.specs.Bytes.{words_of, numbers_of}
 use Rattle.words.specs.Rows.{rows, put}
 use Rattle.counting.specs.Totals.{count, sum_below, most_below}
@@ -10,6 +10,7 @@ use Rattle.sheet.specs.declared.check.Layout as Code
 use Rattle.checks.specs.Limits.{most_places, most_samples}
 use Rattle.values.specs.Chain.{highest, chain_word, chain_verdict, Valid}
 use Rattle.values.specs.Signals.{signal_in}
+use Rattle.lanes.specs.declared.Place.{Place}
 use Rattle.lanes.specs.Lanes.{lanes, out_row, row_in}
 use Rattle.lanes.specs.Rows.{Room}
 use Rattle.lanes.specs.declared.rows.Block.{Block}
@@ -21,16 +22,21 @@ use Rattle.locating.specs.declared.Around.{Around}
 use Rattle.locating.specs.declared.Around.TheVariants.{Surround, Range}
 use Rattle.samples.specs.declared.tally.Tally.{Tally}
 use Rattle.samples.specs.Written.{SamplesWritten}
+use Rattle.verdicts.specs.declared.around.SpaceLine.{SpaceLine}
 
--- a buffer has room for the places, and the first lanes of its row `out_row` hold chain numbers
-pub record LanesBounded (buffer : List ℕ) (places samples : ℕ) : Type 0 where
+-- n places are room for those of a sheet, and no more than the most
+abbrev pub PlacesFit : ℕ → ℕ → Type 0
+PlacesFit places n = (places ≤ n) × (n ≤ most_places)
+
+-- the places are there, and the first lanes of their row `out_row` hold chain numbers
+pub record LanesBounded (buffer : List Place) (places samples : ℕ) : Type 0 where
   pub few_places : places ≤ most_places
   pub few : samples ≤ lanes
   pub room : Room places buffer
   pub bound : (place lane : ℕ) → place < places → lane < samples → row_in buffer out_row lane place ≤ highest
 
 -- the first lanes of the row are put into the answer from index `to` on, one after the other, and the yes verdicts are told
-pub record LanesWritten (buffer : List ℕ) (places samples : ℕ) (answer : List ℕ) (to : ℕ) (after : List ℕ) (yes : ℕ) : Type 0 where
+pub record LanesWritten (buffer : List Place) (places samples : ℕ) (answer : List ℕ) (to : ℕ) (after : List ℕ) (yes : ℕ) : Type 0 where
   pub written : after ≡ put answer to (rows (λ lane l. chain_word (row_in buffer out_row lane l)) samples places)
   pub counted : yes ≡ sum_below (λ lane. sum_below (λ l. count (chain_verdict (row_in buffer out_row lane l))) places) samples
 
@@ -75,40 +81,37 @@ module _ (words : List ℕ) (L : Code.Layout) (sheet distances : List ℕ) where
   around_rounds (Range a) = λ _ _. 0
 
   -- the samples of a block side by side
-  pub record BlockFilled (around : Around) (b : Block) (buffer : List ℕ) (r : ℕ) : Type 0 where
+  pub record BlockFilled (around : Around) (b : Block) (buffer : List Place) (r : ℕ) : Type 0 where
     pub values : (centre lane : ℕ) → centre < L.places → lane < b.count → row_in buffer out_row lane centre ≡ around_value around (b.first + lane) centre
     pub rounds : r ≡ most_below (λ t. most_below (around_rounds around (b.first + t)) L.places) b.count
 
--- ---- by the bytes that are lent: a line that begins at an index of the answer reads the words before it
+-- ---- by what is lent to a line: the bytes that it is made from, and its own
 
-module _ (sheet : List ℕ) (L : Code.Layout) (distances answer : List ℕ) (begin : ℕ) (around : Around) where
-  abbrev before : List ℕ
-  before = take begin (words_of answer)
-
+module _ (l : SpaceLine) where
   abbrev pub AroundReadyIn : ℕ → Type 0
-  AroundReadyIn = AroundReady before L (words_of sheet) (numbers_of (words_of distances)) around
-
-  -- the answer has the words of the line, as far as the last sample of a block
-  abbrev BlockRoom : Block → Type 0
-  BlockRoom b = begin + (b.first + b.count) * L.places ≤ length (words_of answer)
+  AroundReadyIn = AroundReady (words_of l.before.now) l.layout (words_of l.sheet.now) (numbers_of (words_of l.distances.now)) l.around
 
   abbrev pub BlockFitsIn : Block → Type 0
-  BlockFitsIn b = BlockFits before L (words_of sheet) (numbers_of (words_of distances)) around b × BlockRoom b
+  BlockFitsIn = BlockFits (words_of l.before.now) l.layout (words_of l.sheet.now) (numbers_of (words_of l.distances.now)) l.around
 
-  -- the same of more samples than lie side by side
-  abbrev pub SomeFitIn : Block → Type 0
-  SomeFitIn b = AroundReadyIn (b.first + b.count) × (1 ≤ b.count) × BlockRoom b
+  abbrev pub BlockFilledIn : Block → List Place → ℕ → Type 0
+  BlockFilledIn = BlockFilled (words_of l.before.now) l.layout (words_of l.sheet.now) (numbers_of (words_of l.distances.now)) l.around
 
-  abbrev value_in : ℕ → ℕ → ℕ
-  value_in = around_value before L (words_of sheet) (numbers_of (words_of distances)) around
+  abbrev pub value_in : ℕ → ℕ → ℕ
+  value_in = around_value (words_of l.before.now) l.layout (words_of l.sheet.now) (numbers_of (words_of l.distances.now)) l.around
 
-  abbrev rounds_in : ℕ → ℕ → ℕ
-  rounds_in = around_rounds before L (words_of sheet) (numbers_of (words_of distances)) around
+  abbrev pub rounds_in : ℕ → ℕ → ℕ
+  rounds_in = around_rounds (words_of l.before.now) l.layout (words_of l.sheet.now) (numbers_of (words_of l.distances.now)) l.around
 
-  -- all samples of the line, and those of a block
-  abbrev pub AroundWrittenIn : ℕ → List ℕ → Tally → Type 0
-  AroundWrittenIn samples after = SamplesWritten value_in rounds_in L.places (words_of answer) begin samples (words_of after)
+  module _ (own : List ℕ) where
+    -- there are words for so many samples
+    abbrev pub OwnRoom : ℕ → Type 0
+    OwnRoom samples = samples * l.layout.places ≤ length (words_of own)
 
-  abbrev pub BlockWrittenIn : Block → List ℕ → Tally → Type 0
-  BlockWrittenIn b after =
-      SamplesWritten (λ t. value_in (b.first + t)) (λ t. rounds_in (b.first + t)) L.places (words_of answer) (begin + b.first * L.places) b.count (words_of after)
+    -- so many samples of the line are written, and those of a block
+    abbrev pub AroundWrittenIn : ℕ → List ℕ → Tally → Type 0
+    AroundWrittenIn samples after = SamplesWritten value_in rounds_in l.layout.places (words_of own) 0 samples (words_of after)
+
+    abbrev pub BlockWrittenIn : Block → List ℕ → Tally → Type 0
+    BlockWrittenIn b after =
+        SamplesWritten (λ t. value_in (b.first + t)) (λ t. rounds_in (b.first + t)) l.layout.places (words_of own) (b.first * l.layout.places) b.count (words_of after)

@@ -1,7 +1,7 @@
 -- For inner contracts only: the promises to the outside cite none of it.
 -- A line that goes sample by sample: its values, from the sheet and from the words that stand before it, what must be there for them, and what
 -- writing them leaves.
-use Rattle.std.specs.Prelude.{◌≡◌, List, ℕ, suc, ◌+◌, ◌*◌, ◌≤◌, ◌<◌, length, take}
+use Rattle.std.specs.Prelude.{◌≡◌, List, ℕ, suc, ◌+◌, ◌*◌, ◌≤◌, ◌<◌, length}
 use Rattle.words.specs.Bytes.{words_of}
 use Rattle.words.specs.Rows.{row}
 use Rattle.counting.specs.Totals.{count, sum_below}
@@ -19,6 +19,7 @@ use Rattle.locating.specs.declared.RowOperator.{RowOperator}
 use Rattle.locating.specs.declared.RowOperator.TheVariants.{True, Atom, Not, Both, Until, Eventually}
 use Rattle.samples.specs.declared.tally.Tally.{Tally}
 use Rattle.samples.specs.Written.{SamplesWritten}
+use Rattle.verdicts.specs.declared.row.RowLine.{RowLine}
 
 -- ---- values
 
@@ -64,26 +65,31 @@ pub record RowReady (s : List ℕ) (L : Layout) (words : List ℕ) (o : RowOpera
   pub room : L.places ≤ length held
   pub former : (u : ℕ) → t ≡ suc u → Filled L.places (row_value s L words o u) held
 
--- a line of so many samples can be written from index `begin` of the answer on
-pub record RowsReady (s : List ℕ) (L : Layout) (answer : List ℕ) (begin : ℕ) (o : RowOperator) (samples : ℕ) : Type 0 where
+-- a line of so many samples can be written behind these words
+pub record RowsReady (s : List ℕ) (L : Layout) (words : List ℕ) (o : RowOperator) (samples : ℕ) : Type 0 where
   pub sheet : Recorded s L
   pub few : samples ≤ most_samples
-  pub reads : (t : ℕ) → t < samples → RowReads L (take begin answer) o t
-  pub room : begin + samples * L.places ≤ length answer
+  pub reads : (t : ℕ) → t < samples → RowReads L words o t
 
--- ---- what is written, by the bytes of the sheet and of the answer: a line that begins at an index is made from the words before it
+-- ---- by what is lent to a line: the bytes that it is made from, and its own
 
-module _ (sheet : List ℕ) (L : Layout) (answer : List ℕ) (begin : ℕ) (o : RowOperator) where
+module _ (l : RowLine) where
+  abbrev pub RowReadyIn : ℕ → List ℕ → Type 0
+  RowReadyIn = RowReady (words_of l.sheet.now) l.layout (words_of l.before.now) l.operator
+
+  abbrev pub RowsReadyIn : ℕ → Type 0
+  RowsReadyIn = RowsReady (words_of l.sheet.now) l.layout (words_of l.before.now) l.operator
+
   abbrev pub value_in : Signal chains
-  value_in = row_value (words_of sheet) L (take begin (words_of answer)) o
+  value_in = row_value (words_of l.sheet.now) l.layout (words_of l.before.now) l.operator
 
   -- the words and the yes verdicts of one sample
   abbrev pub row_words_in : ℕ → List ℕ
-  row_words_in t = row (λ l. chain_word (value_in t l)) L.places
+  row_words_in t = row (λ p. chain_word (value_in t p)) l.layout.places
 
   abbrev pub row_yes_in : ℕ → ℕ
-  row_yes_in t = sum_below (λ l. count (chain_verdict (value_in t l))) L.places
+  row_yes_in t = sum_below (λ p. count (chain_verdict (value_in t p))) l.layout.places
 
   -- all samples of the line, which has no rounds
-  abbrev pub RowsWrittenIn : ℕ → List ℕ → Tally → Type 0
-  RowsWrittenIn samples after = SamplesWritten value_in (λ _ _. 0) L.places (words_of answer) begin samples (words_of after)
+  abbrev pub RowsWrittenIn : List ℕ → ℕ → List ℕ → Tally → Type 0
+  RowsWrittenIn own samples after = SamplesWritten value_in (λ _ _. 0) l.layout.places (words_of own) 0 samples (words_of after)

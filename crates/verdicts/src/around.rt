@@ -1,34 +1,62 @@
 // The verdicts of a line over space, a surround or somewhere or everywhere: the samples of a block are evaluated side by side about every centre,
 // and then written sample by sample.
 ghost use Rattle.std.specs.Prelude.{◌≡◌, ◌+◌, ◌*◌, ◌<◌, ◌≤◌, length};
-ghost use Rattle.words.specs.Bytes.{words_of, numbers_of, after_words};
-ghost use Rattle.checks.specs.Limits.{most_narrow, most_samples};
-ghost use Rattle.lanes.specs.Lanes.{lanes};
+ghost use Rattle.words.specs.Bytes.{words_of, after_words};
+ghost use Rattle.lanes.specs.Lanes.{lanes, out_row, row_in};
 ghost use Rattle.lanes.specs.Rows.{Room};
-ghost use Rattle.verdicts.specs.Around.{LanesBounded, LanesWritten, BlockFits, BlockFilled, AroundReadyIn, SomeFitIn, BlockFitsIn, BlockWrittenIn, AroundWrittenIn};
+ghost use Rattle.operators.specs.Rows.{Filled};
+ghost use Rattle.verdicts.specs.Around.{PlacesFit, LanesBounded, LanesWritten, AroundReadyIn, OwnRoom, BlockFitsIn, BlockFilledIn, BlockWrittenIn, AroundWrittenIn};
 
-use checks::limits::MOST_NARROW;
+use checks::limits::{MOST_NARROW, MOST_PLACES};
+use distances::table::Distances;
 use lanes::rows::Block;
-use lanes::{LANES, NARROW_BUFFER, OUT, ROWS, WIDE_BUFFER};
+use lanes::{LANES, Place};
 use locating::Around;
 use ranges::somewhere_block;
-use roads::road::Network;
 use samples::sample::write_sample;
 use samples::tally::Tally;
 use sheet::check::Layout;
-use surrounds::surround::surround_block;
+use surrounds::surround::{SheetNetwork, surround_block};
 
-// Writes the samples of a block, one lane after the other.
-#[tactic(auto, using(words::proofs::Words::words_count, samples::proofs::LineRows::row_room, crate::proofs::Blocks::lane_entry))]
-fn write_lanes(rows: &[u32], places: usize, samples: usize, answer: &mut [u8], to: usize) -> u64
-    requires { LanesBounded rows.now places samples × (to + samples * places ≤ length (words_of answer.old)) }
-    ensures written { LanesWritten rows.now places samples (words_of answer.old) to (words_of answer.new) result }
-    ensures tail { after_words answer.new ≡ after_words answer.old }
+// A line over space: what is asked about every place, and what its verdicts are made from: the sheet with its distances, and the words before its own.
+#[derive(Clone, Copy)]
+pub struct SpaceLine<'a> {
+    pub around: Around,
+    pub sheet: &'a [u8],
+    pub layout: Layout,
+    pub distances: &'a [u8],
+    pub before: &'a [u8],
+}
+
+// The numbers of one lane, place after place.
+fn copy_lane(rows: &[Place], lane: usize, places: usize, values: &mut [u32])
+    requires { Room places rows.now × (lane < lanes) × (places ≤ length values.old) }
+    ensures { Filled places (row_in rows.now out_row lane) values.new }
 {
+    for (l, place) in rows[..places].iter().enumerate() {
+        values[l] = place.out[lane];
+    }
+}
+
+// Writes the samples of a block, one lane after the other, from a row for the numbers of N places.
+#[tactic(auto, using(words::proofs::Words::words_count, samples::proofs::LineRows::row_room))]
+fn write_lanes<const N: usize>(
+    rows: &[Place],
+    places: usize,
+    samples: usize,
+    own: &mut [u8],
+    to: usize,
+) -> u64
+    requires { LanesBounded rows.now places samples × PlacesFit places N × (to + samples * places ≤ length (words_of own.old)) }
+    ensures written { LanesWritten rows.now places samples (words_of own.old) to (words_of own.new) result }
+    ensures tail { after_words own.new ≡ after_words own.old }
+{
+    let mut values = [0u32; N];
     let mut yes: u64 = 0;
     let mut at = to;
     for lane in 0..samples {
-        yes += write_sample(rows, ROWS * LANES, OUT * LANES + lane, places, answer, at);
+        copy_lane(rows, lane, places, &mut values);
+        yes += write_sample(&values[..places], own, at);
         at += places;
     }
     yes
@@ -36,172 +64,81 @@ fn write_lanes(rows: &[u32], places: usize, samples: usize, answer: &mut [u8], t
 
 // Evaluates the samples of a block, and tells their greatest rounds.
 #[tactic(auto, using(crate::proofs::Blocks::block_ready, crate::proofs::Blocks::range_ready, crate::proofs::Blocks::surround_filled, crate::proofs::Blocks::somewhere_filled))]
-fn fill_block(
-    around: Around,
-    words: &[u8],
-    sheet: &[u8],
-    layout: Layout,
-    distances: &[u8],
-    block: Block,
-    rows: &mut [u32],
-) -> u64
-    requires { BlockFits (words_of words.now) layout (words_of sheet.now) (numbers_of (words_of distances.now)) around block × Room layout.places rows.old }
-    ensures { BlockFilled (words_of words.now) layout (words_of sheet.now) (numbers_of (words_of distances.now)) around block rows.new result }
+fn fill_block(line: SpaceLine, block: Block, rows: &mut [Place]) -> u64
+    requires { BlockFitsIn line block × Room line.layout.places rows.old }
+    ensures { BlockFilledIn line.entry block rows.new result }
 {
-    match around {
-        Around::Surround(surround) => surround_block(
-            words,
-            surround,
-            sheet,
-            Network {
-                places: layout.places,
-                roads: layout.roads,
-            },
-            distances,
-            block,
-            rows,
-        ),
+    let distances = Distances {
+        table: line.distances,
+        places: line.layout.places,
+    };
+    match line.around {
+        Around::Surround(surround) => {
+            let network = SheetNetwork {
+                sheet: line.sheet,
+                roads: line.layout.roads,
+                distances,
+            };
+            surround_block(line.before, surround, network, block, rows)
+        }
         Around::Range(range) => {
-            somewhere_block(words, range, layout.places, distances, block, rows);
+            somewhere_block(line.before, range, distances, block, rows);
             0
         }
     }
 }
 
-// Evaluates and writes a block of the line that begins at index `begin`.
-#[tactic(auto, using(words::proofs::Words::words_count, words::proofs::Words::words_take, crate::proofs::Points::length_before))]
-fn write_block(
-    around: Around,
-    sheet: &[u8],
-    layout: Layout,
-    distances: &[u8],
-    answer: &mut [u8],
-    begin: usize,
+// Evaluates a block, in which there is room for N places, and writes it where it stands in the line.
+#[tactic(auto, using(words::proofs::Words::words_count, crate::proofs::Blocks::lanes_bounded))]
+fn write_block<const N: usize>(
+    line: SpaceLine,
     block: Block,
-    rows: &mut [u32],
+    rows: &mut [Place],
+    own: &mut [u8],
 ) -> Tally
-    requires { BlockFitsIn sheet.now layout distances.now answer.old begin around block × Room layout.places rows.old }
-    ensures written { BlockWrittenIn sheet.now layout distances.now answer.old begin around block answer.new result }
-    ensures tail { after_words answer.new ≡ after_words answer.old }
+    requires { BlockFitsIn line block × Room line.layout.places rows.old × PlacesFit line.layout.places N × OwnRoom line own.old (block.first + block.count) }
+    ensures written { BlockWrittenIn line.entry own.old block own.new result }
+    ensures tail { after_words own.new ≡ after_words own.old }
 {
-    let end = begin * 4;
-    let rounds = fill_block(
-        around,
-        &answer[..end],
-        sheet,
-        layout,
-        distances,
-        block,
-        rows,
-    );
-    let to = begin + block.first * layout.places;
-    let yes = write_lanes(rows, layout.places, block.count, answer, to);
+    let rounds = fill_block(line, block, rows);
+    let places = line.layout.places;
+    let to = block.first * places;
+    let yes = write_lanes::<N>(rows, places, block.count, own, to);
     Tally { rounds, yes }
 }
 
-// In a buffer for so many places as a narrow sheet has.
-fn narrow_block(
-    around: Around,
-    sheet: &[u8],
-    layout: Layout,
-    distances: &[u8],
-    answer: &mut [u8],
-    begin: usize,
-    block: Block,
-) -> Tally
-    requires { BlockFitsIn sheet.now layout distances.now answer.old begin around block × (layout.places ≤ most_narrow) }
-    ensures written { BlockWrittenIn sheet.now layout distances.now answer.old begin around block answer.new result }
-    ensures tail { after_words answer.new ≡ after_words answer.old }
+// Writes a line a block at a time. This is not inlined: a narrow sheet takes no stack for the places of a wide one.
+#[inline(never)]
+#[tactic(auto, using(words::proofs::Words::words_count))]
+fn write_blocks<const N: usize>(line: SpaceLine, own: &mut [u8], samples: usize) -> Tally
+    requires ready { AroundReadyIn line samples }
+    requires room { OwnRoom line own.old samples }
+    requires fits { PlacesFit line.layout.places N }
+    ensures written { AroundWrittenIn line.entry own.old samples own.new result }
+    ensures tail { after_words own.new ≡ after_words own.old }
 {
-    let mut rows: [u32; NARROW_BUFFER] = [0; NARROW_BUFFER];
-    write_block(
-        around, sheet, layout, distances, answer, begin, block, &mut rows,
-    )
-}
-
-// In a buffer for the most places.
-fn wide_block(
-    around: Around,
-    sheet: &[u8],
-    layout: Layout,
-    distances: &[u8],
-    answer: &mut [u8],
-    begin: usize,
-    block: Block,
-) -> Tally
-    requires { BlockFitsIn sheet.now layout distances.now answer.old begin around block }
-    ensures written { BlockWrittenIn sheet.now layout distances.now answer.old begin around block answer.new result }
-    ensures tail { after_words answer.new ≡ after_words answer.old }
-{
-    let mut rows: [u32; WIDE_BUFFER] = [0; WIDE_BUFFER];
-    write_block(
-        around, sheet, layout, distances, answer, begin, block, &mut rows,
-    )
-}
-
-// About half of so many samples, in whole blocks.
-fn half_of(count: usize) -> usize
-    requires { (lanes < count) × (count ≤ most_samples) }
-    ensures { (1 ≤ result) × (result < count) }
-{
-    (count + LANES - 1) / (2 * LANES) * LANES
-}
-
-// Writes samples of the line, a block at a time. This calls itself and is no loop: the compiler does not inline a function with a large array into one that
-// calls itself, so that a narrow sheet takes no stack for the buffer of a wide one.
-fn write_blocks(
-    around: Around,
-    sheet: &[u8],
-    layout: Layout,
-    distances: &[u8],
-    answer: &mut [u8],
-    begin: usize,
-    block: Block,
-) -> Tally
-    requires { SomeFitIn sheet.now layout distances.now answer.old begin around block }
-    ensures written { BlockWrittenIn sheet.now layout distances.now answer.old begin around block answer.new result }
-    ensures tail { after_words answer.new ≡ after_words answer.old }
-{
-    if block.count <= LANES {
-        if layout.places <= MOST_NARROW {
-            return narrow_block(around, sheet, layout, distances, answer, begin, block);
-        }
-        return wide_block(around, sheet, layout, distances, answer, begin, block);
+    let mut rows = [Place::EMPTY; N];
+    let mut tally = Tally::NONE;
+    for k in 0..samples.div_ceil(LANES) {
+        let first = k * LANES;
+        let block = Block {
+            first,
+            count: LANES.min(samples - first),
+        };
+        let here = write_block::<N>(line, block, &mut rows, own);
+        tally = tally.with(here);
     }
-    let half = half_of(block.count);
-    let front = Block {
-        first: block.first,
-        count: half,
-    };
-    let before = write_blocks(around, sheet, layout, distances, answer, begin, front);
-    let back = Block {
-        first: block.first + half,
-        count: block.count - half,
-    };
-    let after = write_blocks(around, sheet, layout, distances, answer, begin, back);
-    before.with(after)
+    tally
 }
 
-// Writes all words of a line of `samples` samples from index `begin` on.
-pub fn write_around(
-    around: Around,
-    sheet: &[u8],
-    layout: Layout,
-    distances: &[u8],
-    answer: &mut [u8],
-    begin: usize,
-    samples: usize,
-) -> Tally
-    requires { AroundReadyIn sheet.now layout distances.now answer.old begin around samples × (begin + samples * layout.places ≤ length (words_of answer.old)) }
-    ensures written { AroundWrittenIn sheet.now layout distances.now answer.old begin around samples answer.new result }
-    ensures tail { after_words answer.new ≡ after_words answer.old }
+// Writes the words of so many samples of a line.
+pub fn write_around(line: SpaceLine, own: &mut [u8], samples: usize) -> Tally
+    requires { AroundReadyIn line samples × OwnRoom line own.old samples }
+    ensures written { AroundWrittenIn line.entry own.old samples own.new result }
+    ensures tail { after_words own.new ≡ after_words own.old }
 {
-    if samples == 0 {
-        return Tally::NONE;
+    if line.layout.places <= MOST_NARROW {
+        return write_blocks::<MOST_NARROW>(line, own, samples);
     }
-    let all = Block {
-        first: 0,
-        count: samples,
-    };
-    write_blocks(around, sheet, layout, distances, answer, begin, all)
+    write_blocks::<MOST_PLACES>(line, own, samples)
 }

@@ -1,6 +1,6 @@
 -- What the operators over time compute with stays small: values are at most `highest`, and a window has fewer samples than there are bytes.
 use mathlib.Core.Path.{◌≡◌}
-use mathlib.Core.Bool.{Bool, true, false, cond}
+use mathlib.Core.Bool.{Bool}
 use mathlib.Core.List.{List}
 use Prim.Native.Nat.{ℕ, suc, ◌+◌, ◌*◌, ◌≤◌, ◌<◌}
 use native.Mathlib.Nat.{le_refl, mul-le-mul_right, le-mul_of_pos_right}
@@ -17,8 +17,11 @@ use Rattle.values.specs.Signals.{signal_in, turned}
 use Rattle.windows.specs.declared.group.Group.{Group}
 use Rattle.windows.specs.Groups.{SampleReached}
 use Rattle.windows.specs.Reach.{Window, Reached}
-use Rattle.windows.specs.Rows.{ahead, side_of, ahead_in, eventually_in}
-use Rattle.codes.specs.declared.operator.Bounds as Code
+use Rattle.windows.specs.Rows.{present_at, ahead, ahead_in, eventually_in}
+use Rattle.codes.specs.declared.operator.Bounds.{Bounds}
+use Rattle.codes.specs.declared.operator.Direction as Code
+use Rattle.codes.specs.declared.operator.Direction.TheVariants.{Forward, Backward}
+use Rattle.codes.specs.Decoding.{side_said}
 use Rattle.operators.specs.Rows.{turned_to}
 use Rattle.operators.proofs.RowLaws.{turned_number, turned_small, turned_back}
 use Rattle.operators.proofs.Bounds.{bounded_kept, turned_bound, in_row}
@@ -48,7 +51,7 @@ module _ (dual : Bool) (words : List ℕ) (start n lower upper t l : ℕ) where
 
 -- ---- what is read is there, and its index fits the machine
 
-pub reached_inside : {words : List ℕ} {start places : ℕ} {bounds : Code.Bounds} {t l u : ℕ} → Reached words start places bounds t l → u < t + bounds.upper + 1
+pub reached_inside : {words : List ℕ} {start places : ℕ} {bounds : Bounds} {t l u : ℕ} → Reached words start places bounds t l → u < t + bounds.upper + 1
     → start + (u * places + l) < length words
 reached_inside reached before = omega (arith, in_table before reached.place, reached.window.inside)
 
@@ -58,9 +61,9 @@ sample_reached {places = places} {u} {g} {lane} reached b =
     omega (arith, in_row u place, reached.inside)
 
 -- a sample that until or since reads is one from t to t + upper
-pub away_inside : (backward : Bool) (upper t k : ℕ) → k ≤ upper → away (side_of backward) (cond backward (t + upper) t) k < t + upper + 1
-away_inside true upper t k h = omega arith
-away_inside false upper t k h = omega arith
+pub away_inside : (direction : Code.Direction) (upper t k : ℕ) → k ≤ upper → away (side_said direction) (present_at direction upper t) k < t + upper + 1
+away_inside Forward upper t k h = omega arith
+away_inside Backward upper t k h = omega arith
 
 pub window_reached : {words : List ℕ} {start places lower upper t u : ℕ} (g : Group) → Window words start places lower upper t → u < t + upper + 1 → g.first + g.count ≤ places → SampleReached words start places u g
 window_reached {places = places} {u = u} g window before among = record { inside = omega (arith, mul-le-mul_right places before, window.inside); among = among }
@@ -69,5 +72,5 @@ window_reached {places = places} {u = u} g window before among = record { inside
 pub window_end : (bytes : List ℕ) {start places lower upper t : ℕ} → 1 ≤ places → Window (words_of bytes) start places lower upper t → t + upper + 1 ≤ length bytes
 window_end bytes {upper = upper} {t} some window = omega (arith, le-mul_of_pos_right (t + upper + 1) some, words_count bytes, window.inside)
 
-pub reached_end : (bytes : List ℕ) {start places : ℕ} {bounds : Code.Bounds} {t l : ℕ} → Reached (words_of bytes) start places bounds t l → t + bounds.upper + 1 ≤ length bytes
+pub reached_end : (bytes : List ℕ) {start places : ℕ} {bounds : Bounds} {t l : ℕ} → Reached (words_of bytes) start places bounds t l → t + bounds.upper + 1 ≤ length bytes
 reached_end bytes reached = window_end bytes (omega (arith, reached.place)) reached.window

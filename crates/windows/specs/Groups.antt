@@ -2,7 +2,9 @@
 -- speaks of them.
 use Rattle.std.specs.Prelude.{◌≡◌, Bool, true, false, List, ℕ, ◌+◌, ◌*◌, ◌<◌, ◌≤◌, length, get_or}
 use Rattle.values.specs.Chain.{chain_lattice}
+use Rattle.words.specs.Bytes.{words_of}
 use Rattle.values.specs.Signals.{signal_in}
+use Rattle.operators.specs.declared.signals.Operand.{Operand}
 use Rattle.windows.specs.declared.group.Group.{Group}
 
 abbrev pub group_size : ℕ
@@ -20,6 +22,20 @@ module _ (words : List ℕ) (start places u : ℕ) (g : Group) where
 
   abbrev pub raised : (least best : List ℕ) → ℕ → ℕ
   raised least best lane = chain_lattice.join (get_or best lane 0) (chain_lattice.meet (signal_in words start places u (g.first + lane)) (get_or least lane 0))
+
+-- the same of an operand, with room for the group
+module _ (o : Operand) (u : ℕ) (g : Group) where
+  abbrev pub lowered_of : List ℕ → ℕ → ℕ
+  lowered_of = lowered (words_of o.words.now) o.start o.places u g
+
+  abbrev pub raised_of : (least best : List ℕ) → ℕ → ℕ
+  raised_of = raised (words_of o.words.now) o.start o.places u g
+
+  abbrev pub LowerReady : List ℕ → Type 0
+  LowerReady least = SampleReached (words_of o.words.now) o.start o.places u g × (g.count ≤ length least)
+
+  abbrev pub RaiseReady : (least best : List ℕ) → Type 0
+  RaiseReady least best = SampleReached (words_of o.words.now) o.start o.places u g × (g.count ≤ length least) × (g.count ≤ length best)
 
 -- whether the least of left is no more than until so far, at all of the first numbers
 pub record Known (r : Bool) (least best : List ℕ) (count : ℕ) : Type 0 where

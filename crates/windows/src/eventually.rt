@@ -1,103 +1,79 @@
-// Code 9, eventually, and its dual, code 10, always.
+// Code 9, eventually, and its dual, code 10, always. What is asked at one place is inlined: else an operand would go through memory at every place.
 ghost use Rattle.std.specs.Prelude.{◌≡◌, ◌+◌};
-ghost use Rattle.words.specs.Bytes.{words_of};
-ghost use Rattle.windows.specs.Reach.{Reached};
 ghost use Rattle.operators.specs.Rows.{RowLeft};
-ghost use Rattle.windows.specs.Rows.{Former, ahead_in, eventually_in, EventuallyReady};
+ghost use Rattle.windows.specs.Rows.{ahead_of, eventually_of, ReachedOf, NextReady, PlaceReady, RowReadyOf};
 
 use codes::operator::Bounds;
-use operators::signals::{turn, turned_at};
+use operators::signals::{Operand, turn};
 
 // The greatest of a window, read from its first sample to its last.
-fn greatest_ahead(
-    words: &[u8],
-    start: usize,
-    places: usize,
-    bounds: Bounds,
-    t: usize,
-    l: usize,
-    negated: bool,
-) -> u32
-    requires { Reached (words_of words.now) start places bounds t l }
-    ensures { result ≡ ahead_in (words_of words.now) places negated start bounds.lower bounds.upper t l }
+#[tactic(auto, using(operators::proofs::Bounds::turned_bound, crate::proofs::Folds::none_counted, crate::proofs::Folds::one_counted, crate::proofs::Folds::all_counted, crate::proofs::Folds::from_none, crate::proofs::Folds::from_more, crate::proofs::Windows::eventually_all))]
+fn greatest_ahead(operand: Operand<'_>, bounds: Bounds, t: usize, l: usize, negated: bool) -> u32
+    requires { ReachedOf operand bounds t l }
+    ensures { result ≡ ahead_of operand.entry bounds negated t l }
 {
     let first = t + bounds.lower as usize;
     let end = t + bounds.upper as usize + 1;
     let mut best = values::bottom();
     for u in first..end {
-        best = values::greater(best, turned_at(words, start, places, u, l, negated));
+        best = values::greater(best, operand.turned_at(u, l, negated));
     }
     best
 }
 
 // The greatest of the window of sample t + 1, given that of sample t: unless this was the sample that leaves, only the one that enters can
 // exceed it, and long windows need not be read again.
+#[inline(always)]
+#[tactic(auto, using(operators::proofs::Bounds::turned_bound, crate::proofs::Bounds::reached_inside, crate::proofs::Windows::ahead_next))]
 fn greatest_next(
-    words: &[u8],
-    start: usize,
-    places: usize,
+    operand: Operand<'_>,
     bounds: Bounds,
     t: usize,
     l: usize,
     negated: bool,
     former: u32,
 ) -> u32
-    requires { Reached (words_of words.now) start places bounds (t + 1) l × (former ≡ ahead_in (words_of words.now) places negated start bounds.lower bounds.upper t l) }
-    ensures { result ≡ ahead_in (words_of words.now) places negated start bounds.lower bounds.upper (t + 1) l }
+    requires { NextReady operand bounds negated t l former }
+    ensures { result ≡ ahead_of operand.entry bounds negated (t + 1) l }
 {
-    let leaving = turned_at(words, start, places, t + bounds.lower as usize, l, negated);
+    let leaving = operand.turned_at(t + bounds.lower as usize, l, negated);
     if leaving < former {
-        let entering = turned_at(
-            words,
-            start,
-            places,
-            t + 1 + bounds.upper as usize,
-            l,
-            negated,
-        );
+        let entering = operand.turned_at(t + 1 + bounds.upper as usize, l, negated);
         return values::greater(former, entering);
     }
-    greatest_ahead(words, start, places, bounds, t + 1, l, negated)
+    greatest_ahead(operand, bounds, t + 1, l, negated)
 }
 
 // At one place, given the value at the sample before, if there is one.
+#[inline(always)]
 #[tactic(auto, using(crate::proofs::Bounds::ahead_bound, crate::proofs::Bounds::eventually_small, crate::proofs::Bounds::eventually_back, crate::proofs::Bounds::eventually_turned))]
 fn eventually_at(
-    words: &[u8],
-    start: usize,
-    places: usize,
+    operand: Operand<'_>,
     bounds: Bounds,
     dual: bool,
     t: usize,
     l: usize,
     former: u32,
 ) -> u32
-    requires { Reached (words_of words.now) start places bounds t l × Former (eventually_in (words_of words.now) places dual start bounds.lower bounds.upper) t l former }
-    ensures { result ≡ eventually_in (words_of words.now) places dual start bounds.lower bounds.upper t l }
+    requires { PlaceReady operand bounds dual t l former }
+    ensures { result ≡ eventually_of operand.entry bounds dual t l }
 {
     let greatest = if t == 0 {
-        greatest_ahead(words, start, places, bounds, t, l, dual)
+        greatest_ahead(operand, bounds, t, l, dual)
     } else {
         let before = turn(former, dual);
-        greatest_next(words, start, places, bounds, t - 1, l, dual, before)
+        greatest_next(operand, bounds, t - 1, l, dual, before)
     };
     turn(greatest, dual)
 }
 
 // The row holds the values at the sample before, if there is one.
-pub fn eventually_row(
-    words: &[u8],
-    start: usize,
-    places: usize,
-    bounds: Bounds,
-    dual: bool,
-    t: usize,
-    row: &mut [u32],
-)
-    requires { EventuallyReady (words_of words.now) places dual start bounds t row.old }
-    ensures { RowLeft places (eventually_in (words_of words.now) places dual start bounds.lower bounds.upper t) row.old row.new }
+#[tactic(auto, using(operators::proofs::RowLaws::one_passed))]
+pub fn eventually_row(operand: Operand<'_>, bounds: Bounds, dual: bool, t: usize, row: &mut [u32])
+    requires { RowReadyOf operand bounds dual t row.old }
+    ensures { RowLeft operand.entry.places (eventually_of operand.entry bounds dual t) row.old row.new }
 {
-    for l in 0..places {
-        row[l] = eventually_at(words, start, places, bounds, dual, t, l, row[l]);
+    for (l, x) in row[..operand.places].iter_mut().enumerate() {
+        *x = eventually_at(operand, bounds, dual, t, l, *x);
     }
 }

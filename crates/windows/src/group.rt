@@ -1,10 +1,10 @@
-// Places side by side whose windows are read together: loops over the places of a group, which the compiler turns into a few instructions.
+// Places side by side whose windows are read together: loops over the places of a group, which the compiler turns into a few instructions. They go
+// by the number of the lane, which is that of the place too.
 ghost use Rattle.std.specs.Prelude.{◌≡◌, ◌+◌, ◌-◌, ◌≤◌, ◌<◌, min, length, get_or};
-ghost use Rattle.words.specs.Bytes.{words_of};
 ghost use Rattle.operators.specs.Rows.{RowLeft};
-ghost use Rattle.windows.specs.Groups.{group_size, SampleReached, lowered, raised, Known, PartLeft};
+ghost use Rattle.windows.specs.Groups.{group_size, lowered_of, raised_of, LowerReady, RaiseReady, Known, PartLeft};
 
-use values::signal_at;
+use operators::signals::Operand;
 
 // Few enough that a window need not be read long for the sake of one place, and enough for the loops.
 pub(crate) const GROUP: usize = 16;
@@ -21,50 +21,38 @@ pub(crate) fn group_from(first: usize, places: usize) -> Group
     requires { first < places }
     ensures { result ≡ record { first = first; count = min (places - first) group_size } }
 {
-    let rest = places - first;
-    let count = if rest < GROUP { rest } else { GROUP };
-    Group { first, count }
+    Group {
+        first,
+        count: (places - first).min(GROUP),
+    }
 }
 
 // A sample of left goes into the least.
-pub(crate) fn lower_least(
-    words: &[u8],
-    start: usize,
-    places: usize,
-    u: usize,
-    group: Group,
-    least: &mut [u32],
-)
-    requires { SampleReached (words_of words.now) start places u group × (group.count ≤ length least.old) }
-    ensures { RowLeft group.count (lowered (words_of words.now) start places u group least.old) least.old least.new }
+#[tactic(auto, using(crate::proofs::Bounds::sample_reached, operators::proofs::RowLaws::one_passed))]
+pub(crate) fn lower_least(left: Operand<'_>, u: usize, group: Group, least: &mut [u32])
+    requires { LowerReady left u group least.old }
+    ensures { RowLeft group.count (lowered_of left.entry u group least.old) least.old least.new }
 {
-    for lane in 0..group.count {
-        least[lane] = values::lesser(
-            least[lane],
-            signal_at(words, start, places, u, group.first + lane),
-        );
+    for (lane, x) in least[..group.count].iter_mut().enumerate() {
+        *x = values::lesser(*x, left.at(u, group.first + lane));
     }
 }
 
 // What a sample of right offers, no more than the least of left, goes into the greatest.
+#[tactic(auto, using(crate::proofs::Bounds::sample_reached, operators::proofs::RowLaws::one_passed))]
 pub(crate) fn raise_best(
-    words: &[u8],
-    start: usize,
-    places: usize,
+    right: Operand<'_>,
     u: usize,
     group: Group,
     least: &[u32],
     best: &mut [u32],
 )
-    requires { SampleReached (words_of words.now) start places u group × (group.count ≤ length least.now) × (group.count ≤ length best.old) }
-    ensures { RowLeft group.count (raised (words_of words.now) start places u group least.now best.old) best.old best.new }
+    requires { RaiseReady right u group least.now best.old }
+    ensures { RowLeft group.count (raised_of right.entry u group least.now best.old) best.old best.new }
 {
-    for lane in 0..group.count {
-        let offer = values::lesser(
-            signal_at(words, start, places, u, group.first + lane),
-            least[lane],
-        );
-        best[lane] = values::greater(best[lane], offer);
+    for (lane, x) in best[..group.count].iter_mut().enumerate() {
+        let offer = values::lesser(right.at(u, group.first + lane), least[lane]);
+        *x = values::greater(*x, offer);
     }
 }
 
@@ -73,12 +61,10 @@ pub(crate) fn is_known(least: &[u32], best: &[u32], count: usize) -> bool
     requires { (count ≤ length least.now) × (count ≤ length best.now) }
     ensures { Known result least.now best.now count }
 {
-    for lane in 0..count {
-        if best[lane] < least[lane] {
-            return false;
-        }
-    }
-    true
+    least[..count]
+        .iter()
+        .zip(&best[..count])
+        .all(|(l, b)| l <= b)
 }
 
 // The numbers of a group come to their places in a row.
@@ -86,7 +72,5 @@ pub(crate) fn put_group(numbers: &[u32], group: Group, row: &mut [u32])
     requires { (group.count ≤ length numbers.now) × (group.first + group.count ≤ length row.old) }
     ensures { PartLeft group.first group.count (λ lane. get_or numbers.now lane 0) row.old row.new }
 {
-    for lane in 0..group.count {
-        row[group.first + lane] = numbers[lane];
-    }
+    row[group.first..group.first + group.count].copy_from_slice(&numbers[..group.count]);
 }

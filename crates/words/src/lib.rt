@@ -2,8 +2,8 @@
 #![tactic(auto)]
 
 ghost use Rattle.std.specs.Prelude.{◌≡◌, [], ◌∷◌, ◌+◌, ◌*◌, ◌<◌, ◌≤◌, ◌^◌, length, get_or, take, set, replicate};
-ghost use Rattle.words.specs.Word.{kind_of, payload_of, sample_of};
-ghost use Rattle.words.specs.Bytes.{word_of_bytes, words_of, numbers_of, bytes_of, halves_of, after_words};
+ghost use Rattle.words.specs.Word.{bits, kind_of, payload_of, sample_of};
+ghost use Rattle.words.specs.Bytes.{words_of, numbers_of, bytes_of, halves_of, after_words};
 ghost use Rattle.words.specs.Rows.{put, padded};
 
 // Bits 31..28.
@@ -32,12 +32,6 @@ pub fn sample(w: u32) -> i32
     }
 }
 
-fn word_of_bytes(a: u8, b: u8, c: u8, d: u8) -> u32
-    ensures { result ≡ word_of_bytes a b c d }
-{
-    a as u32 + b as u32 * 256 + c as u32 * 65536 + d as u32 * 16777216
-}
-
 // How many whole words there are.
 #[tactic(auto, using(crate::proofs::Words::length_words))]
 pub fn word_count(s: &[u8]) -> usize
@@ -52,7 +46,7 @@ pub fn word_at(s: &[u8], i: usize) -> u32
     ensures { result ≡ get_or (words_of s.now) i 0 }
 {
     let at = i * 4;
-    word_of_bytes(s[at], s[at + 1], s[at + 2], s[at + 3])
+    u32::from_le_bytes([s[at], s[at + 1], s[at + 2], s[at + 3]])
 }
 
 // The word at an index, or 0 past the end: a word of kind 0 is asked for nowhere, so one test finds a word that is absent and one of another kind.
@@ -70,10 +64,15 @@ pub fn put_word(s: &mut [u8], i: usize, w: u32)
     ensures bytes { s.new ≡ put s.old (i * 4) (bytes_of (w ∷ [])) }
 {
     let at = i * 4;
-    s[at] = (w % 256) as u8;
-    s[at + 1] = (w / 256 % 256) as u8;
-    s[at + 2] = (w / 65536 % 256) as u8;
-    s[at + 3] = (w / 16777216) as u8;
+    s[at..at + 4].copy_from_slice(&w.to_le_bytes());
+}
+
+// So many bits from a lowest one up, as a number.
+pub fn bits<const LOW: u32, const COUNT: u32>(w: u32) -> u32
+    requires { LOW < 32 × COUNT < 32 }
+    ensures { result ≡ bits LOW COUNT w }
+{
+    (w >> LOW) % (1 << COUNT)
 }
 
 fn number_of_words(low: u32, high: u32) -> u64
@@ -116,8 +115,8 @@ pub fn put_numbers(s: &mut [u8], numbers: &[u64])
     requires { length s.old ≡ length numbers.now * 8 }
     ensures { s.new ≡ bytes_of (halves_of numbers.now) }
 {
-    for i in 0..numbers.len() {
-        put_number(s, i, numbers[i]);
+    for (i, x) in numbers.iter().enumerate() {
+        put_number(s, i, *x);
     }
 }
 
@@ -125,11 +124,7 @@ pub fn put_numbers(s: &mut [u8], numbers: &[u64])
 pub fn fill_zero(s: &mut [u8])
     ensures { s.new ≡ replicate (length s.old) 0 }
 {
-    let mut i = 0;
-    while i < s.len() {
-        s[i] = 0;
-        i += 1;
-    }
+    s.fill(0);
 }
 
 // Keeps the first words and sets every byte behind them to zero.
@@ -149,9 +144,5 @@ pub fn copy_bytes(from: &[u8], to: &mut [u8], at: usize)
     requires { at + length from.now ≤ length to.old }
     ensures { to.new ≡ put to.old at from.now }
 {
-    let mut i = 0;
-    while i < from.len() {
-        to[at + i] = from[i];
-        i += 1;
-    }
+    to[at..at + from.len()].copy_from_slice(from);
 }

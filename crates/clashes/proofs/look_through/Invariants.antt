@@ -8,8 +8,8 @@ use Rattle.clashes.proofs.look_through.Given as goal
 
 abbrev pub invariant-loop-k : goal.invariant-loop-k
 invariant-loop-k l =
-    (l.part.from ≤ l.k) × (l.k ≤ l.end) × (length l.links ≡ length l.initial.links) × Chained (words_of l.list) l.grid l.part (words_of l.links) (part_before l.part l.k)
-    × Searched (words_of l.list) l.grid (l.part.from + l.part.size) l.k
+    (l.part.from ≤ l.k) × (l.k ≤ l.end) × (length l.links ≡ length l.initial.links) × Chained (words_of l.list.words.now) l.list.grid l.part (words_of l.links) (part_before l.part l.k)
+    × Searched (words_of l.list.words.now) l.list.grid (l.part.from + l.part.size) l.k
 
 abbrev pub decreases-loop-k : goal.decreases-loop-k
 decreases-loop-k l = l.end - l.k

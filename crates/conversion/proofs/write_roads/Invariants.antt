@@ -3,13 +3,11 @@ use mathlib.Core.Path.{◌≡◌}
 use Prim.Native.Nat.{◌-◌, ◌≤◌}
 use lib.ListN.{length}
 use Rattle.words.specs.Bytes.{words_of}
-use Rattle.words.specs.Rows.{concat, put}
-use Rattle.checks.specs.Heads.{head_words}
-use Rattle.conversion.specs.Relaid.{road_relaid}
+use Rattle.conversion.specs.Lent.{roads_put}
 use Rattle.conversion.proofs.write_roads.Given as goal
 
 abbrev pub invariant-loop-r : goal.invariant-loop-r
-invariant-loop-r l = (l.r ≤ l.roads) × (length l.output ≡ length l.initial.output) × (words_of l.output ≡ put (words_of l.initial.output) (head_words l.to) (concat (road_relaid l.to (words_of l.sheet)) l.r))
+invariant-loop-r l = (l.r ≤ l.roads) × (length l.output ≡ length l.initial.output) × (words_of l.output ≡ roads_put l.to l.sheet l.r l.initial.output)
 
 abbrev pub decreases-loop-r : goal.decreases-loop-r
 decreases-loop-r l = l.roads - l.r

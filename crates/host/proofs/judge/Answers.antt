@@ -14,7 +14,7 @@ use Rattle.host.proofs.judge.Goals as goal
 pub returns : goal.returns
 returns c =
     let g = c.args in
-    let call = c.judge-told in
+    let call = c.judge in
     let tested = sym c.lent_whole.ensures ∙ c.if-not-lent_whole.false in
     let lengths = whole_lengths _ _ _ _ tested in
     let A = call.new.answer in
@@ -23,8 +23,8 @@ returns c =
     let numbers = numbers_bytes D (length D / 8) (λ i. (c.type_inv.distances i).fits) (omega (arith, lengths.1, call.auto.distances)) in
     let whole = judged_whole g.sheet.now g.distances.now g.answer.now g.res.now tested in
     record {
-      told = rw whole (ap (λ (r : Result). r.number) call.ensures.told);
+      told = rw whole (c.put_result.ensures.number ∙ ap (λ (r : Result). r.number) call.ensures.told);
       said = rw whole (sym words ∙ ap bytes_of call.ensures.said);
       measured = rw whole (sym numbers ∙ ap (λ (x : List ℕ). bytes_of (halves_of x)) call.ensures.measured);
-      held = rw whole (c.put_result.ensures ∙ ap result_bytes call.ensures.told);
+      held = rw whole (c.put_result.ensures.held ∙ ap result_bytes call.ensures.told);
     }

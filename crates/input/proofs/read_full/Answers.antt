@@ -1,49 +1,10 @@
 -- What the reads before gave, and then what this one gave, is what the reader lost; a read that fails gives nothing.
-use Rattle.std.proofs.Common.{◌≡◌, ℕ, ◌+◌, ◌-◌, ◌≤◌, List, ◌++◌, rules, arith, length, take, slice_range, sym, ap, ◌∙◌, subst, le_refl, drop_at, length-take-le}
-use Rattle.std.proofs.lemmas.Slice.{take-put_mid_below}
-use Rattle.std.specs.Io.KnownBytes.{Consumes}
-use Rattle.std.proofs.KnownBytes.{Consumes-trans, Consumes-kept}
-use Rattle.std.specs.Prelude.{Result, Ok, Err, IfErr}
-use Rattle.input.specs.Reading.{HeldAtStart}
-use borrow.Rule.Slice.PartMut.{put_mid, post_of}
-use lib.Seq.{take-add, take-append-le}
+use Rattle.std.proofs.Common.{rules}
+use Rattle.input.proofs.Reading.{read_more, read_failed}
 use Rattle.input.proofs.read_full.Goals as goal
 
--- up to `b`, new bytes are the old ones up to `a` and what stands after these
-take_split : (a b : ℕ) (old new : List ℕ) → a ≤ b → take a new ≡ take a old → take a old ++ slice_range new a b ≡ take b new
-take_split a b old new h front =
-    let same : a + (b - a) ≡ b = omega arith in
-    ap (λ l. l ++ slice_range new a b) (sym front) ∙ sym (take-add a (b - a) new) ∙ ap (λ n. take n new) same
-
--- what was put behind `a` stands there
-slice_range-put_mid : (a k n : ℕ) (xs ys : List ℕ) → a ≤ length xs → n ≤ length ys → slice_range (put_mid a k xs ys) a (a + n) ≡ take n ys
-slice_range-put_mid a k n xs ys within fits =
-    let same : (a + n) - a ≡ n = omega arith in
-    let after = post_of a k xs in
-    ap (take ((a + n) - a)) (drop_at (take a xs) (ys ++ after) a (length-take-le a xs within)) ∙ ap (λ m. take m (ys ++ after)) same ∙ take-append-le n ys after fits
-
 pub loop-done-preserved : goal.loop-done-preserved
-loop-done-preserved g c =
-    let from = c.loop-done.done in
-    let more = c.in_ok-n.n in
-    let room = length c.loop-done.buf - from in
-    let within = c.loop-done.invariant.0 in
-    let part = slice_range-put_mid from room more c.loop-done.buf c.read.new.buf within c.in_ok-n.ensures.bound.0 in
-    let joined = take_split from (from + more) c.loop-done.buf (put_mid from room c.loop-done.buf c.read.new.buf) (omega arith) (take-put_mid_below _ _ _ _ _ (le_refl _) within) in
-    (search rules, subst (Consumes _ _) (ap (λ l. take from c.loop-done.buf ++ l) (sym part) ∙ joined) (Consumes-trans _ _ _ _ _ c.loop-done.invariant.1 c.in_ok-n.ensures.bytes.0))
-
-told_of_any : {A E : Type 0} (r : Result A E) (P : Type 0) → P → IfErr r (λ _. P)
-told_of_any (Ok a) P p = tt
-told_of_any (Err e) P p = p
+loop-done-preserved g c = (search rules, read_more _ _ _ c.loop-done.invariant.0 _ _ _ _ c.in_ok-n.ensures.bound.0 c.loop-done.invariant.1 c.in_ok-n.ensures.bytes.0)
 
 pub returns-in_err-n-clause-failed : goal.returns-in_err-n-clause-failed
-returns-in_err-n-clause-failed g c =
-    let from = c.loop-done.done in
-    let within = c.loop-done.invariant.0 in
-    let kept = take-put_mid_below _ _ _ _ _ (le_refl _) within in
-    let before = c.loop-done.invariant.1 in
-    told_of_any _ (HeldAtStart _ _ _) (record {
-      count = from;
-      within = search rules;
-      bytes = Consumes-kept _ _ _ _ (subst (Consumes _ _) (sym kept) before) c.in_err-n.ensures.bytes;
-    })
+returns-in_err-n-clause-failed g c = read_failed c.loop-done.buf c.read.new.buf _ c.loop-done.invariant.0 _ _ _ _ (search rules) c.loop-done.invariant.1 c.in_err-n.ensures.bytes

@@ -1,12 +1,17 @@
--- The first word that is not zero decides the test of all.
-use mathlib.Core.Path.{sym}
-use native.Mathlib.Omega.{arith}
-use lib.Dec.{ltb, eqb}
+-- The search goes over the words after the index.
+use Rattle.std.proofs.Common.{rules, ◌≡◌, ℕ, ◌<◌, true, false, length}
+use Rattle.std.proofs.iter.runs.Sources.{ranges}
+use lib.Dec.{T, ltb, eqb}
 use Rattle.words.specs.Bytes.{words_of}
 use Rattle.checks.specs.Checked.{word_at}
-use Rattle.lookup.proofs.Walk.{one_fails}
+use Rattle.lookup.proofs.Walk.{all_told}
 use Rattle.lookup.proofs.zeros_after.Goals as goal
 
-pub returns-then-word_at-ne0 : goal.returns-then-word_at-ne0
-returns-then-word_at-ne0 c =
-    sym (one_fails (ltb c.args.at) (λ k. eqb (word_at (words_of c.args.answer.now) k) 0) _ c.loop-j.j (omega arith) (grind arith) (grind arith))
+passes : (c : goal.After-all) → c.all.result ≡ true → (j : ℕ) → j < length (words_of c.args.answer.now) → T (ltb c.args.at j) → eqb (word_at (words_of c.args.answer.now) j) 0 ≡ true
+passes c e = search (rules, ranges)
+
+fails : (c : goal.After-all) → c.all.result ≡ false → (j : ℕ) × (j < length (words_of c.args.answer.now)) × T (ltb c.args.at j) × (eqb (word_at (words_of c.args.answer.now) j) 0 ≡ false)
+fails c e = search (rules, ranges)
+
+pub returns : goal.returns
+returns c = all_told (ltb c.args.at) (λ k. eqb (word_at (words_of c.args.answer.now) k) 0) _ c.all.result (passes c) (fails c)

@@ -1,11 +1,14 @@
 -- The signal is decoded into a row, and what is gathered of it in lanes is the block of samples.
 use Rattle.words.specs.Bytes.{words_of}
-use Rattle.ranges.proofs.Ranges.{range_done}
+use Rattle.ranges.proofs.Ranges.{everywhere_done, somewhere_done}
 use Rattle.ranges.proofs.somewhere_block.Goals as goal
 
-pub returns : goal.returns
-returns c =
+pub returns-then-range : goal.returns-then-range
+returns-then-range c =
     let a = c.args in
-    let decode = c.load in
-    let fill = c.gather_all in
-    range_done (words_of a.words.now) a.range.left a.places a.distances.now a.block a.range.bounds a.range.dual _ _ _ c.requires.0 decode.ensures fill.ensures
+    rw c.if-range.true (everywhere_done (words_of a.words.now) a.range.left a.distances.places a.distances.table.now a.block a.range.bounds c.requires.0 c.load_left.ensures c.gather_all.ensures)
+
+pub returns-else-range : goal.returns-else-range
+returns-else-range c =
+    let a = c.args in
+    rw c.if-range.false (somewhere_done (words_of a.words.now) a.range.left a.distances.places a.distances.table.now a.block a.range.bounds c.requires.0 c.load_left.ensures c.gather_all-else-range.ensures)

@@ -1,10 +1,13 @@
--- Each turn puts one byte more of those that are copied.
-use Rattle.words.proofs.Puts.{put-take}
-use Rattle.std.proofs.Common.{rules}
+-- What std's copy leaves is `put`.
+use mathlib.Core.Path.{◌∙◌, ap}
+use native.Mathlib.Omega.{arith}
+use lib.ListN.{length}
+use Rattle.words.specs.Rows.{put}
+use Rattle.words.proofs.Parts.{put_back}
 use Rattle.words.proofs.copy_bytes.Goals as goal
 
-pub loop-i-preserved : goal.loop-i-preserved
-loop-i-preserved c =
+pub returns : goal.returns
+returns c =
     let g = c.args in
-    let h = c.loop-i in
-    (search rules, search rules, rw h.invariant.2 (put-take g.to.now g.at g.from.now h.i (search rules) (search rules)))
+    let v = c.copy_from_slice.ensures.after in
+    put_back g.to.now _ g.at _ (omega (arith, ap length v)) ∙ ap (put g.to.now g.at) v

@@ -7,7 +7,7 @@ use Rattle.corrections.specs.Corrections.{well_formed, in_turn}
 use Rattle.corrections.proofs.check.check_corrections.Given as goal
 
 abbrev pub invariant-loop-k : goal.invariant-loop-k
-invariant-loop-k l = (l.k ≤ l.count) × (in_turn (well_formed (words_of l.list) l.grid) l.k ≡ accepted tt)
+invariant-loop-k l = (l.k ≤ l.k-end) × (in_turn (well_formed (words_of l.list) l.grid) l.k ≡ accepted tt)
 
 abbrev pub decreases-loop-k : goal.decreases-loop-k
-decreases-loop-k l = l.count - l.k
+decreases-loop-k l = l.k-end - l.k

@@ -11,8 +11,9 @@ use Rattle.evaluation.proofs.walk.words_needed.Given as goal
 
 abbrev pub invariant-loop-k : goal.invariant-loop-k
 invariant-loop-k l =
-    Walk (words_of l.sheet) l.layout.signals l.layout.samples (lines_of l.sheet l.distances) l.k l.at l.firsts l.lengths
-    × (l.needed ≡ 1 + line_index (is_wide (words_of l.sheet)) l.layout.places (lines_of l.sheet l.distances) l.k)
+    let lines = lines_of l.accepted.sheet.now l.accepted.distances.now in
+    Walk (words_of l.accepted.sheet.now) l.layout.signals l.layout.samples lines l.k l.at l.extents
+    × (l.needed ≡ 1 + line_index (is_wide (words_of l.accepted.sheet.now)) l.layout.places lines l.k)
     × (l.layout.lines ≤ most_lines)
 
 abbrev pub decreases-loop-k : goal.decreases-loop-k

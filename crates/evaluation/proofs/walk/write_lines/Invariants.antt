@@ -1,7 +1,6 @@
 -- Each turn passes one line and writes it behind those before.
 use mathlib.Core.Path.{◌≡◌}
 use Prim.Native.Nat.{◌-◌, ◌≤◌}
-use lib.ListN.{length}
 use Rattle.words.specs.Bytes.{words_of, after_words}
 use Rattle.checks.specs.Limits.{most_lines}
 use Rattle.lines.proofs.Walk.{Walk}
@@ -11,9 +10,9 @@ use Rattle.evaluation.proofs.walk.write_lines.Given as goal
 
 abbrev pub invariant-loop-k : goal.invariant-loop-k
 invariant-loop-k l =
-    Walk (words_of l.sheet) l.layout.signals l.layout.samples (lines_of l.sheet l.distances) l.k l.at l.firsts l.lengths
-    × (length l.answer ≡ length l.initial.answer)
-    × LinesDone (words_of l.sheet) l.layout (lines_of l.sheet l.distances) (words_of l.initial.answer) l.k (words_of l.answer) l.starts l.to l.tally
+    let lines = lines_of l.accepted.sheet.now l.accepted.distances.now in
+    Walk (words_of l.accepted.sheet.now) l.layout.signals l.layout.samples lines l.k l.at l.extents
+    × LinesDone (words_of l.accepted.sheet.now) l.layout lines (words_of l.initial.answer) l.k (words_of l.answer) l.starts l.to l.tally
     × (after_words l.answer ≡ after_words l.initial.answer)
     × (l.layout.lines ≤ most_lines)
 

@@ -1,10 +1,8 @@
--- Each turn clears one place more.
-use Prim.Native.Nat.{◌-◌, ◌≤◌}
+-- Each turn clears one place more of the first ones.
+use Rattle.std.proofs.Common.{◌++◌}
+use lib.ListN.{drop}
 use Rattle.iteration.specs.WorkRows.{Cleared}
 use Rattle.iteration.proofs.mask.clear_all.Given as goal
 
 abbrev pub invariant-loop-place : goal.invariant-loop-place
-invariant-loop-place l = (l.place ≤ l.places) × Cleared l.place l.initial.rows l.rows
-
-abbrev pub decreases-loop-place : goal.decreases-loop-place
-decreases-loop-place l = l.places - l.place
+invariant-loop-place l = Cleared l.place-index l.fn.rows (l.place-items ++ drop l.places l.fn.rows)

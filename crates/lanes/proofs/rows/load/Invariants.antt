@@ -1,11 +1,8 @@
--- Each turn decodes the strip of one place more.
-use Prim.Native.Nat.{◌-◌, ◌≤◌}
+-- Each turn decodes one lane more.
 use Rattle.words.specs.Bytes.{words_of}
-use Rattle.lanes.specs.Rows.{RowWritten, lane_signal}
+use Rattle.lanes.specs.Rows.{lane_signal}
+use Rattle.lanes.proofs.RowLaws.{Filled}
 use Rattle.lanes.proofs.rows.load.Given as goal
 
-abbrev pub invariant-loop-place : goal.invariant-loop-place
-invariant-loop-place l = (l.place ≤ l.places) × RowWritten l.row l.place (lane_signal (words_of l.words) l.start l.places l.block) l.initial.rows l.rows
-
-abbrev pub decreases-loop-place : goal.decreases-loop-place
-decreases-loop-place l = l.places - l.place
+abbrev pub invariant-loop-lane : goal.invariant-loop-lane
+invariant-loop-lane l = Filled l.lane (λ lane. lane_signal (words_of l.words) l.start l.places l.block lane l.place) l.x-items

@@ -11,14 +11,14 @@ use Rattle.sheet.proofs.Whole.{end_next}
 use Rattle.sheet.proofs.check.check_sheet.Goals as goal
 
 pub overflow_mul-count : goal.overflow_mul-count
-overflow_mul-count c = omega (arith, sample_count_lem (head_accepted _ _ (sym c.in-Sizes.ensures)))
+overflow_mul-count c = omega (arith, sample_count_lem (head_accepted _ _ (sym c.in_ok-sizes.ensures)))
 
 pub overflow_mul-count-2 : goal.overflow_mul-count-2
-overflow_mul-count-2 c = omega (arith, sample_count_lem (head_accepted _ _ (sym c.in-Sizes.ensures)))
+overflow_mul-count-2 c = omega (arith, sample_count_lem (head_accepted _ _ (sym c.in_ok-sizes.ensures)))
 
-pub returns-in-Lines : goal.returns-in-Lines
-returns-in-Lines c =
+pub returns : goal.returns
+returns c =
     let s = words_of c.args.s.now in
-    let roads = mapped_accepted (road_at (is_wide s)) (roads_from s c.in-Sizes.sizes.places (length s) 0 0) (sym c.in-Passed.ensures) in
+    let roads = mapped_accepted (road_at (is_wide s)) (roads_from s c.in_ok-sizes.sizes.places (length s) 0 0) (sym c.in_ok-recording.ensures) in
     c.check_end.ensures
-    ∙ sym (end_next s c.args.distances (sym c.in-Sizes.ensures) roads.1 roads.2 (sym c.in-Passed-check_samples.ensures) (sym c.in-Lines.ensures))
+    ∙ sym (end_next s c.args.distances (sym c.in_ok-sizes.ensures) roads.1 roads.2 (sym c.in_ok-table.ensures) (sym c.in_ok-lines.ensures))

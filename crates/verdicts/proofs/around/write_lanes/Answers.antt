@@ -1,24 +1,31 @@
 -- Each turn puts the sample of one lane more after those before it, and adds its yes verdicts.
+use mathlib.Core.Path.{◌∙◌}
+use Prim.Native.Nat.{◌≤◌}
 use native.Mathlib.Omega.{arith}
+use lib.ListN.{length, length-replicate}
 use Rattle.words.proofs.Words.{words_count}
-use Rattle.samples.proofs.LineRows.{none_done, yes_fits, row_room, one_more}
-use Rattle.verdicts.proofs.Blocks.{lane_entry}
+use Rattle.samples.proofs.LineRows.{none_done, yes_fits, row_room}
+use Rattle.verdicts.proofs.Points.{sample_long, row_there, row_yes}
+use Rattle.verdicts.proofs.Blocks.{one_lane}
 use Rattle.std.proofs.Common.{rules}
 use Rattle.verdicts.proofs.around.write_lanes.Goals as goal
 
 pub loop-lane-init : goal.loop-lane-init
-loop-lane-init c = (search rules, none_done _ _ _ _)
+loop-lane-init g c = (length-replicate g.row.N 0, none_done _ _ _ _)
+
+pub write_sample-yes-requires : goal.write_sample-yes-requires
+write_sample-yes-requires g c =
+    let filled = c.copy_lane.ensures in
+    let room : c.args.places ≤ length c.copy_lane.new.values = omega (arith, c.copy_lane.auto.values, c.loop-lane.invariant.0, c.requires.1) in
+    (row_there filled room (λ l b. c.requires.0.bound l c.loop-lane.lane b c.loop-lane-test.true), omega (arith, sample_long filled room, row_room _ _ _ _ c.loop-lane.invariant.1 c.requires.2 c.loop-lane-test.true))
 
 pub overflow_add-yes : goal.overflow_add-yes
-overflow_add-yes c =
+overflow_add-yes g c =
     let loop = c.loop-lane in
-    omega (arith, yes_fits _ _ _ _ loop.invariant.1 _ c.write_sample-yes.ensures.counted, row_room _ _ _ _ loop.invariant.1 c.requires.1 c.loop-lane-test.true, words_count loop.answer)
+    let room : c.args.places ≤ length c.copy_lane.new.values = omega (arith, c.copy_lane.auto.values, loop.invariant.0, c.requires.1) in
+    omega (arith, yes_fits _ _ _ _ loop.invariant.1 _ (c.write_sample-yes.ensures.counted ∙ row_yes c.copy_lane.ensures room), row_room _ _ _ _ loop.invariant.1 c.requires.2 c.loop-lane-test.true, words_count loop.own)
 
 pub loop-lane-preserved : goal.loop-lane-preserved
-loop-lane-preserved c =
+loop-lane-preserved g c =
     let called = c.write_sample-yes in
-    let loop = c.loop-lane in (
-      search rules,
-      one_more _ _ _ _ loop.invariant.1 (λ i l. lane_entry c.args.rows.now loop.lane l i) (omega (arith, c.requires.1)) called.auto.answer called.ensures.written
-          called.ensures.counted called.ensures.tail,
-    )
+    (search rules, one_lane c.loop-lane.invariant.1 c.copy_lane.ensures (omega (arith, c.copy_lane.auto.values, c.loop-lane.invariant.0, c.requires.1)) (omega (arith, c.requires.2)) called.auto.line called.ensures.written called.ensures.counted called.ensures.tail)

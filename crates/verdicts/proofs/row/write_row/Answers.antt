@@ -1,8 +1,12 @@
--- The row of values is what is written, and its yes verdicts are what is counted.
-use mathlib.Core.Path.{◌∙◌}
-use Rattle.words.proofs.Words.{words_take}
-use Rattle.verdicts.proofs.Points.{row_yes}
+-- The row of values is what is written: chain numbers, as many as there are places.
+use Prim.Native.Nat.{◌≤◌}
+use native.Mathlib.Omega.{arith}
+use lib.ListN.{length}
+use Rattle.verdicts.proofs.Points.{row_bound, sample_long, row_there}
 use Rattle.verdicts.proofs.row.write_row.Goals as goal
 
-pub returns-clause-counted : goal.returns-clause-counted
-returns-clause-counted c = c.write_sample.ensures.counted ∙ row_yes (rw words_take at c.value_row.ensures.filled)
+pub write_sample-requires : goal.write_sample-requires
+write_sample-requires c =
+    let filled = c.value_row.ensures.filled in
+    let room : c.args.line.layout.places ≤ length c.value_row.new.row = omega (arith, c.requires.0.room, c.value_row.ensures.long) in
+    (row_there filled room (λ l b. row_bound _ _ _ _ _ l c.requires.0.reads), omega (arith, sample_long filled room, c.requires.1))

@@ -1,12 +1,11 @@
--- Each turn puts one row more after those of the line, and adds its yes verdicts. The words before the line stay as they are.
-use mathlib.Core.Path.{◌∙◌}
-use Prim.Native.Nat.{◌≤◌}
+-- Each turn puts one row more after those of the line, and adds its yes verdicts.
+use mathlib.Core.Path.{refl, subst, ◌∙◌}
+use Prim.Native.Nat.{ℕ}
 use native.Mathlib.Omega.{arith}
-use lib.ListN.{length}
-use Rattle.words.specs.Bytes.{words_of}
 use Rattle.words.proofs.Words.{words_count}
-use Rattle.samples.proofs.LineRows.{none_done, yes_fits, row_room, all_done}
-use Rattle.verdicts.proofs.Points.{ready_after, filled_after, one_row}
+use Rattle.operators.specs.Rows.{Filled}
+use Rattle.samples.proofs.LineRows.{none_done, yes_fits, row_room, all_done, one_more}
+use Rattle.verdicts.specs.Rows.{value_in}
 use Rattle.std.proofs.Common.{rules}
 use Rattle.verdicts.proofs.row.write_rows.Goals as goal
 
@@ -16,30 +15,28 @@ loop-t-init c = (search rules, none_done _ _ _ _, search rules, λ u e. absurd (
 pub write_row-yes-requires : goal.write_row-yes-requires
 write_row-yes-requires c =
     let loop = c.loop-t in (
-      ready_after _ _ _ loop.invariant.1 (omega (arith, c.requires.room)) (record {
-        sheet = c.requires.sheet;
-        reads = c.requires.reads loop.t c.loop-t-test.true;
-        room = omega (arith, loop.invariant.2, c.requires.sheet.places);
+      record {
+        sheet = c.requires.0.sheet;
+        reads = c.requires.0.reads loop.t c.loop-t-test.true;
+        room = omega (arith, loop.invariant.2, c.requires.0.sheet.places);
         former = loop.invariant.3;
-      }),
-      omega (arith, loop.invariant.1.next),
-      row_room _ _ _ _ loop.invariant.1 c.requires.room c.loop-t-test.true,
+      },
+      row_room _ _ _ _ loop.invariant.1 (omega (arith, c.requires.1)) c.loop-t-test.true,
     )
 
 pub overflow_add-yes : goal.overflow_add-yes
 overflow_add-yes c =
     let loop = c.loop-t in
-    omega (arith, yes_fits _ _ _ _ loop.invariant.1 _ c.write_row-yes.ensures.counted, row_room _ _ _ _ loop.invariant.1 c.requires.room c.loop-t-test.true, words_count loop.answer)
+    omega (arith, yes_fits _ _ _ _ loop.invariant.1 _ c.write_row-yes.ensures.counted, row_room _ _ _ _ loop.invariant.1 (omega (arith, c.requires.1)) c.loop-t-test.true, words_count loop.own)
 
 pub loop-t-preserved : goal.loop-t-preserved
 loop-t-preserved c =
     let loop = c.loop-t in
-    let called = c.write_row-yes in
-    let begins : c.args.begin ≤ length (words_of c.args.answer.now) = omega (arith, c.requires.room) in (
+    let called = c.write_row-yes in (
       search rules,
-      one_row _ _ _ loop.invariant.1 begins called.auto.answer called.ensures.written called.ensures.counted called.ensures.tail,
+      one_more _ _ _ _ loop.invariant.1 refl (omega arith) called.auto.own called.ensures.written called.ensures.counted called.ensures.tail,
       called.auto.held ∙ loop.invariant.2,
-      λ u e. filled_after _ _ _ loop.invariant.1 begins called.ensures.held (omega arith),
+      λ u e. subst (λ (v : ℕ). Filled c.args.line.layout.places (value_in c.args.line v) called.new.held) (omega arith) called.ensures.held,
     )
 
 pub returns-clause-written : goal.returns-clause-written

@@ -1,4 +1,4 @@
--- Each turn puts one row more after those of the line, and adds its yes verdicts. The words before the line stay as they are.
+-- Each turn puts one row more after those of the line, and adds its yes verdicts.
 use mathlib.Core.Path.{◌≡◌}
 use Prim.Native.Nat.{ℕ, suc, ◌-◌, ◌≤◌}
 use lib.ListN.{length}
@@ -10,9 +10,9 @@ use Rattle.verdicts.proofs.row.write_rows.Given as goal
 
 abbrev pub invariant-loop-t : goal.invariant-loop-t
 invariant-loop-t l =
-    (l.t ≤ l.samples) × RowsDone (value_in l.sheet l.layout l.initial.answer l.begin l.operator) l.layout.places l.initial.answer l.begin l.t l.answer l.to l.yes
+    (l.t ≤ l.samples) × RowsDone (value_in l.fn.line) l.fn.line.layout.places l.initial.own 0 l.t l.own l.to l.yes
     × (length l.held ≡ most_places)
-    × ((u : ℕ) → l.t ≡ suc u → Filled l.layout.places (value_in l.sheet l.layout l.initial.answer l.begin l.operator u) l.held)
+    × ((u : ℕ) → l.t ≡ suc u → Filled l.fn.line.layout.places (value_in l.fn.line u) l.held)
 
 abbrev pub decreases-loop-t : goal.decreases-loop-t
 decreases-loop-t l = l.samples - l.t

@@ -5,4 +5,4 @@ use Rattle.verdicts.proofs.row_values.value_row.Goals as goal
 
 pub eventually_row-requires : goal.eventually_row-requires
 unfolding row_value
-eventually_row-requires c = let here = ready_as c.requires c.in-Eventually.is in (here.reads, here.room, here.former)
+eventually_row-requires c = let here = ready_as c.requires c.in-Eventually.is in rw c.operand-in-Eventually.ensures (here.reads, here.room, here.former)

@@ -1,13 +1,10 @@
 -- Each turn takes the sample at one place more into the least.
-use Prim.Native.Nat.{◌-◌}
-use Rattle.words.specs.Bytes.{words_of}
-use Rattle.windows.specs.Groups.{lowered}
+use Rattle.std.proofs.Common.{◌++◌}
+use lib.ListN.{drop}
+use Rattle.windows.specs.Groups.{lowered_of}
 use Rattle.operators.proofs.RowLaws.{Passed}
 use Rattle.windows.proofs.group.lower_least.Given as goal
 
 abbrev pub invariant-loop-lane : goal.invariant-loop-lane
 invariant-loop-lane l =
-    Passed l.group.count (lowered (words_of l.words) l.start l.places l.u l.group l.initial.least) l.initial.least l.least l.lane
-
-abbrev pub decreases-loop-lane : goal.decreases-loop-lane
-decreases-loop-lane l = l.lane-end - l.lane
+    Passed l.group.count (lowered_of l.fn.left l.u l.group l.fn.least) l.fn.least (l.x-items ++ drop l.group.count l.fn.least) l.lane

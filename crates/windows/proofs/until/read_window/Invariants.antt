@@ -3,13 +3,12 @@
 use mathlib.Core.Path.{◌≡◌}
 use Prim.Native.Nat.{◌-◌, ◌≤◌}
 use lib.ListN.{length}
-use Rattle.words.specs.Bytes.{words_of}
-use Rattle.windows.specs.Carried.{CarriesGroup}
+use Rattle.windows.specs.Reading.{CarriesOf}
 use Rattle.windows.proofs.until.read_window.Given as goal
 
 abbrev pub invariant-loop-k : goal.invariant-loop-k
 invariant-loop-k l =
-    (l.k ≤ l.end) × (length l.least ≡ length l.initial.least) × (length l.best ≡ length l.initial.best) × CarriesGroup (words_of l.words) l.places l.until l.t l.group l.k l.least l.best
+    (l.k ≤ l.end) × (length l.least ≡ length l.initial.least) × (length l.best ≡ length l.initial.best) × CarriesOf l.fn.operands l.t l.group l.k l.least l.best
 
 abbrev pub decreases-loop-k : goal.decreases-loop-k
 decreases-loop-k l = l.end - l.k

@@ -1,0 +1,22 @@
+// A table of distances that is there, with a row for each place.
+ghost use Rattle.std.specs.Prelude.{◌≡◌, ◌+◌, ◌*◌, ◌<◌, get_or};
+ghost use Rattle.words.specs.Bytes.{words_of, numbers_of};
+ghost use Rattle.distances.specs.Distances.{HasRoom};
+
+#[derive(Clone, Copy)]
+pub struct Distances<'a> {
+    pub table: &'a [u8],
+    pub places: usize,
+    ghost there: { HasRoom places table.now },
+}
+
+impl<'a> Distances<'a> {
+    // From a place to another, NONE where no path is.
+    #[tactic(auto, using(crate::proofs::Rooms::distance_there))]
+    pub fn between(self, from: usize, to: usize) -> u64
+        requires { (from < self.places) × (to < self.places) }
+        ensures { result ≡ get_or (numbers_of (words_of self.entry.table.now)) (from * self.entry.places + to) 0 }
+    {
+        words::number_at(self.table, from * self.places + to)
+    }
+}

@@ -1,0 +1,10 @@
+-- Each turn decodes the strip of one place more of the first ones.
+use Rattle.std.proofs.Common.{◌++◌}
+use lib.ListN.{drop}
+use Rattle.words.specs.Bytes.{words_of}
+use Rattle.lanes.specs.Lanes.{left_row}
+use Rattle.lanes.specs.Rows.{RowWritten, lane_signal}
+use Rattle.ranges.proofs.load_left.Given as goal
+
+abbrev pub invariant-loop-l : goal.invariant-loop-l
+invariant-loop-l l = RowWritten left_row l.l (lane_signal (words_of l.words) l.start l.places l.block) l.fn.rows (l.place-items ++ drop l.places l.fn.rows)
