@@ -1,11 +1,11 @@
 -- A line written sample after sample into the answer: the next row of words is put after those before it, and its yes verdicts are added.
-use mathlib.Core.Path.{◌≡◌, refl, sym, ap, ap₂, ◌∙◌}
+use mathlib.Core.Path.{◌≡◌, refl, sym, ap, ap₂, fun_ext, ◌∙◌}
 use mathlib.Core.List.{List}
 use Prim.Native.Nat.{ℕ, ◌+◌, ◌*◌, ◌<◌, ◌≤◌}
 use native.Mathlib.Nat.{mul-le-mul_right, suc-mul}
 use native.Mathlib.Numerals.{add-one}
 use native.Mathlib.Omega.{arith}
-use lib.ListN.{length}
+use lib.ListN.{length, get_or}
 use Rattle.words.specs.Bytes.{words_of, after_words}
 use Rattle.words.specs.Rows.{row, concat, rows, put}
 use Rattle.words.proofs.Puts.{put_nil, put-append}
@@ -14,6 +14,7 @@ use Rattle.words.proofs.Words.{words_count}
 use Rattle.counting.specs.Totals.{count, sum_below}
 use Rattle.counting.proofs.Totals.{sum_more, yes_bound, table_yes_bound, most_none}
 use Rattle.values.specs.Chain.{chain_word, chain_verdict}
+use Rattle.samples.specs.Sample.{entry}
 use Rattle.samples.specs.Written.{SamplesWritten}
 
 put-row : (s : List ℕ) (begin : ℕ) (f : ℕ → ℕ → ℕ) (t m : ℕ) → begin ≤ length s → put (put s begin (rows f t m)) (begin + t * m) (row (f t) m) ≡ put s begin (rows f (t + 1) m)
@@ -64,3 +65,7 @@ module _ (value : ℕ → ℕ → ℕ) (n : ℕ) (answer : List ℕ) (begin : �
       counted = ap₂ ◌+◌ done.counted (counts ∙ ap (λ g. sum_below (λ l. count (chain_verdict (g l))) n) same) ∙ sym (sum_more yes_at t);
       tail = tail ∙ done.tail;
     }
+
+-- values that stand side by side are every first number from the first on
+pub side_by_side : (values : List ℕ) → entry values 1 0 ≡ (λ l. get_or values l 0)
+side_by_side values = fun_ext (λ l. ap (λ (i : ℕ). get_or values i 0) (omega arith))

@@ -40,7 +40,7 @@ use Rattle.surrounds.specs.declared.surround.Surround.{Surround}
 use Rattle.surrounds.specs.Surround.{surround_in}
 use Rattle.locating.specs.declared.RowOperator.{RowOperator}
 use Rattle.locating.specs.declared.RowOperator.TheVariants.{True, Atom, Not, Both, Until, Eventually}
-use Rattle.samples.specs.Sample.{SampleThere}
+use Rattle.samples.specs.Sample.{ValuesThere}
 use Rattle.verdicts.specs.Rows.{sheet_recording, row_value, RowReads, RowReady}
 
 -- ---- no value is beyond `highest`
@@ -123,7 +123,7 @@ module _ {n : ℕ} {f : ℕ → ℕ} {values : List ℕ} (filled : Filled n f va
   number_there : (l : ℕ) → l < n → get_or (take n values) l 0 ≡ f l
   number_there l b = get_or-take n values l 0 b ∙ filled.at l b
 
-  pub row_there : ((l : ℕ) → l < n → f l ≤ highest) → SampleThere (take n values)
+  pub row_there : ((l : ℕ) → l < n → f l ≤ highest) → ValuesThere (take n values)
   row_there small l b = let inside : l < n = omega (arith, sample_long) in rw (number_there l inside) (small l inside)
 
   pub row_words : row (λ l. chain_word (get_or (take n values) l 0)) (length (take n values)) ≡ row (λ l. chain_word (f l)) n

@@ -13,7 +13,7 @@ use lanes::rows::Block;
 use lanes::{LANES, Place};
 use locating::Around;
 use ranges::somewhere_block;
-use samples::sample::write_sample;
+use samples::sample::write_values;
 use samples::tally::Tally;
 use sheet::check::Layout;
 use surrounds::surround::{SheetNetwork, surround_block};
@@ -56,7 +56,7 @@ fn write_lanes<const N: usize>(
     let mut at = to;
     for lane in 0..samples {
         copy_lane(rows, lane, places, &mut values);
-        yes += write_sample(&values[..places], own, at);
+        yes += write_values(&values[..places], own, at);
         at += places;
     }
     yes

@@ -8,7 +8,7 @@ ghost use Rattle.verdicts.specs.Rows.{RowReadyIn, RowsReadyIn, value_in, row_wor
 use crate::row_values::value_row;
 use checks::limits::MOST_PLACES;
 use locating::RowOperator;
-use samples::sample::write_sample;
+use samples::sample::write_values;
 use samples::tally::Tally;
 use sheet::check::Layout;
 
@@ -32,7 +32,7 @@ fn write_row(line: RowLine, own: &mut [u8], to: usize, t: usize, held: &mut [u32
     ensures tail { after_words own.new ≡ after_words own.old }
 {
     value_row(line, t, held);
-    write_sample(&held[..line.layout.places], own, to)
+    write_values(&held[..line.layout.places], own, to)
 }
 
 // Writes all words of a line of `samples` samples.

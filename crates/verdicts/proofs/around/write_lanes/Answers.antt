@@ -13,8 +13,8 @@ use Rattle.verdicts.proofs.around.write_lanes.Goals as goal
 pub loop-lane-init : goal.loop-lane-init
 loop-lane-init g c = (length-replicate g.row.N 0, none_done _ _ _ _)
 
-pub write_sample-yes-requires : goal.write_sample-yes-requires
-write_sample-yes-requires g c =
+pub write_values-yes-requires : goal.write_values-yes-requires
+write_values-yes-requires g c =
     let filled = c.copy_lane.ensures in
     let room : c.args.places ≤ length c.copy_lane.new.values = omega (arith, c.copy_lane.auto.values, c.loop-lane.invariant.0, c.requires.1) in
     (row_there filled room (λ l b. c.requires.0.bound l c.loop-lane.lane b c.loop-lane-test.true), omega (arith, sample_long filled room, row_room _ _ _ _ c.loop-lane.invariant.1 c.requires.2 c.loop-lane-test.true))
@@ -23,9 +23,9 @@ pub overflow_add-yes : goal.overflow_add-yes
 overflow_add-yes g c =
     let loop = c.loop-lane in
     let room : c.args.places ≤ length c.copy_lane.new.values = omega (arith, c.copy_lane.auto.values, loop.invariant.0, c.requires.1) in
-    omega (arith, yes_fits _ _ _ _ loop.invariant.1 _ (c.write_sample-yes.ensures.counted ∙ row_yes c.copy_lane.ensures room), row_room _ _ _ _ loop.invariant.1 c.requires.2 c.loop-lane-test.true, words_count loop.own)
+    omega (arith, yes_fits _ _ _ _ loop.invariant.1 _ (c.write_values-yes.ensures.counted ∙ row_yes c.copy_lane.ensures room), row_room _ _ _ _ loop.invariant.1 c.requires.2 c.loop-lane-test.true, words_count loop.own)
 
 pub loop-lane-preserved : goal.loop-lane-preserved
 loop-lane-preserved g c =
-    let called = c.write_sample-yes in
+    let called = c.write_values-yes in
     (search rules, one_lane c.loop-lane.invariant.1 c.copy_lane.ensures (omega (arith, c.copy_lane.auto.values, c.loop-lane.invariant.0, c.requires.1)) (omega (arith, c.requires.2)) called.auto.line called.ensures.written called.ensures.counted called.ensures.tail)
