@@ -7,6 +7,7 @@ use Prim.Native.Nat.{ℕ, ◌+◌, ◌*◌, ◌<◌, ◌≤◌, ◌^◌}
 use native.Mathlib.Nat.{le_of_lt}
 use native.Mathlib.Omega.{arith}
 use lib.ListN.{length, get_or, set, take, replicate, get_or-append}
+use Rattle.std.specs.Prelude.{Result, Err}
 use Rattle.words.specs.Rows.{rows, padded}
 use Rattle.words.proofs.Rows.{in_table, length-rows, get_or-rows}
 use Rattle.network.specs.Network.{Network, distance_in}
@@ -21,11 +22,13 @@ use Rattle.sheet.specs.Layout.{Layout}
 use Rattle.lines.specs.GoodLines.{GoodTable}
 use Rattle.distances.specs.Distances.{distance_number, distance_table}
 use Rattle.sheet.specs.Recording.{network}
-use Rattle.lines.specs.Decoding.{line_said, line_and_next, no_extent}
+use Rattle.lines.specs.Decoding.{line_said, line_and_next, line_after, no_extent}
 use Rattle.sheet.specs.Checking.{layout_of}
 use Rattle.sheet.proofs.Surveys.{accepted_roads}
 use Rattle.checks.specs.Checked.{accepted}
-use Rattle.checks.proofs.Checks.{same_accepted}
+use Rattle.checks.specs.Said.{said}
+use Rattle.checks.specs.declared.fault.Refusal.{Refusal}
+use Rattle.checks.proofs.Checks.{never, same_accepted}
 use Rattle.lines.proofs.Walk.{Walk, walk_start, walk_step, walk_within}
 use Rattle.sheet.proofs.Whole.{accepted_sheet}
 use Rattle.iteration.specs.Steps.{RoadsIn}
@@ -86,6 +89,13 @@ accepted_table s layout distances accepting =
       };
       roads = good_roads s L.roads L.sizes.places good_road;
     })
+
+-- ---- a line that is decoded where the walk has come to is as the check has read it
+
+module _ (s : List ℕ) (v T : ℕ) (lines : List Line) (k at : ℕ) (extents : List Extent) (walk : Walk s v T lines k at extents) (more : k < length lines)
+    (decoded : Result (Read.Line × ℕ) Refusal) (reads : said line_and_next decoded ≡ line_after s v T (take k extents) at) where
+  pub never_refused : (refusal : Refusal) → decoded ≡ Err refusal → ⊥
+  never_refused refusal e = never (sym (ap (said line_and_next) e) ∙ reads ∙ (walk_step s v T lines k at extents walk more).reads)
 
 -- ---- where a line of the answer ends
 
