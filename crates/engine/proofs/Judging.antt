@@ -4,11 +4,12 @@ use mathlib.Core.Path.{◌≡◌, sym, ap, ap₂, subst, ◌∙◌}
 use mathlib.Core.List.{List}
 use Prim.Native.Nat.{ℕ, ◌+◌, ◌<◌, ◌≤◌}
 use native.Mathlib.Nat.{add_comm}
-use lib.ListN.{length}
+use lib.ListN.{length, replicate}
 use borrow.Author.Tests.{le-leb, lt-leb}
 use Rattle.std.specs.Prelude.{Result, Ok, Err}
-use Rattle.words.specs.Bytes.{words_of, numbers_of}
+use Rattle.words.specs.Bytes.{words_of, numbers_of, after_numbers}
 use Rattle.words.proofs.Numbers.{same_count}
+use Rattle.words.proofs.Zeros.{zero_numbers, zero_numbers_tail}
 use Rattle.sheet.specs.declared.check.Layout as Code
 use Rattle.checks.specs.declared.fault.Refusal.{Refusal}
 use Rattle.checks.specs.Faults.{fault_number}
@@ -20,6 +21,7 @@ use Rattle.checks.specs.Checked.{mapped}
 use Rattle.sheet.specs.Checking.{layout_of}
 use Rattle.sheet.specs.Recording.{network}
 use Rattle.sheet.specs.Survey.{surveyed_by, surveyed}
+use Rattle.sheet.proofs.Surveys.{refusing}
 use Rattle.checks.proofs.Checks.{never, mapped_accepted, mapped_refused}
 use Rattle.answers.specs.Answer.{words_needed}
 use Rattle.answers.specs.Judged as J
@@ -29,7 +31,7 @@ use Rattle.samples.specs.declared.tally.Tally.{Tally}
 use Rattle.evaluation.specs.Lines.{found_by, found, Accepting}
 use Rattle.engine.specs.declared.Answered.{Answered}
 use Rattle.engine.specs.Answer.{AnswerWritten}
-use Rattle.engine.specs.Lent.{judged_in, AnsweredIn}
+use Rattle.engine.specs.Lent.{judged_in, RefusalLeft, AnsweredIn}
 
 accepting_here : (s distances : List ℕ) (layout : Code.Layout) → mapped (layout_of s) (checked s (length distances)) ≡ accepted layout
     → distances ≡ surveyed s (length distances) → Accepting s layout distances
@@ -67,14 +69,31 @@ module _ (s : List ℕ) (room answer : ℕ) where
     pub judged_short : answer < words_needed (is_wide s) (found s room).sizes.places (found s room).lines → judged s room answer ≡ refusal room answer 15 (length s)
     judged_short h = judged_by_room s room answer accepts (lt-leb _ _ h)
 
--- a refusal that is handed on
+-- a refusal that is handed on, with the table as the survey has left it
 pub refusal_handed : (sheet distances answer left written : List ℕ) (r : Result Answered Refusal) {number place : ℕ} → said (λ (told : Answered). told) r ≡ refused number place
-    → judged_in sheet distances answer ≡ refusal (length (numbers_of (words_of distances))) (length (words_of answer)) number place → AnsweredIn sheet distances answer r left written
-refusal_handed sheet distances answer left written (Ok told) e same = absurd (never (sym e))
-refusal_handed sheet distances answer left written (Err r) {number} {place} e same =
+    → mapped (layout_of (words_of sheet)) (checked (words_of sheet) (length (numbers_of (words_of distances)))) ≡ refused number place
+    → numbers_of (words_of left) ≡ surveyed (words_of sheet) (length (numbers_of (words_of distances))) → after_numbers left ≡ replicate (length (after_numbers distances)) 0
+    → AnsweredIn sheet distances answer r left written
+refusal_handed sheet distances answer left written (Ok told) e refuses measured rest = absurd (never (sym e))
+refusal_handed sheet distances answer left written (Err r) {number} {place} e refuses measured rest =
+    let room = length (numbers_of (words_of distances)) in
+    let words = length (words_of answer) in
     let numbers : number ≡ fault_number r.fault = cc in
-    let places : place ≡ r.place = cc in
-    same ∙ ap₂ (refusal (length (numbers_of (words_of distances))) (length (words_of answer))) numbers places
+    let places : place ≡ r.place = cc in record {
+      told = judged_refused (words_of sheet) room words refuses ∙ ap₂ (refusal room words) numbers places;
+      measured = measured ∙ refusing (words_of sheet) room number place refuses;
+      rest = rest;
+    }
+
+-- a refusal after which the table is cleared
+pub refusal_cleared : (sheet distances answer cleared : List ℕ) (n : ℕ) (r : Refusal)
+    → judged_in sheet distances answer ≡ refusal (length (numbers_of (words_of distances))) (length (words_of answer)) (fault_number r.fault) r.place
+    → n ≡ length distances → cleared ≡ replicate n 0 → RefusalLeft sheet distances answer r cleared
+refusal_cleared sheet distances answer cleared n r told same zeros = record {
+  told = told;
+  measured = ap (λ (b : List ℕ). numbers_of (words_of b)) (zeros ∙ ap (λ (k : ℕ). replicate k 0) same) ∙ zero_numbers distances;
+  rest = zero_numbers_tail distances cleared n same zeros;
+}
 
 -- an answer that is written is the one that is answered
 module _ {s : List ℕ} {L : Layout} (room : ℕ) {answer after : List ℕ} {end : ℕ} {tally : Tally} (done : AnswerWritten s L answer after end tally) where

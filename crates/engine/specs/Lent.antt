@@ -28,7 +28,12 @@ module _ (sheet distances answer : List ℕ) where
     pub tail : after_words answer_after ≡ replicate (length (after_words answer)) 0
     pub rest : after_numbers distances_after ≡ replicate (length (after_numbers distances)) 0
 
-  -- a refusal is told, and what it leaves is not said
+  -- a refusal is told and leaves no distance; what it leaves of the answer is not said
+  pub record RefusalLeft (r : Refusal) (distances_after : List ℕ) : Type 0 where
+    pub told : judged_in ≡ refusal (length (numbers_of (words_of distances))) (length (words_of answer)) (fault_number r.fault) r.place
+    pub measured : numbers_of (words_of distances_after) ≡ replicate (length (numbers_of (words_of distances))) 0
+    pub rest : after_numbers distances_after ≡ replicate (length (after_numbers distances)) 0
+
   abbrev pub AnsweredIn : Result Answered Refusal → List ℕ → List ℕ → Type 0
   AnsweredIn (Ok answered) = AnswerLeft (result_said (Ok answered))
-  AnsweredIn (Err r) = λ _ _. judged_in ≡ refusal (length (numbers_of (words_of distances))) (length (words_of answer)) (fault_number r.fault) r.place
+  AnsweredIn (Err r) = λ distances_after _. RefusalLeft r distances_after

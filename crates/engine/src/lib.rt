@@ -22,7 +22,7 @@ pub struct Answered {
     pub yes: u64,
 }
 
-// Answers a sheet where the check accepts it and the answer has room. What a refusal leaves is not said.
+// Answers a sheet where the check accepts it and the answer has room. A refusal leaves zeros for distances, and what it leaves of the answer is not said.
 #[tactic(auto, using(crate::proofs::Sizes::end_bound))]
 fn answer_sheet(sheet: &[u8], distances: &mut [u8], answer: &mut [u8]) -> Result<Answered, Refusal>
     ensures { AnsweredIn sheet.now distances.old answer.old result distances.new answer.new }
@@ -34,6 +34,7 @@ fn answer_sheet(sheet: &[u8], distances: &mut [u8], answer: &mut [u8]) -> Result
         distances,
     };
     if words::word_count(answer) < words_needed(accepted) {
+        words::fill_zero(distances);
         return Err(Fault::OutputShort.at(words::word_count(sheet)));
     }
     let written = write_answer(accepted, answer);
@@ -56,7 +57,6 @@ pub fn judge(sheet: &[u8], distances: &mut [u8], answer: &mut [u8]) -> Result<An
     match answer_sheet(sheet, distances, answer) {
         Ok(answered) => Ok(answered),
         Err(refusal) => {
-            words::fill_zero(distances);
             words::fill_zero(answer);
             Err(refusal)
         }

@@ -9,10 +9,10 @@ use Rattle.words.proofs.Numbers.{same_count}
 use Rattle.checks.specs.Checked.{refused}
 use Rattle.checks.specs.Faults.{fault_number}
 use Rattle.checks.specs.Said.{said}
-use Rattle.answers.specs.Judged.{Judged, answered, judged}
+use Rattle.answers.specs.Judged.{Judged, refusal, answered, judged}
 use Rattle.evaluation.specs.Lent.{needed_in}
 use Rattle.engine.specs.declared.Answered.{Answered}
-use Rattle.engine.proofs.Judging.{survey_accepts, refusal_handed, judged_refused, judged_answered, judged_short, result_told, answer_said}
+use Rattle.engine.proofs.Judging.{survey_accepts, refusal_handed, refusal_cleared, judged_answered, judged_short, result_told, answer_said}
 use Rattle.engine.proofs.answer_sheet.Goals as goal
 
 pub returns-in_err-layout : goal.returns-in_err-layout
@@ -20,8 +20,7 @@ returns-in_err-layout c =
     let g = c.args in
     let found = c.in_err-layout.field-0.0 in
     let handed : said (λ (told : Answered). told) c.from_residual.result ≡ refused (fault_number found.fault) found.place = search rules in
-    refusal_handed g.sheet.now g.distances.now g.answer.now _ _ c.from_residual.result handed
-    (judged_refused (words_of g.sheet.now) _ (length (words_of g.answer.now)) (sym c.in_err-layout.ensures.decided))
+    refusal_handed g.sheet.now g.distances.now g.answer.now _ _ c.from_residual.result handed (sym c.in_err-layout.ensures.decided) c.survey.ensures.measured c.survey.ensures.tail
 
 pub invariant_of-accepted : goal.invariant_of-accepted
 invariant_of-accepted c = record {
@@ -35,7 +34,10 @@ returns-then-word_count-words_needed c =
     let here = survey_accepts g.sheet.now g.distances.now _ c.survey.auto.distances c.in_ok-layout.ensures.decided c.survey.ensures.measured in
     let short : answer < needed_in g.sheet.now c.survey.new.distances = omega arith in
     let lent = same_count c.survey.new.distances g.distances.now c.survey.auto.distances in
-    rw (c.at.ensures, c.word_count-then-word_count-words_needed.ensures, ← lent) (judged_short (words_of g.sheet.now) _ answer here.accepts short)
+    let told = judged_short (words_of g.sheet.now) _ answer here.accepts short ∙ ap (λ k. refusal k answer 15 (length (words_of g.sheet.now))) lent in
+    let left = ap (λ k. judged (words_of g.sheet.now) k answer) lent in
+    rw (c.at.ensures, c.word_count-then-word_count-words_needed.ensures)
+    (refusal_cleared g.sheet.now g.distances.now g.answer.now _ _ _ (sym left ∙ told) c.survey.auto.distances c.fill_zero.ensures)
 
 pub returns : goal.returns
 unfolding answered
