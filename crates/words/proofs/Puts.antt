@@ -6,7 +6,7 @@ use native.Mathlib.Nat.{add-zero}
 use native.Mathlib.Numerals.{add-one}
 use native.Mathlib.Omega.{arith}
 use lib.ListN.{length, get_or, take, drop, set, length-append, length-drop, take-append-drop}
-use lib.Seq.{length-take-le, drop-cons, set_at, append_snoc, take_at, drop-drop, drop-append-add}
+use lib.Seq.{length-take-le, drop-cons, set_at, append_snoc, take_at, take-suc, drop-drop, drop-append-add}
 use Rattle.words.specs.Bytes.{words_of}
 use Rattle.words.specs.Rows.{row, put}
 use Rattle.words.proofs.Rows.{length-row}
@@ -25,6 +25,11 @@ unfolding put
 length-put s i v h =
     let b : i ≤ length s = omega arith in
     simp (length-append, length-take-le, length-drop) (omega arith)
+
+-- the words before are kept
+pub take-put : (s : List ℕ) (i : ℕ) (v : List ℕ) → i ≤ length s → take i (put s i v) ≡ take i s
+unfolding put
+take-put s i v h = simp append_assoc (take_at (take i s) (v ++ drop (i + length v) s) i (length-take-le i s h))
 
 -- one more word
 pub put_snoc : (s : List ℕ) (i : ℕ) (v : List ℕ) (a : ℕ) → i + length v < length s → set (put s i v) (i + length v) a ≡ put s i (v ++ (a ∷ []))
@@ -50,6 +55,14 @@ put_more s i f n a h e =
     let r = row_more f n in
     rw (r, ← e) (rw q at p)
 
+-- a turn of a loop that copies a list
+pub put-take : (s : List ℕ) (i : ℕ) (v : List ℕ) (n : ℕ) → i + length v ≤ length s → n < length v → set (put s i (take n v)) (i + n) (get_or v n 0) ≡ put s i (take (n + 1) v)
+put-take s i v n h k =
+    let l = length-take-le n v (omega arith) in
+    let p = put_snoc s i (take n v) (get_or v n 0) (omega arith) in
+    let q : i + length (take n v) ≡ i + n = omega arith in
+    rw (add-one n, take-suc v n 0 k) (rw q at p)
+
 -- words put after words that were put
 pub put-append : (s : List ℕ) (i : ℕ) (v w : List ℕ) → i ≤ length s → put (put s i v) (i + length v) w ≡ put s i (v ++ w)
 unfolding put
@@ -70,6 +83,15 @@ put_one s i a h =
     let p = put_snoc s i [] a (omega arith) in
     let z : i + 0 ≡ i = omega arith in
     sym (ap (λ (t : List ℕ). set t i a) (put_nil s i)) ∙ (rw z at p)
+
+-- one after the other
+pub put_four : (s : List ℕ) (i a b c d : ℕ) → i + 3 < length s → set (set (set (set s i a) (i + 1) b) (i + 2) c) (i + 3) d ≡ put s i (a ∷ b ∷ c ∷ d ∷ [])
+put_four s i a b c d h =
+    let one = put_one s i a (omega arith) in
+    let two = put_snoc s i (a ∷ []) b (omega arith) in
+    let three = put_snoc s i (a ∷ b ∷ []) c (omega arith) in
+    ap (λ (t : List ℕ). set (set (set t (i + 1) b) (i + 2) c) (i + 3) d) one ∙ ap (λ (t : List ℕ). set (set t (i + 2) c) (i + 3) d) two
+    ∙ ap (λ (t : List ℕ). set t (i + 3) d) three ∙ put_snoc s i (a ∷ b ∷ c ∷ []) d (omega arith)
 
 -- what was put at the front is the front
 pub front_take : (s v : List ℕ) (n : ℕ) → length v ≡ n → take n (put s 0 v) ≡ v
