@@ -20,3 +20,7 @@ tail_back s v n h =
 pub put_back : (s v : List ℕ) (i k : ℕ) → k ≡ length v → put_mid i k s v ≡ put s i v
 unfolding put
 put_back s v i k e = ap (λ (n : ℕ). put_mid i n s v) e ∙ ap (λ (t : List ℕ). take i s ++ (v ++ t)) (drop-drop (length v) i s) ∙ sym (append_assoc (take i s) v (drop (i + length v) s))
+
+-- .. anew by a list that it is equal to
+pub put_back_as : (s v w : List ℕ) (i k : ℕ) → k ≡ length w → v ≡ w → put_mid i k s v ≡ put s i w
+put_back_as s v w i k e h = put_back s v i k (e ∙ ap length (sym h)) ∙ ap (put s i) h

@@ -1,5 +1,5 @@
 -- Laws of `put`, words in place of others: nothing put, one word more, words after words, what is kept, and the words of bytes that are put.
-use Prim.Native.Nat.{ℕ, suc, ◌+◌, ◌*◌, ◌<◌, ◌≤◌}
+use Prim.Native.Nat.{ℕ, suc, ◌+◌, ◌*◌, ◌^◌, ◌<◌, ◌≤◌}
 use mathlib.Core.Path.{◌≡◌, refl, sym, ◌∙◌, ap, ap₂}
 use mathlib.Core.List.{List, [], ◌∷◌, ◌++◌, append_assoc, append-nil}
 use native.Mathlib.Nat.{add-zero}
@@ -7,9 +7,13 @@ use native.Mathlib.Numerals.{add-one}
 use native.Mathlib.Omega.{arith}
 use lib.ListN.{length, get_or, take, drop, set, length-append, length-drop, take-append-drop}
 use lib.Seq.{length-take-le, drop-cons, set_at, append_snoc, take_at, take-suc, drop-drop, drop-append-add}
-use Rattle.words.specs.Bytes.{words_of}
+use borrow.Rule.Slice.PartMut.{put_mid}
+use Rattle.words.specs.Bytes.{words_of, bytes_of}
 use Rattle.words.specs.Rows.{row, put}
 use Rattle.words.proofs.Rows.{length-row}
+use Rattle.words.proofs.Parts.{put_back}
+use Rattle.words.proofs.RoundTrips.{bytes_words}
+use Rattle.words.proofs.Below.{below_more, below_none}
 use Rattle.words.proofs.Words.{words_count, length_words, words_append, words_drop, words_take}
 
 pub put_nil : (s : List ℕ) (i : ℕ) → put s i [] ≡ s
@@ -108,3 +112,12 @@ words_put b v i k long inside =
     let rest : words_of (drop (i * 4 + length v) b) ≡ drop (i + length (words_of v)) (words_of b) = rw (end, count) (words_drop b (i + k)) in
     words_append (take (i * 4) b ++ v) (drop (i * 4 + length v) b) (i + k) (omega (arith, length-append (take (i * 4) b) v))
     ∙ ap₂ ◌++◌ (words_append (take (i * 4) b) v i before ∙ ap (λ (t : List ℕ). t ++ words_of v) (words_take b i)) rest
+
+-- a word's four bytes, where a part of as many was filled anew
+pub word_back : (b v : List ℕ) (i at k w : ℕ) → at ≡ i * 4 → k ≡ 4 → w < 2 ^ 32 → i < length (words_of b) → v ≡ bytes_of (w ∷ []) → words_of (put_mid at k b v) ≡ set (words_of b) i w
+unfolding bytes_of
+word_back b v i at k w here four small inside told =
+    let long : length v ≡ 4 = ap length told in
+    let e : put_mid at k b v ≡ put b (i * 4) v = put_back b v at k (omega arith) ∙ ap (λ (n : ℕ). put b n v) here in
+    let read : words_of v ≡ w ∷ [] = ap words_of told ∙ bytes_words (w ∷ []) (below_more {bound = 2 ^ 32} (omega arith) w [] small (below_none (omega arith))) in
+    ap words_of e ∙ words_put b v i 1 long (omega arith) ∙ ap (put (words_of b) i) read ∙ sym (put_one (words_of b) i w inside)

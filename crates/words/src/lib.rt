@@ -57,7 +57,7 @@ pub fn word_or_zero(s: &[u8], i: usize) -> u32
 }
 
 // The words do not tell of bytes past the last whole word, so the bytes are promised too.
-#[tactic(auto, using(crate::proofs::Words::words_count, std::proofs::lemmas::Grind::common_steps, crate::proofs::Words::words_set, crate::proofs::Words::word_bytes))]
+#[tactic(auto, using(crate::proofs::Words::words_count, std::proofs::lemmas::Grind::common_steps, crate::proofs::Parts::put_back_as, crate::proofs::Puts::word_back), unfolding(crate::specs::Bytes::bytes_of))]
 pub fn put_word(s: &mut [u8], i: usize, w: u32)
     requires { i < length (words_of s.old) }
     ensures stored { words_of s.new ≡ set (words_of s.old) i w }
@@ -139,7 +139,7 @@ pub fn clear_behind(s: &mut [u8], count: usize)
 }
 
 // Puts bytes in place of as many others, from an index on.
-#[tactic(auto, using(crate::proofs::Puts::put_nil))]
+#[tactic(auto, using(crate::proofs::Parts::put_back_as))]
 pub fn copy_bytes(from: &[u8], to: &mut [u8], at: usize)
     requires { at + length from.now ≤ length to.old }
     ensures { to.new ≡ put to.old at from.now }
