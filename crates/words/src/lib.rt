@@ -138,11 +138,14 @@ pub fn clear_behind(s: &mut [u8], count: usize)
     fill_zero(&mut s[after..]);
 }
 
-// Puts bytes in place of as many others, from an index on.
-#[tactic(auto, using(crate::proofs::Parts::put_back_as))]
+// Puts bytes in place of as many others, from an index on. A loop, and not std's copy: of that the compiler makes a call of memmove, which a host without a C
+// library would have to have beside the memcpy and memset that it needs in any case.
+#[tactic(auto, using(crate::proofs::Puts::put_nil))]
 pub fn copy_bytes(from: &[u8], to: &mut [u8], at: usize)
     requires { at + length from.now ≤ length to.old }
     ensures { to.new ≡ put to.old at from.now }
 {
-    to[at..at + from.len()].copy_from_slice(from);
+    for i in 0..from.len() {
+        to[at + i] = from[i];
+    }
 }
