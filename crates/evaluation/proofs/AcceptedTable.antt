@@ -135,6 +135,9 @@ module _ {s : List ℕ} {layout : Code.Layout} {distances : List ℕ} (accepting
           let step = walk_step _ _ _ _ k at extents walk more_lines in
           record { there = step.there; within = walk_within _ _ _ _ k at extents walk; found = (line_in all k, step.next); reads = step.reads }
 
+      pub turn_unrefused : {decoded : Result (Read.Line × ℕ) Refusal} → said line_and_next decoded ≡ line_read s layout (take k extents) at → {refusal : Refusal} → decoded ≡ Err refusal → ⊥
+      turn_unrefused {decoded} reads e = never_refused _ _ _ _ k at extents walk more_lines decoded reads _ e
+
       module _ (read : Read.Line × ℕ) (reads : line_read s layout (take k extents) at ≡ accepted (line_and_next read)) where
         same : line_and_next read ≡ (line_in all k, (walk_step _ _ _ _ k at extents walk more_lines).next)
         same = same_accepted (sym reads ∙ (walk_step _ _ _ _ k at extents walk more_lines).reads)

@@ -5,10 +5,10 @@ use Prim.Native.Nat.{ℕ, ◌+◌, ◌*◌, ◌<◌, ◌≤◌}
 use native.Mathlib.Nat.{mul-le-mul_right, suc-mul}
 use native.Mathlib.Numerals.{add-one}
 use native.Mathlib.Omega.{arith}
-use lib.ListN.{length, get_or}
+use lib.ListN.{length, get_or, take}
 use Rattle.words.specs.Bytes.{words_of, after_words}
 use Rattle.words.specs.Rows.{row, concat, rows, put}
-use Rattle.words.proofs.Puts.{put_nil, put-append}
+use Rattle.words.proofs.Puts.{put_nil, put-append, take-put}
 use Rattle.words.proofs.Rows.{length-rows}
 use Rattle.words.proofs.Words.{words_count}
 use Rattle.counting.specs.Totals.{count, sum_below}
@@ -53,6 +53,10 @@ module _ (value : ℕ → ℕ → ℕ) (n : ℕ) (answer : List ℕ) (begin : �
     pub all_done : {samples : ℕ} → t ≡ samples → SamplesWritten value (λ _ _. 0) n (words_of answer) begin samples (words_of after) (record { rounds = 0; yes = many })
     all_done e = rw (← e) (record { written = done.written; counted = done.counted; greatest = most_none t n })
 
+    -- the words before the line stay as they are
+    pub before_kept : begin ≤ length (words_of answer) → take begin (words_of after) ≡ take begin (words_of answer)
+    before_kept begins = ap (take begin) done.written ∙ take-put (words_of answer) begin _ begins
+
     -- the numbers f of sample t are written
     pub one_more : {f : ℕ → ℕ} {later : List ℕ} {more : ℕ} → f ≡ value t → begin ≤ length (words_of answer) → length later ≡ length after
         → words_of later ≡ put (words_of after) to (row (λ l. chain_word (f l)) n) → more ≡ sum_below (λ l. count (chain_verdict (f l))) n → after_words later ≡ after_words after
@@ -66,6 +70,9 @@ module _ (value : ℕ → ℕ → ℕ) (n : ℕ) (answer : List ℕ) (begin : �
       tail = tail ∙ done.tail;
     }
 
--- values that stand side by side are every first number from the first on
+-- a row of one sample alone: its values stand side by side
+pub entry_one : (values : List ℕ) (l : ℕ) → entry values 1 0 l ≡ get_or values l 0
+entry_one values l = ap (λ (i : ℕ). get_or values i 0) (omega arith)
+
 pub side_by_side : (values : List ℕ) → entry values 1 0 ≡ (λ l. get_or values l 0)
-side_by_side values = fun_ext (λ l. ap (λ (i : ℕ). get_or values i 0) (omega arith))
+side_by_side values = fun_ext (entry_one values)

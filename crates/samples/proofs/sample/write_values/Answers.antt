@@ -1,21 +1,18 @@
 -- Values side by side, as the sample whose stride is 1.
-use mathlib.Core.Path.{sym, ap, subst, ◌∙◌}
+use mathlib.Core.Path.{ap, ◌∙◌}
 use native.Mathlib.Omega.{arith}
-use Prim.Native.Nat.{ℕ, ◌+◌, ◌*◌, ◌<◌, ◌≤◌}
+use Prim.Native.Nat.{ℕ}
 use lib.ListN.{length}
 use Rattle.words.specs.Bytes.{words_of}
 use Rattle.words.specs.Rows.{row, put}
 use Rattle.counting.specs.Totals.{count, sum_below}
-use Rattle.values.specs.Chain.{chain_word, chain_verdict, highest}
-use Rattle.samples.specs.Sample.{entry}
-use Rattle.samples.proofs.LineRows.{side_by_side}
+use Rattle.values.specs.Chain.{chain_word, chain_verdict}
+use Rattle.samples.proofs.LineRows.{entry_one, side_by_side}
 use Rattle.samples.proofs.sample.write_values.Goals as goal
 
 pub write_sample-requires : goal.write_sample-requires
 write_sample-requires c =
-    let bound : (l : ℕ) → l < length c.args.values.now → entry c.args.values.now 1 0 l ≤ highest =
-        λ l h. subst (λ (f : ℕ → ℕ). f l ≤ highest) (sym (side_by_side c.args.values.now)) (c.requires.0 l h) in
-    (record { inside = λ l h. omega arith; bound = bound }, omega (arith, c.requires.1))
+    (record { inside = λ l h. omega arith; bound = λ l h. rw (entry_one c.args.values.now l) (c.requires.0 l h) }, omega (arith, c.requires.1))
 
 pub returns-clause-written : goal.returns-clause-written
 returns-clause-written c =
