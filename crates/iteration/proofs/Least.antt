@@ -21,10 +21,10 @@ use Rattle.roads.proofs.Ways.{leads_ends}
 use Rattle.values.specs.Chain.{chain_lattice, highest}
 use Rattle.values.proofs.Naturals.{meet_min}
 use Rattle.lanes.specs.declared.Place.{Place}
-use Rattle.lanes.specs.Lanes.{lanes, Numbers, row_in}
+use Rattle.lanes.specs.Lanes.{lanes, ring_row, x_row, former_row, both_row, Numbers, row_in}
 use Rattle.lanes.specs.Rows.{Kept, KeptPast}
 use Rattle.lanes.proofs.RowLaws.{kept_trans, kept_past_trans}
-use Rattle.iteration.specs.WorkRows.{ring_row, x_row, former_row, both_row, joined_part, stepped_part, Worked, KeptBut}
+use Rattle.iteration.specs.WorkRows.{joined_part, stepped_part, Worked, KeptBut}
 use Rattle.iteration.specs.Steps.{joined_by, RoadsIn, Bounded, Joined, Pulled, LeastOf, Stepped, Round}
 use Rattle.iteration.proofs.Outside.{ring_same, stepped_of_joined, stepped_of_x, stepped_low}
 

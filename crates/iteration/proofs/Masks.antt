@@ -15,10 +15,10 @@ use Rattle.codes.specs.declared.operator.Bounds.{Bounds}
 use Rattle.logic.specs.Iteration.{masked}
 use Rattle.values.specs.Signals.{in_table}
 use Rattle.lanes.specs.declared.Place.{Place}
-use Rattle.lanes.specs.Lanes.{lanes, left_row, right_row, no_place, place_at, row_in}
+use Rattle.lanes.specs.Lanes.{lanes, left_row, right_row, ring_row, x_row, no_place, place_at, row_in}
 use Rattle.lanes.specs.Rows.{Room, Kept, within, flagged, Marked, masked_by}
 use Rattle.lanes.proofs.RowLaws.{kept_refl, kept_trans, kept_past_refl, masked_in, masked_out, marked_none, marked_more}
-use Rattle.iteration.specs.WorkRows.{ring_row, x_row, operands, LowPlace, LowOutside, PlaceCleared, Cleared}
+use Rattle.iteration.specs.WorkRows.{operands, LowPlace, LowOutside, PlaceCleared, Cleared}
 use Rattle.iteration.specs.Masks.{ball_of, PlaceMasked, CentreMasked}
 
 -- ---- clearing, place after place

@@ -10,9 +10,9 @@ use Rattle.roads.specs.declared.road.Way.{Way}
 use Rattle.values.specs.Chain.{chain_lattice}
 use Rattle.values.proofs.Naturals.{meet_min}
 use Rattle.lanes.specs.declared.Place.{Place}
-use Rattle.lanes.specs.Lanes.{lanes, Numbers, row_in}
+use Rattle.lanes.specs.Lanes.{lanes, ring_row, x_row, former_row, both_row, Numbers, row_in}
 use Rattle.lanes.specs.Rows.{Kept, KeptPast}
-use Rattle.iteration.specs.WorkRows.{ring_row, x_row, former_row, both_row, joined_part, stepped_part, LowOutside, Worked, KeptBut}
+use Rattle.iteration.specs.WorkRows.{joined_part, stepped_part, LowOutside, Worked, KeptBut}
 use Rattle.iteration.specs.Steps.{Joined, Pulled, Stepped}
 
 -- what is lowest stays lowest: the lesser of it and another number

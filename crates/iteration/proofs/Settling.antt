@@ -16,9 +16,9 @@ use Rattle.values.specs.Chain.{chain_lattice, highest}
 use Rattle.values.proofs.ChainSurround.{halves_rest_after, rounds_of_halves}
 use Rattle.values.proofs.Naturals.{meet_min}
 use Rattle.lanes.specs.declared.Place.{Place}
-use Rattle.lanes.specs.Lanes.{lanes, Numbers, row_in}
+use Rattle.lanes.specs.Lanes.{lanes, ring_row, x_row, Numbers, row_in}
 use Rattle.lanes.proofs.RowLaws.{kept_refl, kept_trans, kept_past_refl, kept_past_trans}
-use Rattle.iteration.specs.WorkRows.{ring_row, x_row, stepped_part, Worked}
+use Rattle.iteration.specs.WorkRows.{stepped_part, Worked}
 use Rattle.iteration.specs.Steps.{joined_by, RowsApart, Bounded, ValidRow, Start, Joined, Round, step_in, rounds_in, Settled}
 use Rattle.iteration.proofs.Least.{round_as}
 

@@ -4,8 +4,8 @@ use Rattle.std.specs.Prelude.{Bool, List, ℕ, length}
 use Rattle.words.specs.Bytes.{words_of}
 use Rattle.roads.specs.declared.road.Network.{Network}
 use Rattle.lanes.specs.declared.Place.{Place}
-use Rattle.lanes.specs.Lanes.{row_in}
-use Rattle.iteration.specs.WorkRows.{ring_row, x_row, former_row, both_row, LowOutside}
+use Rattle.lanes.specs.Lanes.{ring_row, x_row, former_row, both_row, row_in}
+use Rattle.iteration.specs.WorkRows.{LowOutside}
 use Rattle.iteration.specs.Steps.{joined_by, RoadsIn, Bounded, Joined, Stepped, Round, Settled}
 
 -- rows of the places that the flags are of

@@ -4,9 +4,9 @@ use Rattle.std.specs.Prelude.{◌≡◌, Bool, true, cond, List, ℕ, ◌+◌, �
 use Rattle.codes.specs.declared.operator.Bounds.{Bounds}
 use Rattle.distances.specs.declared.table.Distances.{Distances}
 use Rattle.lanes.specs.declared.Place.{Place}
-use Rattle.lanes.specs.Lanes.{lanes, left_row, right_row, place_at, row_in}
+use Rattle.lanes.specs.Lanes.{lanes, left_row, right_row, ring_row, x_row, place_at, row_in}
 use Rattle.lanes.specs.Rows.{RowOf, Kept, KeptPast, within, Marked, masked_by}
-use Rattle.iteration.specs.WorkRows.{ring_row, x_row, operands, LowOutside}
+use Rattle.iteration.specs.WorkRows.{operands, LowOutside}
 
 -- the ball ends where the ring does, and begins at the centre
 abbrev pub ball_of : Bounds → Bounds

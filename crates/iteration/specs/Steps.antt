@@ -11,8 +11,8 @@ use Rattle.roads.specs.declared.road.Way.{Way}
 use Rattle.roads.specs.Roads.{road_at, first_of, second_of, weight_among}
 use Rattle.values.specs.Chain.{chain_lattice, chain_margin, highest, Valid}
 use Rattle.lanes.specs.declared.Place.{Place}
-use Rattle.lanes.specs.Lanes.{lanes, Numbers, row_in}
-use Rattle.iteration.specs.WorkRows.{ring_row, x_row, LowOutside}
+use Rattle.lanes.specs.Lanes.{lanes, ring_row, x_row, Numbers, row_in}
+use Rattle.iteration.specs.WorkRows.{LowOutside}
 
 -- one of the first roads of a sheet leads from a to b
 unfoldable pub joined_by : List ℕ → ℕ → ℕ → ℕ → Bool

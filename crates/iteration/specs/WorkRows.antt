@@ -1,22 +1,9 @@
--- The strips that an iteration works in, and what it keeps: outside a ball they are lowest, and those of the operands stay as they are. These are for
--- contracts inside the engine: no promise to a host speaks of them.
+-- What an iteration keeps: outside a ball the strips that it works in are lowest, and those of the operands stay as they are. These are for contracts inside
+-- the engine: no promise to a host speaks of them.
 use Rattle.std.specs.Prelude.{◌≡◌, Bool, false, List, [], ℕ, ◌<◌, length, get_or}
 use Rattle.lanes.specs.declared.Place.{Place}
 use Rattle.lanes.specs.Lanes.{lanes, Row, place_at}
 use Rattle.lanes.specs.Rows.{Room, Kept, KeptPast, flagged}
-
--- the ring about a centre, what its places have, what they had a round before, and what they hand to their neighbours
-abbrev pub ring_row : Row
-ring_row = record { strip = λ p. p.ring; others = λ p. record { left = p.left; right = p.right; out = p.out; ring = []; x = p.x; former = p.former; both = p.both } }
-
-abbrev pub x_row : Row
-x_row = record { strip = λ p. p.x; others = λ p. record { left = p.left; right = p.right; out = p.out; ring = p.ring; x = []; former = p.former; both = p.both } }
-
-abbrev pub former_row : Row
-former_row = record { strip = λ p. p.former; others = λ p. record { left = p.left; right = p.right; out = p.out; ring = p.ring; x = p.x; former = []; both = p.both } }
-
-abbrev pub both_row : Row
-both_row = record { strip = λ p. p.both; others = λ p. record { left = p.left; right = p.right; out = p.out; ring = p.ring; x = p.x; former = p.former; both = [] } }
 
 -- what is kept of a place by a join, which writes what it had and what it hands over; by a round, which writes x too; and by all that works on it
 abbrev pub joined_part : Place → Place

@@ -1,9 +1,9 @@
 // Definition 4.4's iteration in lanes: all places step together from the former round. The flags say which places lie inside the ball.
 ghost use Rattle.std.specs.Prelude.{◌*◌, ◌/◌, ◌≤◌, ◌<◌, length};
 ghost use Rattle.words.specs.Bytes.{words_of};
-ghost use Rattle.lanes.specs.Lanes.{row_in};
+ghost use Rattle.lanes.specs.Lanes.{x_row, former_row, both_row, row_in};
 ghost use Rattle.lanes.specs.Rows.{KeptPast};
-ghost use Rattle.iteration.specs.WorkRows.{x_row, former_row, both_row, joined_part, stepped_part, LowOutside, Worked, KeptBut};
+ghost use Rattle.iteration.specs.WorkRows.{joined_part, stepped_part, LowOutside, Worked, KeptBut};
 ghost use Rattle.iteration.specs.Steps.{RoadsIn, Start, Pulled, RowsApart};
 ghost use Rattle.iteration.specs.Lent.{JoinedIn, SteppedIn, RoundReadyIn, RoundIn, SettledIn};
 

@@ -28,6 +28,11 @@ pub record Kept (part : Place → Place) (before after : List Place) : Type 0 wh
 pub record KeptPast (n : ℕ) (before after : List Place) : Type 0 where
   pub past : (p : ℕ) → n ≤ p → place_at after p ≡ place_at before p
 
+-- a place has a strip in a row, and in all others what it had
+pub record StripPut (row : Row) (strip : List ℕ) (before after : Place) : Type 0 where
+  pub there : row.strip after ≡ strip
+  pub kept : row.others after ≡ row.others before
+
 -- a row is written at the first k places, and nothing else is
 pub record RowWritten (row : Row) (k : ℕ) (f : Numbers) (before after : List Place) : Type 0 where
   pub written : RowOf f (row_in after row) k

@@ -1,6 +1,9 @@
 // Strips of lanes: several samples lie side by side in a strip, and each place has its strips by name.
 #![tactic(auto)]
 
+ghost use Rattle.lanes.specs.Lanes.{row_of};
+ghost use Rattle.lanes.specs.Rows.{StripPut};
+
 pub mod ends;
 pub mod rows;
 pub mod strips;
@@ -24,6 +27,18 @@ pub struct Place {
     pub both: Strip,
 }
 
+// A row, by the strip that a place has in it.
+#[derive(Clone, Copy)]
+pub enum Row {
+    Left,
+    Right,
+    Out,
+    Ring,
+    X,
+    Former,
+    Both,
+}
+
 impl Place {
     pub const EMPTY: Place = Place {
         left: [0; LANES],
@@ -34,4 +49,19 @@ impl Place {
         former: [0; LANES],
         both: [0; LANES],
     };
+
+    // A strip comes into a row, in place of the one that the place had there.
+    pub fn put(&mut self, row: Row, strip: Strip)
+        ensures { StripPut (row_of row) strip self.entry.now self.exit.now }
+    {
+        match row {
+            Row::Left => self.left = strip,
+            Row::Right => self.right = strip,
+            Row::Out => self.out = strip,
+            Row::Ring => self.ring = strip,
+            Row::X => self.x = strip,
+            Row::Former => self.former = strip,
+            Row::Both => self.both = strip,
+        }
+    }
 }

@@ -1,11 +1,11 @@
-// A strip of lanes from the words of an answer, and the range of a centre.
+// A row of lanes from the words of an answer, and the range of a centre.
 ghost use Rattle.std.specs.Prelude.{◌≡◌, ◌<◌};
 ghost use Rattle.words.specs.Bytes.{words_of};
-ghost use Rattle.lanes.specs.Lanes.{lanes};
+ghost use Rattle.lanes.specs.Lanes.{lanes, row_of};
 ghost use Rattle.lanes.specs.Strips.{Held};
-ghost use Rattle.lanes.specs.Rows.{BlockThere, lane_signal, within_in};
+ghost use Rattle.lanes.specs.Rows.{Room, RowWritten, BlockThere, lane_signal, within_in};
 
-use crate::{LANES, Strip};
+use crate::{LANES, Place, Row, Strip};
 use codes::operator::Bounds;
 use distances::table::Distances;
 
@@ -36,8 +36,8 @@ fn lane_signal(
     }
 }
 
-// Decodes a signal at the samples of a block into a strip of one place, once for all centres.
-pub fn load(words: &[u8], start: usize, places: usize, block: Block, place: usize) -> Strip
+// Decodes a signal at the samples of a block into a strip of one place.
+pub fn load_strip(words: &[u8], start: usize, places: usize, block: Block, place: usize) -> Strip
     requires { BlockThere words.now start places block × (place < places) }
     ensures { Held lanes (λ lane. lane_signal (words_of words.now) start places block lane place) result }
 {
@@ -46,6 +46,16 @@ pub fn load(words: &[u8], start: usize, places: usize, block: Block, place: usiz
         *x = lane_signal(words, start, places, block, place, lane);
     }
     strip
+}
+
+// Decodes a signal at the samples of a block into a row, once for all centres.
+pub fn load(words: &[u8], start: usize, places: usize, block: Block, row: Row, rows: &mut [Place])
+    requires { BlockThere words.now start places block × Room places rows.old }
+    ensures { RowWritten (row_of row) places (lane_signal (words_of words.now) start places block) rows.old rows.new }
+{
+    for (l, place) in rows[..places].iter_mut().enumerate() {
+        place.put(row, load_strip(words, start, places, block, l));
+    }
 }
 
 // Whether a place lies within bounds of a centre.

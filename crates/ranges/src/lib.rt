@@ -2,9 +2,7 @@
 #![tactic(auto)]
 
 ghost use Rattle.std.specs.Prelude.{◌<◌};
-ghost use Rattle.words.specs.Bytes.{words_of};
-ghost use Rattle.lanes.specs.Lanes.{left_row};
-ghost use Rattle.lanes.specs.Rows.{Room, RowWritten, BlockThere, lane_signal};
+ghost use Rattle.lanes.specs.Rows.{Room};
 ghost use Rattle.ranges.specs.Lent.{CentreGatheredIn, CentresGatheredIn, RangeReadyIn, RangeDoneIn};
 
 use codes::operator::Bounds;
@@ -12,7 +10,7 @@ use distances::table::Distances;
 use lanes::ends::{End, Greatest, Least};
 use lanes::rows::{Block, in_range, load};
 use lanes::strips::of_two;
-use lanes::{LANES, Place, Strip};
+use lanes::{LANES, Place, Row, Strip};
 
 // What is asked about every centre. The operand is the index at which its signal begins. Somewhere or its dual is a flag, as in the definitions.
 #[derive(Clone, Copy)]
@@ -20,16 +18,6 @@ pub struct Range {
     pub left: usize,
     pub bounds: Bounds,
     pub dual: bool,
-}
-
-// Decodes the operand, once for all centres.
-fn load_left(words: &[u8], start: usize, places: usize, block: Block, rows: &mut [Place])
-    requires { BlockThere words.now start places block × Room places rows.old }
-    ensures { RowWritten left_row places (lane_signal (words_of words.now) start places block) rows.old rows.new }
-{
-    for (l, place) in rows[..places].iter_mut().enumerate() {
-        place.left = load(words, start, places, block, l);
-    }
 }
 
 // All places within range of one centre. By number: the table of distances is asked for each place, and a strip is read only where it says so.
@@ -70,7 +58,7 @@ pub fn somewhere_block(
     requires { RangeReadyIn words.now range distances block × Room distances.places rows.old }
     ensures { RangeDoneIn words.now range distances.entry block rows.old rows.new }
 {
-    load_left(words, range.left, distances.places, block, rows);
+    load(words, range.left, distances.places, block, Row::Left, rows);
     if range.dual {
         gather_all::<Least>(rows, distances, range.bounds);
     } else {

@@ -29,9 +29,9 @@ use Rattle.values.proofs.Valid.{valid_kept}
 use Rattle.values.proofs.Projections.{margin_kept}
 use Rattle.values.proofs.ChainSurround.{surround_rested}
 use Rattle.lanes.specs.declared.Place.{Place}
-use Rattle.lanes.specs.Lanes.{lanes, left_row, right_row, out_row, no_place, Numbers, row_in}
+use Rattle.lanes.specs.Lanes.{lanes, left_row, right_row, out_row, ring_row, x_row, no_place, Numbers, row_in}
 use Rattle.lanes.specs.Rows.{RowOf, Kept, KeptPast, within, masked_by}
-use Rattle.iteration.specs.WorkRows.{ring_row, x_row, stepped_part, operands, Worked, KeptBut}
+use Rattle.iteration.specs.WorkRows.{stepped_part, operands, Worked, KeptBut}
 use Rattle.iteration.specs.Steps.{joined_by, RoadsIn, ValidRow, Start, Settled, rounds_in}
 use Rattle.iteration.specs.Masks.{ball_of, CentreMasked}
 use Rattle.surrounds.specs.Runs.{left_out, LeftOut, beyond, is_made, run_surround, run_rounds_at, CentreRun}

@@ -11,11 +11,10 @@ use Rattle.values.specs.Chain.{Valid, chain_lattice}
 use Rattle.values.specs.Signals.{signal_in}
 use Rattle.lanes.specs.declared.Place.{Place}
 use Rattle.lanes.specs.declared.rows.Block.{Block}
-use Rattle.lanes.specs.Lanes.{lanes, Numbers, left_row, right_row, out_row, place_at, row_in}
+use Rattle.lanes.specs.Lanes.{lanes, Numbers, left_row, right_row, out_row, x_row, place_at, row_in}
 use Rattle.lanes.specs.Rows.{RowOf, Kept, KeptPast, lane_signal}
 use Rattle.surrounds.specs.declared.surround.Surround.{Surround}
 use Rattle.surrounds.specs.Surround.{surround_in, block_rounds}
-use Rattle.iteration.specs.WorkRows.{x_row}
 use Rattle.iteration.specs.Steps.{RoadsIn, ValidRow}
 
 -- a place has a distance from a centre, by the bytes of such a table
@@ -32,12 +31,12 @@ pub record CentreRaised (centre : ℕ) (before after : List Place) : Type 0 wher
   pub kept : Kept out_row.others before after
   pub elsewhere : (p : ℕ) → (p ≡ centre → ⊥) → place_at after p ≡ place_at before p
 
--- the signals of both operands stand in their rows at the first k places, and what stands past them is kept
+-- the signals of both operands stand in their rows at the first k places; all other rows are kept, and what stands past these places
 pub record OperandsLoaded (words : List ℕ) (s : Surround) (n : ℕ) (block : Block) (k : ℕ) (before after : List Place) : Type 0 where
   pub left : RowOf (lane_signal words s.left n block) (row_in after left_row) k
   pub right : RowOf (lane_signal words s.right n block) (row_in after right_row) k
+  pub kept : Kept (λ p. left_row.others (right_row.others p)) before after
   pub past : KeptPast k before after
-  pub long : length after ≡ length before
 
 -- what the rows of the operands, the sheet and the distances must be
 pub record RowsReady (left right : Numbers) (n : ℕ) (sheet : List ℕ) (roads : ℕ) (distances : List ℕ) (b : Bounds) : Type 0 where

@@ -2,9 +2,9 @@
 // place k. Where islands count, run 0 is all. Else a run is made about a centre for each other place with a distance from it. Those for the places
 // beyond the ball are all run 0, for what they leave out is masked already.
 ghost use Rattle.std.specs.Prelude.{◌≡◌, not, ◌&&◌, ◌≤◌, ◌<◌, ◌^◌};
-ghost use Rattle.lanes.specs.Lanes.{row_in};
+ghost use Rattle.lanes.specs.Lanes.{x_row, row_in};
 ghost use Rattle.lanes.specs.Rows.{Room, KeptPast, within_in};
-ghost use Rattle.iteration.specs.WorkRows.{x_row, KeptBut};
+ghost use Rattle.iteration.specs.WorkRows.{KeptBut};
 ghost use Rattle.surrounds.specs.Runs.{runs_of, LeftOut};
 ghost use Rattle.surrounds.specs.Lent.{reached_in, beyond_in, is_made_in};
 

@@ -16,7 +16,7 @@ use iteration::mask::{clear_all, mask_centre};
 use lanes::ends::Greatest;
 use lanes::rows::{Block, load};
 use lanes::strips::of_two;
-use lanes::{LANES, Place};
+use lanes::{LANES, Place, Row};
 use roads::road::Network;
 
 // What is asked about every centre, and whether islands count. The operands are the indices at which their signals begin.
@@ -131,10 +131,8 @@ fn load_operands(words: &[u8], surround: Surround, places: usize, block: Block, 
     requires { OperandsThere words.now surround places block × Room places rows.old }
     ensures { OperandsLoaded (words_of words.now) surround places block places rows.old rows.new }
 {
-    for (l, place) in rows[..places].iter_mut().enumerate() {
-        place.left = load(words, surround.left, places, block, l);
-        place.right = load(words, surround.right, places, block, l);
-    }
+    load(words, surround.left, places, block, Row::Left, rows);
+    load(words, surround.right, places, block, Row::Right, rows);
 }
 
 // The surround of two signals, which stand in the words of an answer, at samples first to first + count - 1: what comes of the operands

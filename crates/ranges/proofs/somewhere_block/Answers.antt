@@ -6,9 +6,9 @@ use Rattle.ranges.proofs.somewhere_block.Goals as goal
 pub returns-then-range : goal.returns-then-range
 returns-then-range c =
     let a = c.args in
-    rw c.if-range.true (everywhere_done (words_of a.words.now) a.range.left a.distances.places a.distances.table.now a.block a.range.bounds c.requires.0 c.load_left.ensures c.gather_all.ensures)
+    rw c.if-range.true (everywhere_done (words_of a.words.now) a.range.left a.distances.places a.distances.table.now a.block a.range.bounds c.requires.0 c.load.ensures c.gather_all.ensures)
 
 pub returns-else-range : goal.returns-else-range
 returns-else-range c =
     let a = c.args in
-    rw c.if-range.false (somewhere_done (words_of a.words.now) a.range.left a.distances.places a.distances.table.now a.block a.range.bounds c.requires.0 c.load_left.ensures c.gather_all-else-range.ensures)
+    rw c.if-range.false (somewhere_done (words_of a.words.now) a.range.left a.distances.places a.distances.table.now a.block a.range.bounds c.requires.0 c.load.ensures c.gather_all-else-range.ensures)

@@ -1,8 +1,7 @@
 -- Place after place: a place outside is alike in both rows, and the first that is not alike ends the loop.
 use Prim.Native.Nat.{◌/◌}
 use mathlib.Core.Bool.{false}
-use Rattle.lanes.specs.Lanes.{row_in}
-use Rattle.iteration.specs.WorkRows.{x_row, former_row}
+use Rattle.lanes.specs.Lanes.{x_row, former_row, row_in}
 use Rattle.iteration.specs.Steps.{RowsApart}
 use Rattle.iteration.proofs.iteration.changed.Given as goal
 

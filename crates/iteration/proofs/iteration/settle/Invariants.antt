@@ -1,8 +1,8 @@
 -- Each turn is one step of the iteration in every lane; the sum of the numbers falls while something moves, so that the loop ends.
 use lib.ListN.{length}
 use Rattle.words.specs.Bytes.{words_of}
-use Rattle.lanes.specs.Lanes.{row_in}
-use Rattle.iteration.specs.WorkRows.{ring_row, x_row, stepped_part, Worked}
+use Rattle.lanes.specs.Lanes.{ring_row, x_row, row_in}
+use Rattle.iteration.specs.WorkRows.{stepped_part, Worked}
 use Rattle.iteration.proofs.Settling.{total, Going}
 use Rattle.iteration.proofs.iteration.settle.Given as goal
 

@@ -5,9 +5,9 @@ use Rattle.words.specs.Bytes.{words_of}
 use Rattle.checks.specs.Heads.{is_wide}
 use Rattle.roads.specs.Roads.{road_at}
 use lib.ListN.{length}
-use Rattle.lanes.specs.Lanes.{row_in}
+use Rattle.lanes.specs.Lanes.{x_row, both_row, row_in}
 use Rattle.lanes.specs.Rows.{KeptPast}
-use Rattle.iteration.specs.WorkRows.{x_row, both_row, KeptBut}
+use Rattle.iteration.specs.WorkRows.{KeptBut}
 use Rattle.iteration.specs.Steps.{joined_by, Stepped}
 use Rattle.iteration.proofs.iteration.step.Given as goal
 

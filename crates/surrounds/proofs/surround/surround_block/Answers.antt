@@ -15,7 +15,7 @@ returns c =
     let s = c.surround_centres in
     block_done (words_of g.words.now) g.surround g.network.distances.places (words_of g.network.sheet.now) g.network.roads (numbers_of (words_of g.network.distances.table.now)) g.block
     (row_in load.new.rows left_row) (row_in load.new.rows right_row) c.requires.0 load.ensures.left load.ensures.right g.rows.now s.new.rows s.result
-    (s.auto.rows ∙ load.ensures.long)
+    (s.auto.rows ∙ load.ensures.kept.long)
     (record { at = λ place lane _ l. ap (λ (p : Place). get_or p.left lane 0) (s.ensures.kept.same place) })
     (record { at = λ place lane _ l. ap (λ (p : Place). get_or p.right lane 0) (s.ensures.kept.same place) })
     (kept_past_trans load.ensures.past s.ensures.past) s.ensures.done
