@@ -7,4 +7,4 @@ use Rattle.lanes.specs.Rows.{RowWritten, lane_signal}
 use Rattle.lanes.proofs.rows.load.Given as goal
 
 abbrev pub invariant-loop-l : goal.invariant-loop-l
-invariant-loop-l l = RowWritten (row_of l.row) l.l (lane_signal (words_of l.words) l.start l.places l.block) l.fn.rows (l.place-items ++ drop l.places l.fn.rows)
+invariant-loop-l l = RowWritten (row_of l.fn.row) l.l (lane_signal (words_of l.words) l.start l.places l.block) l.fn.rows (l.place-items ++ drop l.places l.fn.rows)
