@@ -126,7 +126,7 @@ module _ (sheet : List ℕ) (r : ℕ) where
       swapped true false v = refl
       swapped false u v = refl
 
-  road_more : {both x₀ x y z : Numbers} → Pulled (forth_of sheet r) both x y → Pulled (back_of sheet r) both y z
+  pub road_more : {both x₀ x y z : Numbers} → Pulled (forth_of sheet r) both x y → Pulled (back_of sheet r) both y z
       → Stepped (joined_by sheet r) both x₀ x → Stepped (joined_by sheet (r + 1)) both x₀ z
   road_more {both} {x₀} {x} {y} {z} forth back s = rw add-one (
       subst (λ (joined : ℕ → ℕ → Bool). Stepped joined both x₀ z) (λ i a b. both_ways a b i)

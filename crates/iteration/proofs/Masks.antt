@@ -23,6 +23,9 @@ use Rattle.iteration.specs.Masks.{ball_of, PlaceMasked, CentreMasked}
 
 -- ---- clearing, place after place
 
+pub cleared_none : (rows : List Place) → Cleared 0 rows rows
+cleared_none rows = record { low = λ p b. absurd (omega arith); kept = kept_refl _ _; past = kept_past_refl _ _ }
+
 pub cleared_low : {inside : List Bool} {n : ℕ} {before rows : List Place} → Cleared n before rows → Room n before → length inside ≡ n → LowOutside inside rows
 cleared_low d room all = record { room = omega (arith, d.kept.long); low = λ p h _. d.low p (omega arith) }
 
@@ -45,6 +48,16 @@ set_at place rows v b e = record {
     at : (p : ℕ) → Dec (p ≡ place) → operands (place_at (set rows place v) p) ≡ operands (place_at rows p)
     at p (yes same) = rw same (ap operands (get_or-set_same rows place v no_place b) ∙ e)
     at p (no other) = ap operands (get_or-set_other rows place p v no_place other)
+
+pub cleared_more : {k : ℕ} {before rows : List Place} {v : Place} → Cleared k before rows → k < length rows → PlaceCleared (place_at rows k) v → Cleared (k + 1) before (set rows k v)
+cleared_more {k} {rows = rows} {v} d b p =
+    let w = set_at k rows v b p.kept in record {
+      low = below_more (λ q. LowPlace (place_at (set rows k v) q)) k
+          (λ q less. rw (w.elsewhere q (λ e. absurd (omega arith))) (d.low q less))
+          (rw (get_or-set_same rows k v no_place b) p.low);
+      kept = kept_trans d.kept w.kept;
+      past = record { past = λ q h. w.elsewhere q (λ e. absurd (omega arith)) ∙ d.past.past q (omega arith) };
+    }
 
 -- a place is written, and has a flag or is cleared
 low_flag : (k : ℕ) (t : Bool) {inside : List Bool} {rows after : List Place} → k < length inside → LowOutside inside rows → WrittenAt k rows after

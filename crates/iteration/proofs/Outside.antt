@@ -1,19 +1,23 @@
--- Places outside a ball: the strips to work in are lowest there and stay so, so that a round is the same whether or not it touches them.
-use mathlib.Core.Path.{◌≡◌, ap, ◌∙◌}
-use mathlib.Core.Bool.{Bool, true, false, cond}
+-- Places outside a ball: the strips to work in are lowest there and stay so, so that a round, and a comparison of rows, is the same whether or not it touches
+-- them.
+use mathlib.Core.Path.{◌≡◌, refl, sym, ap, ap₂, ◌∙◌}
+use mathlib.Core.Bool.{Bool, true, false, cond, ◌&&◌, false≢true}
 use mathlib.Core.List.{List}
-use Prim.Native.Nat.{ℕ, ◌<◌, ◌≤◌}
+use Prim.Native.Nat.{ℕ, ◌+◌, ◌<◌, ◌≤◌}
 use native.Mathlib.Decide.{ℕ_discrete}
 use native.Mathlib.Omega.{arith}
-use lib.ListN.{get_or}
+use borrow.Author.Count.{below_more}
+use lib.ListN.{length, get_or}
 use Rattle.roads.specs.declared.road.Way.{Way}
 use Rattle.values.specs.Chain.{chain_lattice}
 use Rattle.values.proofs.Naturals.{meet_min}
 use Rattle.lanes.specs.declared.Place.{Place}
-use Rattle.lanes.specs.Lanes.{lanes, ring_row, x_row, former_row, both_row, Numbers, row_in}
-use Rattle.lanes.specs.Rows.{Kept, KeptPast}
-use Rattle.iteration.specs.WorkRows.{joined_part, stepped_part, LowOutside, Worked, KeptBut}
-use Rattle.iteration.specs.Steps.{Joined, Pulled, Stepped}
+use Rattle.lanes.specs.Lanes.{lanes, Row, ring_row, x_row, former_row, both_row, Numbers, place_at, row_in}
+use Rattle.lanes.specs.Strips.{StripsApart}
+use Rattle.lanes.specs.Rows.{Kept, KeptPast, flagged}
+use Rattle.lanes.proofs.RowLaws.{kept_refl, kept_past_refl}
+use Rattle.iteration.specs.WorkRows.{joined_part, stepped_part, LowPlace, LowOutside, Worked, KeptBut}
+use Rattle.iteration.specs.Steps.{Joined, Pulled, Stepped, RowsApart}
 
 -- what is lowest stays lowest: the lesser of it and another number
 pub meet_low : (a b : ℕ) → a ≡ 0 → chain_lattice.meet a b ≡ 0
@@ -24,6 +28,9 @@ meet_low a b e = rw meet_min (omega arith)
 -- the ring is the same function of the places
 pub ring_same : {before after : List Place} → Kept stepped_part before after → (lane : ℕ) → row_in after ring_row lane ≡ row_in before ring_row lane
 ring_same k lane = λ i p. get_or (k.same p i).ring lane 0
+
+pub nothing_written : (row : Row) {rows : List Place} → KeptBut row rows rows
+nothing_written row {rows} = kept_refl row.others rows
 
 pub stepped_of_joined : {before after : List Place} → Kept joined_part before after → Kept stepped_part before after
 stepped_of_joined k = record { same = λ p. ap stepped_part (k.same p); long = k.long }
@@ -73,8 +80,60 @@ pulled_low {way = way} {both} {before} {after} p k = low_fallen k (λ q lane l. 
     fallen q lane l (yes e) = rw (e, p.taken lane l) (cond_lower way.runs (row_in before x_row lane way.from) (both lane way.to))
     fallen q lane l (no u) = omega (arith, p.other q lane l u)
 
+-- where it does not, or the place lies outside, nothing is taken over
+pub not_pulled : (way : Way) {inside : List Bool} {rows : List Place} → LowOutside inside rows → way.from < length inside → (way.runs && flagged inside way.from) ≡ false
+    → Pulled way (row_in rows both_row) (row_in rows x_row) (row_in rows x_row)
+not_pulled way {inside} {rows} o i e = record { taken = λ lane l. go lane l way.runs e; other = λ _ _ _ _. refl }
+  where
+    go : (lane : ℕ) → lane < lanes → (t : Bool) → (t && flagged inside way.from) ≡ false
+        → row_in rows x_row lane way.from ≡ cond t (chain_lattice.meet (row_in rows x_row lane way.from) (row_in rows both_row lane way.to)) (row_in rows x_row lane way.from)
+    go lane l true out = let low = (o.low way.from i out).x_low lane l in low ∙ sym (meet_low _ _ low)
+    go lane l false out = refl
+
+-- ---- comparing, place after place
+module _ (h : ℕ → ℕ) (a b : Numbers) where
+  pub rows_none : RowsApart false h a b 0
+  rows_none = record { alike = λ e p lane l. absurd (omega arith); apart = λ e. absurd (false≢true e) }
+
+  pub rows_more : (k : ℕ) → RowsApart false h a b k → ((lane : ℕ) → lane < lanes → h (a lane k) ≡ h (b lane k)) → RowsApart false h a b (k + 1)
+  rows_more k w e = record {
+    alike = λ z p lane l m. below_more (λ q. h (a lane q) ≡ h (b lane q)) k (λ q c. w.alike z q lane c m) (e lane m) p l;
+    apart = λ z. absurd (false≢true z);
+  }
+
+module _ (h : ℕ → ℕ) (rows : List Place) (r : Bool) (k : ℕ) (s : StripsApart r h (place_at rows k).former (place_at rows k).x lanes) where
+  pub strips_alike : r ≡ false → (lane : ℕ) → lane < lanes → h (row_in rows former_row lane k) ≡ h (row_in rows x_row lane k)
+  strips_alike e = s.alike e
+
+  pub rows_found : (n : ℕ) → k < n → r ≡ true → RowsApart true h (row_in rows former_row) (row_in rows x_row) n
+  rows_found n l e = record {
+    alike = λ z. absurd (false≢true (sym z));
+    apart = λ _. let u = s.apart e in (k, u.0, l, u.1, u.2);
+  }
+
 -- ---- joining, place after place
 pub record Joining (inside : List Bool) (before rows : List Place) (k : ℕ) : Type 0 where
   pub joined : Joined (row_in before x_row) (row_in before ring_row) (row_in rows former_row) (row_in rows both_row) k
   pub worked : Worked joined_part inside before rows
   pub rest : KeptPast k before rows
+
+pub joining_none : {inside : List Bool} {rows : List Place} → LowOutside inside rows → Joining inside rows rows 0
+joining_none o = record {
+  joined = record { former = λ p lane b l. absurd (omega arith); handed = λ p lane b l. absurd (omega arith) };
+  worked = record { kept = kept_refl _ _; past = kept_past_refl _ _; low = o };
+  rest = kept_past_refl _ _;
+}
+
+-- a place outside is joined as it is
+pub joining_outside : {inside : List Bool} {before rows : List Place} {k : ℕ} → Joining inside before rows k → k < length inside → flagged inside k ≡ false → Joining inside before rows (k + 1)
+joining_outside {inside} {before} {rows} {k} j b e =
+    let low : LowPlace (place_at rows k) = j.worked.low.low k b e in record {
+      joined = record {
+        former = λ p lane c l. below_more (λ q. row_in rows former_row lane q ≡ row_in before x_row lane q) k (λ q d. j.joined.former q lane d l)
+            (low.former_low lane l ∙ sym (low.x_low lane l) ∙ ap (λ (q : Place). get_or q.x lane 0) (j.worked.kept.same k)) p c;
+        handed = λ p lane c l. below_more (λ q. row_in rows both_row lane q ≡ chain_lattice.join (row_in before x_row lane q) (row_in before ring_row lane q)) k (λ q d. j.joined.handed q lane d l)
+            (low.both_low lane l ∙ ap₂ chain_lattice.join (sym (low.x_low lane l) ∙ ap (λ (q : Place). get_or q.x lane 0) (j.worked.kept.same k)) (sym (low.ring_low lane l) ∙ ap (λ (q : Place). get_or q.ring lane 0) (j.worked.kept.same k))) p c;
+      };
+      worked = j.worked;
+      rest = record { past = λ p h. j.rest.past p (omega arith) };
+    }
