@@ -1,13 +1,13 @@
 -- From the lanes of a block to its samples: the lanes below `count` hold the signals, and the others, all lowest, rest from the
 -- start.
-use mathlib.Core.Path.{◌≡◌, refl, ap, ◌∙◌}
+use mathlib.Core.Path.{◌≡◌, refl, sym, ap, subst, ◌∙◌}
 use mathlib.Core.Bool.{Bool, true, false, not, cond}
 use mathlib.Core.List.{List}
 use Prim.Native.Nat.{ℕ, ◌+◌, ◌<◌, ◌≤◌}
 use native.Mathlib.Nat.{le_trans}
 use native.Mathlib.Omega.{arith}
-use lib.Dec.{eqb}
-use lib.ListN.{length}
+use lib.Dec.{T, eqb, ltb, ltb→lt}
+use lib.ListN.{length, get_or}
 use Rattle.network.specs.Network.{Network, joined, within, other}
 use Rattle.logic.specs.Margin.{Margin, minus_infinity, margin_lattice}
 use Rattle.logic.specs.Iteration.{iterate, masked, except, rounds}
@@ -16,13 +16,16 @@ use Rattle.logic.specs.Counts.{run_rounds, surround_rounds}
 use Rattle.logic.proofs.Keeps.{same_kept, surround_kept}
 use Rattle.logic.proofs.Rounds.{rounds_least}
 use Rattle.logic.proofs.Counts.{surround_rounds_same}
-use Rattle.values.specs.Chain.{margin_at, chain_lattice, chain_margin}
+use Rattle.values.specs.Chain.{margin_at, chain_lattice, chain_margin, Valid}
+use Rattle.values.specs.Signals.{signal_in}
+use Rattle.values.proofs.Valid.{valid_kept}
 use Rattle.lanes.specs.declared.rows.Block.{Block}
 use Rattle.lanes.specs.declared.Place.{Place}
 use Rattle.lanes.specs.Lanes.{lanes, Numbers, left_row, right_row, out_row, row_in}
-use Rattle.lanes.specs.Rows.{RowOf, KeptPast, lane_signal}
+use Rattle.lanes.specs.Rows.{RowOf, KeptPast, RowWritten, lane_signal}
 use Rattle.lanes.proofs.RowLaws.{lane_signal_lem, lane_zero}
 use Rattle.surrounds.specs.declared.surround.Surround.{Surround}
+use Rattle.iteration.specs.Steps.{ValidRow}
 use Rattle.surrounds.specs.Surround.{surround_in, surround_rounds_in, block_rounds}
 use Rattle.surrounds.specs.Runs.{lane_surround, lane_rounds, CentresDone}
 use Rattle.surrounds.specs.Blocks.{BlockReady, BlockDone}
@@ -32,7 +35,21 @@ use Rattle.surrounds.proofs.Lowest.{surround_low}
 
 -- ---- one row
 
+-- the left one is there when the right one has been read too
+pub left_loaded : {f g : Numbers} {n : ℕ} {before rows after : List Place} → RowWritten left_row n f before rows → RowWritten right_row n g rows after → RowOf f (row_in after left_row) n
+left_loaded v w = record { at = λ p lane b l. ap (λ (q : Place). get_or q.left lane 0) (w.kept.same p) ∙ v.written.at p lane b l }
+
 module _ (words : List ℕ) (start n : ℕ) (block : Block) (row : Numbers) (w : RowOf (lane_signal words start n block) row n) where
+  pub row_valid : ((t l : ℕ) → block.first ≤ t → t < block.first + block.count → l < n → Valid (signal_in words start n t l)) → ValidRow row n
+  row_valid v = record {
+    valid = λ l lane b h. subst Valid (sym (w.at l lane b h))
+        (either (ltb lane block.count) _ (λ c. let k = ltb→lt lane block.count c in v (block.first + lane) l (omega arith) (omega arith) b));
+  }
+    where
+      either : (t : Bool) (c : ℕ) → (T t → Valid c) → Valid (cond t c 0)
+      either true c h = h tt
+      either false c h = valid_kept.keeps_bottom
+
   -- the margins of a lane past the last sample are all minus infinity
   low : (lane l : ℕ) → lane < lanes → block.count ≤ lane → l < n → chain_margin (row lane l) ≡ minus_infinity
   unfolding margin_at

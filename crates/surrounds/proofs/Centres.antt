@@ -58,17 +58,18 @@ left_out_either P (suc k) f p h low = go (not (eqb p k))
     go true = h
     go false = low
 
--- run 0 leaves all as it is, and any other writes the lowest to the strip of its place
+-- run 0 leaves all as it is, and any other has the lowest at its place, and elsewhere what was there
 pub left_out_none : {row : Numbers} → LeftOut 0 row row
 unfolding left_out
 left_out_none = record { at = λ _ _ _. refl }
 
-left_out_set : (k : ℕ) (rows : List Place) (v : Place) → k < length rows → ((lane : ℕ) → lane < lanes → get_or v.x lane 0 ≡ 0) → LeftOut (suc k) (row_in rows x_row) (row_in (set rows k v) x_row)
+pub left_out_strip : (k : ℕ) {before after : Numbers} → ((lane : ℕ) → lane < lanes → after lane k ≡ 0) → ((p lane : ℕ) → lane < lanes → (p ≡ k → ⊥) → after lane p ≡ before lane p)
+    → LeftOut (suc k) before after
 unfolding left_out except masked
-left_out_set k rows v b lowest = record {
+left_out_strip k lowest kept = record {
   at = λ p lane l. ⊎_elim
-      (λ t. let same = eqb→eq p k t in rw (holds (eqb p k) t) (rw same (ap (λ (q : Place). get_or q.x lane 0) (get_or-set_same rows k v no_place b) ∙ lowest lane l)))
-      (λ t. rw (fails (eqb p k) t) (ap (λ (q : Place). get_or q.x lane 0) (get_or-set_other rows k p v no_place (λ same. absurd (T_not (eqb p k) t (rw same (eqb_refl k)))))))
+      (λ t. let same = eqb→eq p k t in rw (holds (eqb p k) t) (rw same (lowest lane l)))
+      (λ t. rw (fails (eqb p k) t) (kept p lane l (λ same. absurd (T_not (eqb p k) t (rw same (eqb_refl k))))))
       (dec_T (eqb p k));
 }
 
@@ -76,11 +77,18 @@ left_out_set k rows v b lowest = record {
 pub left_out_nothing : {run : ℕ} {row : Numbers} → run ≡ 0 → LeftOut run row row
 left_out_nothing e = rw e left_out_none
 
-pub left_out_number : {run : ℕ} (rows : List Place) (v : Place) → 0 < run → run ≤ length rows → ((lane : ℕ) → lane < lanes → get_or v.x lane 0 ≡ 0)
-    → LeftOut run (row_in rows x_row) (row_in (set rows (run - 1) v) x_row)
-left_out_number {run} rows v some room lowest =
+pub left_out_number : {run : ℕ} {before after : Numbers} → 0 < run → ((lane : ℕ) → lane < lanes → after lane (run - 1) ≡ 0)
+    → ((p lane : ℕ) → lane < lanes → (p ≡ run - 1 → ⊥) → after lane p ≡ before lane p) → LeftOut run before after
+left_out_number {run} {before} {after} some lowest kept =
     let number : suc (run - 1) ≡ run = omega arith in
-    subst (λ (k : ℕ). LeftOut k (row_in rows x_row) (row_in (set rows (run - 1) v) x_row)) number (left_out_set (run - 1) rows v (omega arith) lowest)
+    subst (λ (k : ℕ). LeftOut k before after) number (left_out_strip (run - 1) lowest kept)
+
+-- where its place is written
+pub left_out_set : {run : ℕ} (rows : List Place) (v : Place) → 0 < run → run ≤ length rows → ((lane : ℕ) → lane < lanes → get_or v.x lane 0 ≡ 0)
+    → LeftOut run (row_in rows x_row) (row_in (set rows (run - 1) v) x_row)
+left_out_set {run} rows v some room lowest = left_out_number some
+    (λ lane l. ap (λ (q : Place). get_or q.x lane 0) (get_or-set_same rows (run - 1) v no_place (omega arith)) ∙ lowest lane l)
+    (λ p lane l other. ap (λ (q : Place). get_or q.x lane 0) (get_or-set_other rows (run - 1) p v no_place other))
 
 -- leaving out after masking is masking after leaving out
 left_out_masked : (run : ℕ) (test : ℕ → Bool) (f g : ℕ → ℕ) (p : ℕ) → f p ≡ masked chain_lattice test g p

@@ -73,7 +73,7 @@ pub(crate) fn is_made(distances: Distances, centre: usize, run: Run) -> bool
 }
 
 // The place that a run leaves out becomes lowest.
-#[tactic(auto, using(crate::proofs::Centres::left_out_nothing, crate::proofs::Centres::left_out_number))]
+#[tactic(auto, using(crate::proofs::Centres::left_out_nothing, crate::proofs::Centres::left_out_set))]
 pub(crate) fn leave_out(rows: &mut [Place], run: Run)
     requires { Room run.number rows.old }
     ensures out { LeftOut run.number (row_in rows.old x_row) (row_in rows.new x_row) }
