@@ -1,5 +1,5 @@
--- What the walk over an answer rests on: a test of all is decided by one that fails, or by each that passes; and no line of 255 begins at an index
--- of more than 36 bits, whatever the words are.
+-- What the walk over an answer rests on: a test of all is decided by one that fails, or by each that passes; a word says something where its
+-- number is not 0; and no line of 255 begins at an index of more than 36 bits, whatever the words are.
 use mathlib.Core.Path.{◌≡◌, refl, sym}
 use mathlib.Core.Bool.{Bool, true, false}
 use mathlib.Core.List.{List}
@@ -13,7 +13,8 @@ use Rattle.counting.proofs.Tests.{bool_ext}
 use Rattle.logic.proofs.Quantifiers.{all_e, all_i}
 use Rattle.checks.specs.Heads.{is_wide, places_of}
 use Rattle.checks.proofs.Heads.{few_head_words, places_few}
-use Rattle.lookup.specs.Lookup.{extent_at, line_start}
+use Rattle.values.specs.Said.{Said, says, nothing}
+use Rattle.lookup.specs.Lookup.{is_said, verdict_number, extent_at, line_start}
 
 -- ---- all numbers below n that pass the test t
 pub one_fails : (t f : ℕ → Bool) (n l : ℕ) → l < n → T (t l) → f l ≡ false → least_over verdict_lattice t f n ≡ false
@@ -26,6 +27,16 @@ none_fails t f n holds = bool_ext (least_over verdict_lattice t f n) true (λ _.
 pub all_told : (t f : ℕ → Bool) (n : ℕ) (all : Bool) → (all ≡ true → (l : ℕ) → l < n → T (t l) → f l ≡ true) → (all ≡ false → (l : ℕ) × (l < n) × T (t l) × (f l ≡ false)) → all ≡ least_over verdict_lattice t f n
 all_told t f n true pass fails = sym (none_fails t f n (pass refl))
 all_told t f n false pass fails = let (l, below, passes, none) = fails refl in sym (one_fails t f n l below passes none)
+
+-- ---- what a word says
+pub says_something : (s : Said) → (verdict_number s ≡ 0 → ⊥) → is_said s ≡ true
+says_something (says v m) some = refl
+says_something nothing some = absurd (some refl)
+
+pub says_nothing : (s : Said) → verdict_number s ≡ 0 → is_said s ≡ false
+says_nothing (says true m) none = absurd (omega arith)
+says_nothing (says false m) none = absurd (omega arith)
+says_nothing nothing none = refl
 
 -- ---- where the lines begin
 module _ (a : List ℕ) where
