@@ -15,7 +15,7 @@ use Rattle.checks.specs.Checked.{accepted, refused, ◌>>=◌, mapped, is_kind}
 use Rattle.lines.specs.Lines.{line_at, lines_from}
 use Rattle.lines.specs.GoodLines.{GoodTable, extents_of}
 use Rattle.lines.specs.declared.extent.Extent.{Extent}
-use Rattle.lines.specs.Decoding.{extent_said, extent_in, ExtentsWithin, line_after, line_count, table_at}
+use Rattle.lines.specs.Decoding.{extent_said, no_extent, extent_in, ExtentsWithin, line_after, line_count, table_at}
 use Rattle.lines.proofs.Reading.{lines_over, lines_stop, lines_end, line_more}
 use Rattle.lines.proofs.AcceptedLines.{good_end, line_good, good_more}
 
@@ -24,7 +24,12 @@ use Rattle.lines.proofs.AcceptedLines.{good_end, line_good, good_more}
 abbrev pub Extents : List Line → List Extent → Type 0
 Extents found earlier = (i : ℕ) → extent_in earlier i ≡ (line_in found i).extent
 
-extents_more : (found : List Line) (line : Line) (earlier : List Extent) (e : Extent) → length found ≡ length earlier → extent_said e ≡ line.extent
+pub extents_none : (n : ℕ) → Extents [] (replicate n no_extent)
+extents_none zero i = refl
+extents_none (suc n) zero = refl
+extents_none (suc n) (suc i) = extents_none n i
+
+pub extents_more : (found : List Line) (line : Line) (earlier : List Extent) (e : Extent) → length found ≡ length earlier → extent_said e ≡ line.extent
     → Extents found earlier → Extents (found ++ (line ∷ [])) (earlier ++ (e ∷ []))
 extents_more [] line [] e count same known zero = same
 extents_more [] line [] e count same known (suc i) = refl
