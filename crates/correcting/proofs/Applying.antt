@@ -2,13 +2,14 @@
 use mathlib.Core.Path.{◌≡◌, refl, sym, ap, subst, ◌∙◌}
 use Rattle.std.specs.Prelude.{Ok}
 use mathlib.Core.List.{List}
-use Prim.Native.Nat.{ℕ, ◌*◌, ◌<◌, ◌≤◌}
+use mathlib.Core.Bool.{Bool, true, false, not}
+use Prim.Native.Nat.{ℕ, zero, suc, ◌*◌, ◌<◌, ◌≤◌}
 use native.Mathlib.Omega.{arith}
 use lib.ListN.{length, take}
 use Rattle.words.specs.Bytes.{words_of}
 use Rattle.words.proofs.Rows.{length-row}
 use Rattle.checks.specs.Limits.{most_places}
-use Rattle.checks.specs.Checked.{accepted, refused, ◌>>=◌, mapped}
+use Rattle.checks.specs.Checked.{Checked, accepted, refused, ◌>>=◌, require, mapped}
 use Rattle.checks.proofs.Checks.{mapped_accepted, mapped_refused}
 use Rattle.sheet.specs.declared.check.Layout as Code
 use Rattle.sheet.specs.Layout.{Layout, validated}
@@ -17,7 +18,7 @@ use Rattle.sheet.proofs.Whole.{AcceptedSheet, accepted_sheet, few_words}
 use Rattle.tool.specs.Tool.{refusal, whole, left, Makes}
 use Rattle.tool.proofs.Leaving.{room_for, no_room_for, same_words, words_made}
 use Rattle.corrections.specs.declared.correction.Grid.{Grid}
-use Rattle.corrections.specs.Corrections.{count, well_formed, agrees, in_turn, list_checked}
+use Rattle.corrections.specs.Corrections.{count, well_formed, disagrees_with, agrees, in_turn, list_checked}
 use Rattle.corrections.specs.Aimed.{GridFits, AllAimed}
 use Rattle.corrections.proofs.Aiming.{all_aimed}
 use Rattle.correcting.specs.Corrected.{grid_of, corrected_words, corrected}
@@ -39,6 +40,20 @@ module _ (sheet list output : List ℕ) where
     pub clashes : {n number index : ℕ} → n ≡ count c → in_turn (agrees c g) n ≡ refused number index → applied_in sheet list output g ≡ refusal room number index
     unfolding left
     clashes all e = let told = ap (in_turn (agrees c g)) (sym all) ∙ e in simp told
+
+    -- two that disagree are 20: for those who tell the number anew, as must-fail/clash_among_faults
+    one_disagrees : (agreed : Bool) (k : ℕ) {number index : ℕ} → ◌≡◌ {A = Checked (Unit {0})} (require agreed 20 k (accepted tt)) (refused number index) → number ≡ 20
+    one_disagrees true k e = cc
+    one_disagrees false k e = cc
+
+    pub clash_number : (n : ℕ) {number index : ℕ} → in_turn (agrees c g) n ≡ refused number index → number ≡ 20
+    unfolding in_turn agrees
+    clash_number zero e = cc
+    clash_number (suc k) {number} {index} e = by (λ told. clash_number k told) (in_turn (agrees c g) k) refl e
+      where
+        by : (in_turn (agrees c g) k ≡ refused number index → number ≡ 20) → (before : Checked (Unit {0})) → in_turn (agrees c g) k ≡ before → (before >>= λ _. agrees c g k) ≡ refused number index → number ≡ 20
+        by earlier (accepted _) before e = one_disagrees (not (disagrees_with c g k k)) (k * 3) e
+        by earlier (refused _ _) before e = earlier (before ∙ e)
 
     pub corrected_length : length (corrected_words s c g) ≡ length s
     unfolding corrected_words

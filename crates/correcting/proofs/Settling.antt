@@ -92,7 +92,7 @@ module _ (c : List ℕ) (g : Grid) where
   pub settled_none : (before words : List ℕ) → AllRaised c g before words → Settled before words (count c)
   settled_none before words raised index = inl (raised index, refl, λ k h l. absurd (omega arith))
 
-  settled_less : (before words : List ℕ) {left : ℕ} (k : ℕ) → left ≡ suc k → k < count c → Aimed c g k → target c g k < length words
+  pub settled_less : (before words : List ℕ) {left : ℕ} (k : ℕ) → left ≡ suc k → k < count c → Aimed c g k → target c g k < length words
       → Settled before words left → Settled before (settled_once c g words k) k
   settled_less before words k one_more inside aimed there settled index = by_target (ℕ_discrete index (target c g k)) (rw one_more at settled index)
     where
@@ -103,7 +103,7 @@ module _ (c : List ℕ) (g : Grid) where
           rw stored (aimed_here_lem index (word_at before index) k (word_at words index) here aimed inside word)
       by_target (no other) word = rw (get_or-set_other words (target c g k) index _ 0 other) (aimed_elsewhere index (word_at before index) k (word_at words index) other word)
 
-  settled_all : (before words : List ℕ) → Settled before words 0 → AllCorrected c g before words
+  pub settled_all : (before words : List ℕ) → Settled before words 0 → AllCorrected c g before words
   settled_all before words settled index = none_left index (word_at before index) (word_at words index) (settled index)
 
   -- ---- whatever stood before all were raised, with so many corrections left

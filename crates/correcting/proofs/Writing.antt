@@ -20,7 +20,7 @@ use Rattle.correcting.specs.Lent.{Targets, NoRevisions, AllCorrected, TargetsIn,
 use Rattle.correcting.proofs.Raising.{targets_kept}
 
 -- the words that were copied stand at the front
-copied_front : (sheet output : List ℕ) {end : ℕ} {after : List ℕ} → end ≡ length (words_of sheet) * 4 → length (words_of sheet) ≤ length (words_of output)
+pub copied_front : (sheet output : List ℕ) {end : ℕ} {after : List ℕ} → end ≡ length (words_of sheet) * 4 → length (words_of sheet) ≤ length (words_of output)
     → after ≡ put output 0 (take end sheet) → take (length (words_of sheet)) (words_of after) ≡ words_of sheet
 copied_front sheet output ends room copied =
     let n : ℕ = length (words_of sheet) in
@@ -36,16 +36,16 @@ module _ (s c : List ℕ) (g : Grid) (before : List ℕ) (front : take (length s
   front_word : (index : ℕ) → index < length s → word_at before index ≡ word_at s index
   front_word index inside = sym (get_or-take (length s) before index 0 inside) ∙ ap (λ words. word_at words index) front
 
-  front_long : length s ≤ length before
+  pub front_long : length s ≤ length before
   front_long = omega (arith, ap length front, length-take (length s) before)
 
-  front_targets : {n : ℕ} → Targets c g n s → Targets c g n before
+  pub front_targets : {n : ℕ} → Targets c g n s → Targets c g n before
   front_targets targets = targets_kept c g targets front_long
 
-  front_samples : {n : ℕ} → Targets c g n s → NoRevisions c g s → NoRevisions c g before
+  pub front_samples : {n : ℕ} → Targets c g n s → NoRevisions c g s → NoRevisions c g before
   front_samples targets samples k h = rw (front_word (target c g k) (targets.inside k (omega (arith, targets.all)))) (samples k h)
 
-  front_corrected : (words : List ℕ) → length s ≤ length words → AllCorrected c g before words → take (length s) words ≡ corrected_words s c g
+  pub front_corrected : (words : List ℕ) → length s ≤ length words → AllCorrected c g before words → take (length s) words ≡ corrected_words s c g
   unfolding corrected_words
   front_corrected words room all =
       let after : ℕ → ℕ = λ index. word_after c g index (word_at s index) (count c) in
