@@ -44,7 +44,7 @@ saturated_least d x y = lesser_by (λ v. saturated v ≡ min (saturated d) (satu
     (λ h. omega (arith, saturated_order d (add x y) h, saturated_add x y, saturated_most d))
     (λ h. omega (arith, saturated_order (add x y) d (at_most_other d (add x y) h), saturated_add x y, saturated_most d))
 
-length_stage : (weight : ℕ → ℕ → Distance) (n k : ℕ) → length (stage weight n k) ≡ n * n
+pub length_stage : (weight : ℕ → ℕ → Distance) (n k : ℕ) → length (stage weight n k) ≡ n * n
 unfolding stage
 length_stage weight n k = length-rows (λ a b. saturated (distance weight k a b)) n n
 
@@ -108,7 +108,7 @@ module _ (weight : ℕ → ℕ → Distance) (n k : ℕ) where
       go (no l) = le-ltb p m (omega arith) ∙ sym (le-ltb p (suc m) (omega arith))
 
   -- one entry more
-  relaxing_more : (a b x : ℕ) (t : List ℕ) → a < n → b < n → k < n → x ≡ saturated (distance weight k a k)
+  pub relaxing_more : (a b x : ℕ) (t : List ℕ) → a < n → b < n → k < n → x ≡ saturated (distance weight k a k)
       → t ≡ relaxing weight n k (a * n + b) → relaxed x (k * n + b) (a * n + b) t ≡ relaxing weight n k (suc (a * n + b))
   unfolding relaxing
   relaxing_more a b x t ha hb hk ex et =
