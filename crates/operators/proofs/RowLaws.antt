@@ -1,5 +1,5 @@
 -- Rows are written place by place, each number from a law f: none yet, one more, all of them; and what a turned number is.
-use mathlib.Core.Path.{◌≡◌, refl, ◌∙◌}
+use mathlib.Core.Path.{◌≡◌, refl, subst, ◌∙◌}
 use mathlib.Core.Bool.{Bool, true, false}
 use mathlib.Core.List.{List}
 use Prim.Native.Nat.{ℕ, ◌+◌, ◌≤◌, ◌<◌}
@@ -17,6 +17,12 @@ pub record Passed (places : ℕ) (f : ℕ → ℕ) (before row : List ℕ) (l : 
   pub some : l ≤ places
   pub left : RowLeft l f before row
 
+pub none_passed : (places : ℕ) (f : ℕ → ℕ) (row : List ℕ) → Passed places f row row 0
+none_passed places f row = record {
+  some = omega arith;
+  left = record { filled = record { at = λ l b. absurd (omega arith) }; kept = λ l b. refl; long = refl };
+}
+
 pub one_passed : {places : ℕ} {f : ℕ → ℕ} {before row : List ℕ} {l : ℕ} (v : ℕ) → Passed places f before row l → l < places → places ≤ length before → v ≡ f l
     → Passed places f before (set row l v) (l + 1)
 one_passed {places} {f} {before} {row} {l} v passed inside room e =
@@ -33,6 +39,9 @@ one_passed {places} {f} {before} {row} {l} v passed inside room e =
         long = length-set row l v ∙ left.long;
       };
     }
+
+pub all_passed : {places : ℕ} {f : ℕ → ℕ} {before row : List ℕ} {l : ℕ} → Passed places f before row l → places ≤ l → RowLeft places f before row
+all_passed {places} {f} {before} {row} {l} passed ended = let e : l ≡ places = omega (arith, passed.some) in subst (λ k. RowLeft k f before row) e passed.left
 
 -- the same numbers by another name
 pub left_same : {f g : ℕ → ℕ} {before after : List ℕ} {n : ℕ} → RowLeft n f before after → ((l : ℕ) → l < n → f l ≡ g l) → RowLeft n g before after
