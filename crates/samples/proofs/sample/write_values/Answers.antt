@@ -12,7 +12,7 @@ use Rattle.samples.proofs.sample.write_values.Goals as goal
 
 pub write_sample-requires : goal.write_sample-requires
 write_sample-requires c =
-    (record { inside = λ l h. omega arith; bound = λ l h. rw (entry_one c.args.values.now l) (c.requires.0 l h) }, omega (arith, c.requires.1))
+    (record { inside = λ l h. omega arith; bound = λ l h. rw (entry_one c.args.values.now l) (c.requires.0 l (omega arith)) }, omega (arith, c.requires.1))
 
 pub returns-clause-written : goal.returns-clause-written
 returns-clause-written c =
