@@ -1,14 +1,14 @@
 -- Laws of the 64-bit numbers that a list of words holds: their count, the words of one, stores, lists one after the other, zeros; and of
 -- the numbers in bytes.
 use Prim.Native.Nat.{ℕ, zero, suc, ◌+◌, ◌-◌, ◌*◌, ◌/◌, ◌%◌, ◌<◌, ◌≤◌, ◌^◌}
-use mathlib.Core.Path.{◌≡◌, refl, ◌∙◌, ap}
+use mathlib.Core.Path.{◌≡◌, refl, ◌∙◌, ap, ap₂}
 use mathlib.Core.List.{List, [], ◌∷◌, ◌++◌}
 use native.Mathlib.Nat.{le_of_suc-le-suc}
 use native.Mathlib.Omega.{arith}
 use lib.ListN.{length, get_or, set, replicate}
-use Rattle.words.specs.Bytes.{words_of, numbers_of}
+use Rattle.words.specs.Bytes.{word_of_bytes, words_of, numbers_of}
 use Rattle.words.specs.Rows.{padded}
-use Rattle.words.proofs.Words.{words_count, words_append, words_zeros}
+use Rattle.words.proofs.Words.{words_count, get_or_words, words_append, words_zeros}
 
 -- two words to a number
 pub numbers_count : (w : List ℕ) → (length (numbers_of w) * 2 ≤ length w) × (length w < length (numbers_of w) * 2 + 2)
@@ -89,3 +89,17 @@ padded_bytes v k m h =
     let e : m / 8 ≡ k + m / 8 - length (numbers_of (words_of v)) = omega (arith, length_numbers v) in
     bytes_append v (replicate m 0) k h
     ∙ ap (λ (t : List ℕ). numbers_of (words_of v) ++ t) (bytes_zeros m ∙ ap (λ (j : ℕ). replicate j 0) e)
+
+-- ---- one number in bytes
+pub get_or_bytes : (b : List ℕ) (i : ℕ) → i < length (numbers_of (words_of b)) → get_or (numbers_of (words_of b)) i 0
+    ≡ word_of_bytes (get_or b (i * 8) 0) (get_or b (i * 8 + 1) 0) (get_or b (i * 8 + 2) 0) (get_or b (i * 8 + 3) 0)
+    + word_of_bytes (get_or b (i * 8 + 4) 0) (get_or b (i * 8 + 5) 0) (get_or b (i * 8 + 6) 0) (get_or b (i * 8 + 7) 0) * 2 ^ 32
+get_or_bytes b i h =
+    let lower : i * 2 < length (words_of b) = omega (arith, numbers_count (words_of b)) in
+    let upper : i * 2 + 1 < length (words_of b) = omega (arith, numbers_count (words_of b)) in
+    let n0 : i * 2 * 4 ≡ i * 8 = omega arith in
+    let n4 : (i * 2 + 1) * 4 ≡ i * 8 + 4 = omega arith in
+    let n5 : i * 8 + 4 + 1 ≡ i * 8 + 5 = omega arith in
+    let n6 : i * 8 + 4 + 2 ≡ i * 8 + 6 = omega arith in
+    let n7 : i * 8 + 4 + 3 ≡ i * 8 + 7 = omega arith in
+    get_or_numbers (words_of b) i h ∙ ap₂ (λ (x y : ℕ). x + y * 2 ^ 32) (rw n0 at (get_or_words b (i * 2) lower)) (rw (n4, n5, n6, n7) at (get_or_words b (i * 2 + 1) upper))

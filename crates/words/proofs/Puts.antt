@@ -1,5 +1,5 @@
 -- Laws of `put`, words in place of others: nothing put, one word more, words after words, what is kept, and the words of bytes that are put.
-use Prim.Native.Nat.{ℕ, suc, ◌+◌, ◌*◌, ◌^◌, ◌<◌, ◌≤◌}
+use Prim.Native.Nat.{ℕ, suc, ◌+◌, ◌*◌, ◌/◌, ◌%◌, ◌^◌, ◌<◌, ◌≤◌}
 use mathlib.Core.Path.{◌≡◌, refl, sym, ◌∙◌, ap, ap₂}
 use mathlib.Core.List.{List, [], ◌∷◌, ◌++◌, append_assoc, append-nil}
 use native.Mathlib.Nat.{add-zero}
@@ -8,13 +8,14 @@ use native.Mathlib.Omega.{arith}
 use lib.ListN.{length, get_or, take, drop, set, length-append, length-drop, take-append-drop}
 use lib.Seq.{length-take-le, drop-cons, set_at, append_snoc, take_at, take-suc, drop-drop, drop-append-add}
 use borrow.Rule.Slice.PartMut.{put_mid}
-use Rattle.words.specs.Bytes.{words_of, bytes_of}
+use Rattle.words.specs.Bytes.{words_of, numbers_of, bytes_of, halves_of}
 use Rattle.words.specs.Rows.{row, put}
 use Rattle.words.proofs.Rows.{length-row}
 use Rattle.words.proofs.Parts.{put_back}
 use Rattle.words.proofs.RoundTrips.{bytes_words}
 use Rattle.words.proofs.Below.{below_more, below_none}
 use Rattle.words.proofs.Words.{words_count, length_words, words_append, words_drop, words_take}
+use Rattle.words.proofs.Numbers.{numbers_count, numbers_set, number_words}
 
 pub put_nil : (s : List ℕ) (i : ℕ) → put s i [] ≡ s
 unfolding put
@@ -121,3 +122,23 @@ word_back b v i at k w here four small inside told =
     let e : put_mid at k b v ≡ put b (i * 4) v = put_back b v at k (omega arith) ∙ ap (λ (n : ℕ). put b n v) here in
     let read : words_of v ≡ w ∷ [] = ap words_of told ∙ bytes_words (w ∷ []) (below_more {bound = 2 ^ 32} (omega arith) w [] small (below_none (omega arith))) in
     ap words_of e ∙ words_put b v i 1 long (omega arith) ∙ ap (put (words_of b) i) read ∙ sym (put_one (words_of b) i w inside)
+
+-- .. and a number's eight
+pub number_back : (b v : List ℕ) (i at k x : ℕ) → at ≡ i * 8 → k ≡ 8 → x < 2 ^ 64 → i < length (numbers_of (words_of b)) → v ≡ bytes_of (halves_of (x ∷ []))
+    → numbers_of (words_of (put_mid at k b v)) ≡ set (numbers_of (words_of b)) i x
+unfolding bytes_of halves_of
+number_back b v i at k x here eight small inside told =
+    let w = words_of b in
+    let lower = x % 2 ^ 32 in
+    let upper = x / 2 ^ 32 in
+    let room : i * 2 + 1 < length w = omega (arith, numbers_count w) in
+    let long : length v ≡ 8 = ap length told in
+    let start : at ≡ i * 2 * 4 = omega arith in
+    let e : put_mid at k b v ≡ put b (i * 2 * 4) v = put_back b v at k (omega arith) ∙ ap (λ (n : ℕ). put b n v) start in
+    let one = below_more {bound = 2 ^ 32} (omega arith) in
+    let read : words_of v ≡ lower ∷ upper ∷ [] =
+    ap words_of told ∙ bytes_words (lower ∷ upper ∷ []) (one lower (upper ∷ []) (omega arith) (one upper [] (omega arith) (below_none (omega arith)))) in
+    let two : put w (i * 2) (lower ∷ upper ∷ []) ≡ set (set w (i * 2) lower) (i * 2 + 1) upper =
+    sym (ap (λ (t : List ℕ). set t (i * 2 + 1) upper) (put_one w (i * 2) lower (omega arith)) ∙ put_snoc w (i * 2) (lower ∷ []) upper (omega arith)) in
+    ap (λ (t : List ℕ). numbers_of (words_of t)) e ∙ ap numbers_of (words_put b v (i * 2) 2 long (omega arith) ∙ ap (put w (i * 2)) read ∙ two)
+    ∙ numbers_set w i lower upper inside ∙ ap (set (numbers_of w) i) (number_words x)

@@ -58,6 +58,20 @@ numbers_bytes b k l h =
     ∙ words_bytes b (k * 2) l (omega arith)
 
 -- ---- written and read back
+-- the bytes of a number are those of its halves
+pub number_bytes : (x : ℕ) → x % 2 ^ 8 ∷ x / 2 ^ 8 % 2 ^ 8 ∷ x / 2 ^ 16 % 2 ^ 8 ∷ x / 2 ^ 24 % 2 ^ 8 ∷ x / 2 ^ 32 % 2 ^ 8 ∷ x / 2 ^ 40 % 2 ^ 8 ∷ x / 2 ^ 48 % 2 ^ 8 ∷ x / 2 ^ 56 % 2 ^ 8 ∷ []
+    ≡ bytes_of (halves_of (x ∷ []))
+unfolding bytes_of halves_of
+number_bytes x =
+    let e0 : x % 2 ^ 32 % 2 ^ 8 ≡ x % 2 ^ 8 = omega arith in
+    let e1 : x % 2 ^ 32 / 2 ^ 8 % 2 ^ 8 ≡ x / 2 ^ 8 % 2 ^ 8 = omega arith in
+    let e2 : x % 2 ^ 32 / 2 ^ 16 % 2 ^ 8 ≡ x / 2 ^ 16 % 2 ^ 8 = omega arith in
+    let e3 : x % 2 ^ 32 / 2 ^ 24 % 2 ^ 8 ≡ x / 2 ^ 24 % 2 ^ 8 = omega arith in
+    let e5 : x / 2 ^ 32 / 2 ^ 8 % 2 ^ 8 ≡ x / 2 ^ 40 % 2 ^ 8 = omega arith in
+    let e6 : x / 2 ^ 32 / 2 ^ 16 % 2 ^ 8 ≡ x / 2 ^ 48 % 2 ^ 8 = omega arith in
+    let e7 : x / 2 ^ 32 / 2 ^ 24 % 2 ^ 8 ≡ x / 2 ^ 56 % 2 ^ 8 = omega arith in
+    rw (e0, e1, e2, e3, e5, e6, e7) refl
+
 pub length_bytes : (w : List ℕ) → length (bytes_of w) ≡ length w * 4
 unfolding bytes_of
 length_bytes [] = refl

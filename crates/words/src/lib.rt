@@ -1,8 +1,8 @@
 // Words of 32 bits and numbers of 64 bits in bytes, lowest byte first, and the fields of a word.
 #![tactic(auto)]
 
-ghost use Rattle.std.specs.Prelude.{◌≡◌, [], ◌∷◌, ◌+◌, ◌*◌, ◌<◌, ◌≤◌, ◌^◌, length, get_or, take, set, replicate};
-ghost use Rattle.words.specs.Word.{bits, kind_of, payload_of, sample_of};
+ghost use Rattle.std.specs.Prelude.{◌≡◌, [], ◌∷◌, ◌+◌, ◌*◌, ◌%◌, ◌<◌, ◌≤◌, ◌^◌, length, get_or, take, set, replicate};
+ghost use Rattle.words.specs.Word.{bits, kind_of, payload_of, sample_of, signed, word_of};
 ghost use Rattle.words.specs.Bytes.{words_of, numbers_of, bytes_of, halves_of, after_words};
 ghost use Rattle.words.specs.Rows.{put, padded};
 
@@ -20,16 +20,28 @@ pub fn payload(w: u32) -> u32
     w % 268435456
 }
 
+// The word of a kind and a payload.
+pub fn word(kind: u32, payload: u32) -> u32
+    requires { kind < 16 × payload < 2 ^ 28 }
+    ensures { result ≡ word_of kind payload }
+{
+    (kind << 28) | payload
+}
+
+// The lowest bits of a word, so many, as a number in two's complement.
+#[tactic(auto, using(crate::proofs::TwosComplement::pulled_back))]
+pub fn signed<const WIDTH: u32>(w: u32) -> i32
+    requires { 0 < WIDTH × WIDTH ≤ 32 }
+    ensures { result ≡ signed WIDTH (w % 2 ^ WIDTH) }
+{
+    (w << (32 - WIDTH)).cast_signed() >> (32 - WIDTH)
+}
+
 // Bits 26..0 as a number in two's complement.
 pub fn sample(w: u32) -> i32
     ensures { result ≡ sample_of w }
 {
-    let field = w % 134217728;
-    if field < 67108864 {
-        field as i32
-    } else {
-        (field as i32) - 134217728
-    }
+    signed::<27>(w)
 }
 
 // How many whole words there are.
@@ -75,12 +87,6 @@ pub fn bits<const LOW: u32, const COUNT: u32>(w: u32) -> u32
     (w >> LOW) % (1 << COUNT)
 }
 
-fn number_of_words(low: u32, high: u32) -> u64
-    ensures { result ≡ low + high * 2 ^ 32 }
-{
-    low as u64 + high as u64 * 4294967296
-}
-
 // How many whole numbers there are.
 #[tactic(auto, using(crate::proofs::Numbers::length_numbers))]
 pub fn number_count(s: &[u8]) -> usize
@@ -89,24 +95,32 @@ pub fn number_count(s: &[u8]) -> usize
     s.len() / 8
 }
 
-#[tactic(auto, using(crate::proofs::Words::words_count, crate::proofs::Numbers::numbers_count, crate::proofs::Numbers::get_or_numbers))]
+#[tactic(auto, using(crate::proofs::Words::words_count, crate::proofs::Numbers::numbers_count, crate::proofs::Numbers::get_or_bytes))]
 pub fn number_at(s: &[u8], i: usize) -> u64
     requires { i < length (numbers_of (words_of s.now)) }
     ensures { result ≡ get_or (numbers_of (words_of s.now)) i 0 }
 {
-    let at = i * 2;
-    number_of_words(word_at(s, at), word_at(s, at + 1))
+    let at = i * 8;
+    u64::from_le_bytes([
+        s[at],
+        s[at + 1],
+        s[at + 2],
+        s[at + 3],
+        s[at + 4],
+        s[at + 5],
+        s[at + 6],
+        s[at + 7],
+    ])
 }
 
-#[tactic(auto, using(crate::proofs::Words::words_count, crate::proofs::Numbers::numbers_count, crate::proofs::Numbers::numbers_set, crate::proofs::Numbers::number_words))]
+#[tactic(auto, using(crate::proofs::Words::words_count, crate::proofs::Numbers::numbers_count, std::proofs::lemmas::Grind::common_steps, crate::proofs::Parts::put_back_as, crate::proofs::Puts::number_back, crate::proofs::RoundTrips::number_bytes))]
 pub fn put_number(s: &mut [u8], i: usize, x: u64)
     requires { i < length (numbers_of (words_of s.old)) }
     ensures stored { numbers_of (words_of s.new) ≡ set (numbers_of (words_of s.old)) i x }
     ensures bytes { s.new ≡ put s.old (i * 8) (bytes_of (halves_of (x ∷ []))) }
 {
-    let at = i * 2;
-    put_word(s, at, (x % 4294967296) as u32);
-    put_word(s, at + 1, (x / 4294967296) as u32);
+    let at = i * 8;
+    s[at..at + 8].copy_from_slice(&x.to_le_bytes());
 }
 
 // Stores numbers one after the other in bytes that have room for just them.
