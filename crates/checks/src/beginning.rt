@@ -23,11 +23,11 @@ pub fn put_head(s: &mut [u8], head: Beginning, wide: bool)
     ensures tail { after_words s.new ≡ after_words s.old }
 {
     let places = head.places as u32;
-    let word = head.kind * 268435456 + head.count as u32 * 4096 + head.samples as u32;
+    let fields = ((head.count as u32) << 12) | head.samples as u32;
     if wide {
         words::put_word(s, 0, Kind::Wide.word(places));
-        words::put_word(s, 1, word);
+        words::put_word(s, 1, words::word(head.kind, fields));
         return;
     }
-    words::put_word(s, 0, word + places * 1048576);
+    words::put_word(s, 0, words::word(head.kind, (places << 20) | fields));
 }

@@ -36,7 +36,7 @@ impl Kind {
         requires { payload < 2 ^ 28 }
         ensures { result ≡ word_of (kind_number self) payload }
     {
-        self.number() * 268435456 + payload
+        words::word(self.number(), payload)
     }
 
     // Whether the word at an index is there and of this kind.
