@@ -22,7 +22,7 @@ fn first_word(extent: Extent) -> u32
     requires { end_of (extent_said extent) ≤ most_samples }
     ensures { result ≡ first_word (extent_said extent) }
 {
-    Kind::AnswerLine.word(extent.first * 4096 + extent.length)
+    Kind::AnswerLine.word((extent.first << 12) | extent.length)
 }
 
 // Writes a line of a sheet, of which the words before its own have the earlier lines.

@@ -37,12 +37,7 @@ const ANSWER_BYTES: usize = 65536;
 fn margin(word: u32) -> i32
     ensures { result ≡ signed 28 (payload_of word) }
 {
-    let payload = words::payload(word) as i32;
-    if payload < 134217728 {
-        payload
-    } else {
-        payload - 268435456
-    }
+    words::signed::<28>(word)
 }
 
 // A word of an answer that says a verdict.

@@ -142,11 +142,11 @@ pub fn word_of(c: u32) -> u32
     } else {
         VerdictKind::No
     };
-    let word = kind as u32 * 268435456 + (c / 2 + 134217728) % 268435456;
+    let word = words::word(kind as u32, (c / 2 + 134217728) % 268435456);
     if c == bottom() {
-        VerdictKind::InfiniteNo as u32 * 268435456
+        words::word(VerdictKind::InfiniteNo as u32, 0)
     } else if c == top() {
-        VerdictKind::InfiniteYes as u32 * 268435456
+        words::word(VerdictKind::InfiniteYes as u32, 0)
     } else {
         word
     }
