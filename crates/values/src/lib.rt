@@ -131,7 +131,7 @@ impl VerdictKind {
     }
 }
 
-// The word of an answer. The case between the ends is computed first: what is left is a choice of numbers, and a loop over it vectorises.
+// The word of an answer. All three words are computed first: what is left is a choice of numbers, and a loop over it vectorises.
 #[tactic(auto, using(crate::proofs::ChainWords::word_between, crate::proofs::Machine::byte_count), unfolding(crate::specs::Chain::chain_word))]
 pub fn word_of(c: u32) -> u32
     requires { c ≤ highest }
@@ -143,10 +143,12 @@ pub fn word_of(c: u32) -> u32
         VerdictKind::No
     };
     let word = words::word(kind as u32, (c / 2 + 134217728) % 268435456);
+    let infinite_no = words::word(VerdictKind::InfiniteNo as u32, 0);
+    let infinite_yes = words::word(VerdictKind::InfiniteYes as u32, 0);
     if c == bottom() {
-        words::word(VerdictKind::InfiniteNo as u32, 0)
+        infinite_no
     } else if c == top() {
-        words::word(VerdictKind::InfiniteYes as u32, 0)
+        infinite_yes
     } else {
         word
     }
