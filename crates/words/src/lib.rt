@@ -87,6 +87,9 @@ pub fn bits<const LOW: u32, const COUNT: u32>(w: u32) -> u32
     (w >> LOW) % (1 << COUNT)
 }
 
+// Numbers, beside the three functions of words above. By a size the two would share `s.len() / N` and `i * N` alone: std's conversions are of an array of 4 and
+// of one of 8, and what is promised of a number is of a pair of words.
+
 // How many whole numbers there are.
 #[tactic(auto, using(crate::proofs::Numbers::length_numbers))]
 pub fn number_count(s: &[u8]) -> usize
