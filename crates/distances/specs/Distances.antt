@@ -1,5 +1,5 @@
 -- The distances of a sheet's network as the lent table holds them ("Distance").
-use Rattle.std.specs.Prelude.{ℕ, ◌+◌, ◌-◌, ◌*◌, ◌<◌, ◌≤◌, ◌^◌, ◌≡◌, List, length, get_or}
+use Rattle.std.specs.Prelude.{ℕ, ◌+◌, ◌-◌, ◌*◌, ◌<◌, ◌≤◌, ◌^◌, ◌≡◌, cond, eqb, Option, Some, None, List, length, get_or}
 use Rattle.words.specs.Bytes.{words_of, numbers_of}
 use Rattle.words.specs.Rows.{rows, padded}
 use Rattle.network.specs.Distance.{Distance, dist, none}
@@ -10,6 +10,10 @@ use Rattle.roads.specs.Roads.{network_of}
 abbrev pub distance_number : Distance → ℕ
 distance_number (dist x) = x
 distance_number none = 2 ^ 64 - 1
+
+-- .. and what such a number tells: a distance, or that there is none
+abbrev pub distance_told : ℕ → Option ℕ
+distance_told x = cond (eqb x (distance_number none)) None (Some x)
 
 -- row by row: a row has the distances from its place (M-106)
 unfoldable pub distance_table : Network → List ℕ

@@ -1,7 +1,9 @@
 // A table of distances that is there, with a row for each place.
 ghost use Rattle.std.specs.Prelude.{◌≡◌, ◌+◌, ◌*◌, ◌<◌, get_or};
 ghost use Rattle.words.specs.Bytes.{words_of, numbers_of};
-ghost use Rattle.distances.specs.Distances.{HasRoom};
+ghost use Rattle.distances.specs.Distances.{distance_told, HasRoom};
+
+use crate::NONE;
 
 #[derive(Clone, Copy)]
 pub struct Distances<'a> {
@@ -11,12 +13,13 @@ pub struct Distances<'a> {
 }
 
 impl<'a> Distances<'a> {
-    // From a place to another, NONE where no path is.
+    // From a place to another, if a path is.
     #[tactic(auto, using(crate::proofs::Rooms::distance_there))]
-    pub fn between(self, from: usize, to: usize) -> u64
+    pub fn between(self, from: usize, to: usize) -> Option<u64>
         requires { (from < self.places) × (to < self.places) }
-        ensures { result ≡ get_or (numbers_of (words_of self.entry.table.now)) (from * self.entry.places + to) 0 }
+        ensures { result ≡ distance_told (get_or (numbers_of (words_of self.entry.table.now)) (from * self.entry.places + to) 0) }
     {
-        words::number_at(self.table, from * self.places + to)
+        let number = words::number_at(self.table, from * self.places + to);
+        (number != NONE).then_some(number)
     }
 }

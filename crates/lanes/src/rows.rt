@@ -64,9 +64,7 @@ pub fn in_range(distances: Distances, centre: usize, place: usize, bounds: Bound
     requires { (centre < distances.places) × (place < distances.places) }
     ensures { result ≡ within_in distances.entry centre bounds place }
 {
-    let distance = distances.between(centre, place);
-    if distance < bounds.lower as u64 {
-        return false;
-    }
-    distance <= bounds.upper as u64
+    distances.between(centre, place).is_some_and(|distance| {
+        bounds.lower as u64 <= distance && distance <= bounds.upper as u64
+    })
 }

@@ -9,7 +9,6 @@ ghost use Rattle.surrounds.specs.Runs.{runs_of, LeftOut};
 ghost use Rattle.surrounds.specs.Lent.{reached_in, beyond_in, is_made_in};
 
 use codes::operator::Bounds;
-use distances::NONE;
 use distances::table::Distances;
 use lanes::rows::in_range;
 use lanes::{LANES, Place};
@@ -35,10 +34,7 @@ fn lies_beyond(distances: Distances, centre: usize, place: usize, ball: Bounds) 
     requires { (centre < distances.places) × (place < distances.places) }
     ensures { result ≡ (reached_in distances.entry centre place && not (within_in distances.entry centre ball place)) }
 {
-    if distances.between(centre, place) == NONE {
-        return false;
-    }
-    !in_range(distances, centre, place, ball)
+    distances.between(centre, place).is_some() && !in_range(distances, centre, place, ball)
 }
 
 // A loop: of an `any` that finds none, a proof did not learn what the closure told of each place.
