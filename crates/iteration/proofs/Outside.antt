@@ -1,18 +1,19 @@
 -- Places outside a ball: the strips to work in are lowest there and stay so, so that a round, and a comparison of rows, is the same whether or not it touches
 -- them.
-use mathlib.Core.Path.{◌≡◌, refl, sym, ap, ap₂, ◌∙◌}
+use mathlib.Core.Path.{◌≡◌, refl, sym, ap, ap₂, subst, ◌∙◌}
 use mathlib.Core.Bool.{Bool, true, false, cond, ◌&&◌, false≢true}
-use mathlib.Core.List.{List}
-use Prim.Native.Nat.{ℕ, ◌+◌, ◌<◌, ◌≤◌}
+use mathlib.Core.List.{List, [], ◌∷◌}
+use Prim.Native.Nat.{ℕ, zero, suc, ◌+◌, ◌<◌, ◌≤◌}
 use native.Mathlib.Decide.{ℕ_discrete}
 use native.Mathlib.Omega.{arith}
 use borrow.Author.Count.{below_more}
 use lib.ListN.{length, get_or}
+use Rattle.std.specs.List.{zip, IsAnyAnswer}
 use Rattle.roads.specs.declared.road.Way.{Way}
 use Rattle.values.specs.Chain.{chain_lattice}
 use Rattle.values.proofs.Naturals.{meet_min}
 use Rattle.lanes.specs.declared.Place.{Place}
-use Rattle.lanes.specs.Lanes.{lanes, Row, ring_row, x_row, former_row, both_row, Numbers, place_at, row_in}
+use Rattle.lanes.specs.Lanes.{lanes, Row, ring_row, x_row, former_row, both_row, Numbers, no_place, place_at, row_in}
 use Rattle.lanes.specs.Strips.{StripsApart}
 use Rattle.lanes.specs.Rows.{Kept, KeptPast, flagged}
 use Rattle.lanes.proofs.RowLaws.{kept_refl, kept_past_refl}
@@ -110,6 +111,39 @@ module _ (h : ℕ → ℕ) (rows : List Place) (r : Bool) (k : ℕ) (s : StripsA
     alike = λ z. absurd (false≢true (sym z));
     apart = λ _. let u = s.apart e in (k, u.0, l, u.1, u.2);
   }
+
+-- ---- comparing, the places and their flags side by side
+
+at_pair : (rows : List Place) (inside : List Bool) (i : ℕ) (d : Place × Bool) → i < length inside → length inside ≤ length rows
+    → (i < length (zip rows inside)) × (get_or (zip rows inside) i d ≡ (place_at rows i, flagged inside i))
+at_pair [] inside i d b r = absurd (omega arith)
+at_pair (p ∷ ps) [] i d b r = absurd (omega arith)
+at_pair (p ∷ ps) (f ∷ fs) zero d b r = (omega arith, refl)
+at_pair (p ∷ ps) (f ∷ fs) (suc i) d b r = let next = at_pair ps fs i d (omega arith) (omega arith) in (omega arith, next.1)
+
+pairs_inside : (rows : List Place) (inside : List Bool) → length (zip rows inside) ≤ length inside
+pairs_inside [] inside = omega arith
+pairs_inside (p ∷ ps) [] = omega arith
+pairs_inside (p ∷ ps) (f ∷ fs) = omega (arith, pairs_inside ps fs)
+
+module _ (h : ℕ → ℕ) where
+  -- what a test of a place and its flag tells, and a search that tells whether a place inside is another
+  abbrev pub Told : Place × Bool → Bool → Type 0
+  Told p true = StripsApart true h p.0.former p.0.x lanes
+  Told p false = p.1 ≡ true → StripsApart false h p.0.former p.0.x lanes
+
+  pub changed_told : (rows : List Place) (inside : List Bool) → LowOutside inside rows → (some : Bool) → IsAnyAnswer Told (zip rows inside) some
+      → RowsApart some h (row_in rows former_row) (row_in rows x_row) (length inside)
+  changed_told rows inside o true (i, b, w) =
+      let c : i < length inside = omega (arith, pairs_inside rows inside) in
+      rows_found h rows true i (rw (at_pair rows inside i (no_place, false) c o.room).1 at (w (no_place, false))) (length inside) c refl
+  changed_told rows inside o false none = record { alike = λ e p lane c l. alike p lane c l (flagged inside p) refl; apart = λ e. absurd (false≢true e) }
+    where
+      alike : (p lane : ℕ) → p < length inside → lane < lanes → (flag : Bool) → flagged inside p ≡ flag → h (row_in rows former_row lane p) ≡ h (row_in rows x_row lane p)
+      alike p lane c l true e =
+          let (b, here) = at_pair rows inside p (no_place, false) c o.room in
+          (subst (λ (q : Place × Bool). Told q false) here (none p (no_place, false) (omega arith) b) e).alike refl lane l
+      alike p lane c l false e = let low = o.low p c e in ap h (low.former_low lane l ∙ sym (low.x_low lane l))
 
 -- ---- joining, place after place
 pub record Joining (inside : List Bool) (before rows : List Place) (k : ℕ) : Type 0 where

@@ -79,17 +79,13 @@ fn round(rows: &mut [Place], inside: &[bool], sheet: &[u8], network: Network)
 }
 
 // Whether a number inside the ball is another, with so many chain numbers as `unit` says taken as one. Outside nothing changes.
-// A loop: of an `any` that finds none, a proof did not learn what the closure told of each place.
 fn changed(rows: &[Place], inside: &[bool], unit: u32) -> bool
     requires { (1 ≤ unit) × LowOutside inside.now rows.now }
     ensures { RowsApart result (λ c. c / unit) (row_in rows.now former_row) (row_in rows.now x_row) (length inside.now) }
 {
-    for place in 0..inside.len() {
-        if inside[place] && differs(&rows[place].former, &rows[place].x, unit) {
-            return true;
-        }
-    }
-    false
+    rows.iter()
+        .zip(inside)
+        .any(|(at, is_inside)| *is_inside && differs(&at.former, &at.x, unit))
 }
 
 // Steps until no place changes in any lane. The rounds are 1 plus the number of steps in which a margin fell in some lane; verdicts may still

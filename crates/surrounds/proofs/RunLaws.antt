@@ -8,6 +8,9 @@ use native.Mathlib.Nat.{le_antisymm, le_of_suc-le-suc}
 use native.Mathlib.Numerals.{add-one}
 use native.Mathlib.Omega.{arith}
 use borrow.Author.Tests.{ne_eqb}
+use Rattle.std.specs.List.{range_with_len, IsAnyAnswer}
+use Rattle.std.proofs.lemmas.List.FromFn.{length-range_with_len, get_or-range_with_len}
+use lib.ListN.{get_or}
 use lib.Dec.{T, T_not, not_T, eqb, eqb_refl, eqb→eq}
 use Rattle.network.specs.Network.{Network, joined, within, reached, other}
 use Rattle.network.proofs.Reached.{reached_within, within_centre}
@@ -73,6 +76,9 @@ module _ (N : Network) (upper centre : ℕ) (c : centre < N.places) where
 
 -- ---- place after place, some place with a distance lies beyond the ball
 
+nth : (n k : ℕ) → k < n → get_or (range_with_len 0 n) k 0 ≡ k
+nth n k b = get_or-range_with_len 0 n k 0 b ∙ omega arith
+
 module _ (inside there : ℕ → Bool) where
   pub beyond_none : beyond inside there 0 ≡ false
   unfolding beyond greatest_over
@@ -90,6 +96,18 @@ module _ (inside there : ℕ → Bool) where
   unfolding beyond
   beyond_found k n b h = let t : T (there k && not (inside k)) = rw h tt in
       holds _ (some_i there (λ k. not (inside k)) n k b (and_l (there k) _ t) (and_r (there k) _ t))
+
+  beyond_nowhere : (n : ℕ) → ((k : ℕ) → k < n → (there k && not (inside k)) ≡ false) → beyond inside there n ≡ false
+  beyond_nowhere zero none = beyond_none
+  beyond_nowhere (suc n) none = rw (← add-one n) (beyond_more n (beyond_nowhere n (λ k b. none k (omega arith))) (none n (omega arith)))
+
+  -- what a test of a place tells, and a search that tells whether there is such a place
+  abbrev pub Told : ℕ → Bool → Type 0
+  Told k beyond = (there k && not (inside k)) ≡ beyond
+
+  pub beyond_told : (n : ℕ) (some : Bool) → IsAnyAnswer Told (range_with_len 0 n) some → some ≡ beyond inside there n
+  beyond_told n true (i, b, h) = let c : i < n = rw length-range_with_len at b in sym (beyond_found i n c (rw (nth n i c) at (h 0)))
+  beyond_told n false none = sym (beyond_nowhere n (λ k b. rw (nth n k b) at (none k 0 (omega arith) (rw length-range_with_len b))))
 
 -- the greatest on chain numbers
 greatest_most : (test : ℕ → Bool) (f : ℕ → ℕ) (n : ℕ) → greatest_over chain_lattice test f n ≡ most_over test f n

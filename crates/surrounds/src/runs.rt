@@ -37,18 +37,11 @@ fn lies_beyond(distances: Distances, centre: usize, place: usize, ball: Bounds) 
     distances.between(centre, place).is_some() && !in_range(distances, centre, place, ball)
 }
 
-// A loop: of an `any` that finds none, a proof did not learn what the closure told of each place.
-#[tactic(auto, using(crate::proofs::RunLaws::beyond_none, crate::proofs::RunLaws::beyond_more))]
 fn reaches_beyond(distances: Distances, centre: usize, ball: Bounds) -> bool
     requires { centre < distances.places }
     ensures { result ≡ beyond_in distances.entry centre ball }
 {
-    for place in 0..distances.places {
-        if lies_beyond(distances, centre, place, ball) {
-            return true;
-        }
-    }
-    false
+    (0..distances.places).any(|place| lies_beyond(distances, centre, place, ball))
 }
 
 // Whether a run is made about a centre.
