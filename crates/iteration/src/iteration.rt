@@ -55,13 +55,11 @@ fn step(rows: &mut [Place], inside: &[bool], sheet: &[u8], network: Network)
     ensures past { KeptPast (length inside.now) rows.old rows.new }
 {
     let wide = is_wide(sheet);
-    let mut at = road_at(wide, 0);
     for r in 0..network.roads {
         let road = Road {
-            word: words::word_at(sheet, at),
+            word: words::word_at(sheet, road_at(wide, r)),
             wide,
         };
-        at += 2;
         pull(rows, inside, road.forth());
         pull(rows, inside, road.back());
     }
