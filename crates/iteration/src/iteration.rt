@@ -47,6 +47,7 @@ fn pull(rows: &mut [Place], inside: &[bool], way: Way)
     }
 }
 
+// Both ways of each road. The sheet and its network stay two parameters, here and in `round`: `settle`, whose promise is given (docs/PROMISES.md), takes them so.
 #[tactic(auto, using(crate::proofs::Rules::step_laws))]
 fn step(rows: &mut [Place], inside: &[bool], sheet: &[u8], network: Network)
     requires { RoadsIn (words_of sheet.now) network.roads (length inside.now) × LowOutside inside.now rows.old }
@@ -81,9 +82,7 @@ fn changed(rows: &[Place], inside: &[bool], unit: u32) -> bool
     requires { (1 ≤ unit) × LowOutside inside.now rows.now }
     ensures { RowsApart result (λ c. c / unit) (row_in rows.now former_row) (row_in rows.now x_row) (length inside.now) }
 {
-    rows.iter()
-        .zip(inside)
-        .any(|(at, is_inside)| *is_inside && differs(&at.former, &at.x, unit))
+    rows.iter().zip(inside).any(|(at, is_inside)| *is_inside && differs(&at.former, &at.x, unit))
 }
 
 // Steps until no place changes in any lane. The rounds are 1 plus the number of steps in which a margin fell in some lane; verdicts may still

@@ -32,7 +32,7 @@ fn clear_place(place: &mut Place)
     place.both = lowest;
 }
 
-// The first `places` places become lowest in the strips to work in.
+// The first `places` places become lowest in the strips to work in: the four that `clear_place` clears where one place leaves a ball, and none of the others.
 pub fn clear_all(rows: &mut [Place], places: usize)
     requires { Room places rows.old }
     ensures { Cleared places rows.old rows.new }

@@ -12,4 +12,4 @@ returns c =
     let inside = c.args.inside.now in
     changed_told h rows inside c.requires.1 c.any.result
     (cases_from_any c.any.new.self _ _ (λ p. Told h p true) (λ p. Told h p false) c.any.ensures.ran (YieldsList-from_zip (YieldsList-from_slice rows cc) (YieldsList-from_slice inside cc))
-        (λ p q e. search rules) (λ p q e. search rules))
+    (λ p q e. search rules) (λ p q e. search rules))

@@ -13,4 +13,4 @@ returns c =
     let there = reached_in d c.args.centre in
     beyond_told inside there d.places c.any.result
     (cases_from_any _ _ _ (λ k. Told inside there k true) (λ k. Told inside there k false) c.any.ensures.ran (YieldsList-from_range 0 d.places d.places refl (omega arith))
-        (λ k q e. search rules) (λ k q e. search rules))
+    (λ k q e. search rules) (λ k q e. search rules))
