@@ -68,7 +68,8 @@ fn mask_next(
     }
 }
 
-// Flags the ball about a centre, and masks the left operand by it and the right one by both bounds.
+// Flags the ball about a centre, and masks the left operand by it and the right one by both bounds. By number: the distances are asked for it, and of two slices
+// that are written side by side, through a `zip` of two `iter_mut`, a proof knows no more than the length afterwards.
 #[tactic(auto, using(crate::proofs::Masks::centre_none))]
 pub fn mask_centre(
     rows: &mut [Place],
