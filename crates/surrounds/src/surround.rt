@@ -36,8 +36,8 @@ pub struct SheetNetwork<'a> {
     pub distances: Distances<'a>,
 }
 
-// The first `places` places become lowest in the row of what comes of the operands. No row of another name is cleared alone, and iteration's `clear_all` clears four strips at a
-// place in one pass: a function of both, by the strips' names, would go over the places once for each name.
+// The first `places` places become lowest in the row of what comes of the operands. No row of another name is cleared alone, and iteration's `clear_all`
+// clears four strips at a place in one pass: a function of both, by the strips' names, would go over the places once for each name.
 fn clear(rows: &mut [Place], places: usize)
     requires { Room places rows.old }
     ensures { RowWritten out_row places (λ _ _. 0) rows.old rows.new }
