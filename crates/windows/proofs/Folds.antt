@@ -7,7 +7,16 @@ use native.Mathlib.Nat.{le_refl, le_trans, le_antisymm}
 use native.Mathlib.Decide.{le_ind}
 use native.Mathlib.Numerals.{add-one}
 use native.Mathlib.Omega.{arith}
+use mathlib.Core.List.{List, [], ◌∷◌, ◌++◌, map}
 use lib.Dec.{leb, leb→le}
+use denote.Param.Members.{Mut}
+use Rattle.std.specs.declared.option.Option.{Option}
+use Rattle.std.specs.Iterator.{FoldsItems, ActsAsOnTwo}
+use Rattle.std.specs.List.{fold, range_with_len}
+use Rattle.std.proofs.lemmas.Fn.{fold_same}
+use Rattle.std.proofs.lemmas.List.Sums.{fold-append}
+use Rattle.std.proofs.lemmas.Iterator.{YieldsList}
+use Rattle.std.proofs.lemmas.Iterator.Adapters.{total_from_yields_List}
 use Rattle.logic.specs.Lattice.{least_over, greatest_over}
 use Rattle.logic.proofs.TotalOrder.{meet_by, join_by}
 use Rattle.logic.proofs.SoFar.{greatest_none, greatest_more}
@@ -27,6 +36,17 @@ one_counted counted h = record { from = omega (arith, counted.from); to = omega 
 
 pub all_counted : {first end u : ℕ} → Counted first end u → end ≤ u → u ≡ end
 all_counted counted h = le_antisymm counted.to h
+
+-- ---- what an iterator's fold comes to, where each call gives h of the total and the item
+pub total_of : {S A C F : Type 0} {steps : S → Option A → S → Type 0} {g : Mut F (C × (A × Unit {0})) C} {s : S} {f : F} {first last : C} {all : List A} → FoldsItems steps g s f first last
+    → (h : C → A → C) → ActsAsOnTwo g f h → YieldsList steps (λ x. x) s all → last ≡ fold h first all
+total_of {g = g} {f = f} {first} {last} ran h acts listed = total_from_yields_List h first last (
+  ran.0,
+  λ _. ran.2,
+  fold_same g (λ xs b. b ≡ fold h first xs) f
+      (λ xs a x b later e call. let (same, made) = acts a x b later call in (made ∙ ap (λ m. h m x) e ∙ sym (fold-append h first xs (x ∷ [])), same)) ran.0 first last ran.1 refl ran.3,
+)
+    listed
 
 -- ---- the lesser and the greater of two
 pub meet_under : (a b : ℕ) → (chain_lattice.meet a b ≤ a) × (chain_lattice.meet a b ≤ b)
@@ -54,6 +74,19 @@ module _ (f : ℕ → ℕ) where
 
   pub from_more : (first n : ℕ) → first ≤ n → greatest_from first (n + 1) ≡ chain_lattice.join (greatest_from first n) (f n)
   from_more first n h = rw (add-one n) (greatest_more chain_lattice f first n h)
+
+  -- and so a fold over the numbers of a range takes it
+  from_folded : (first k n : ℕ) → first ≤ k → fold chain_lattice.join (greatest_from first k) (map f (range_with_len k n)) ≡ greatest_from first (k + n)
+  from_folded first k zero h = ap (greatest_from first) (omega arith)
+  from_folded first k (suc n) h =
+      let end : k + 1 + n ≡ k + suc n = omega arith in
+      ap (λ (a : ℕ). fold chain_lattice.join a (map f (range_with_len (k + 1) n))) (sym (from_more first k h)) ∙ from_folded first (k + 1) n (omega arith) ∙ ap (greatest_from first) end
+
+  pub from_range : {none first end : ℕ} → none ≡ 0 → first ≤ end → fold chain_lattice.join none (map f (range_with_len first (end - first))) ≡ greatest_from first end
+  from_range {first = first} {end} e h =
+      let whole : first + (end - first) ≡ end = omega arith in
+      ap (λ (a : ℕ). fold chain_lattice.join a (map f (range_with_len first (end - first)))) (e ∙ sym (from_none first first (le_refl first)))
+      ∙ from_folded first first (end - first) (le_refl first) ∙ ap (greatest_from first) whole
 
   -- the first may be taken last
   pub from_first : (first n : ℕ) → first + 1 ≤ n → greatest_from first n ≡ chain_lattice.join (greatest_from (first + 1) n) (f first)

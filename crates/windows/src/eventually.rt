@@ -7,18 +7,15 @@ use codes::operator::Bounds;
 use operators::signals::{Operand, turn};
 
 // The greatest of a window, read from its first sample to its last.
-#[tactic(auto, using(operators::proofs::Bounds::turned_bound, crate::proofs::Folds::none_counted, crate::proofs::Folds::one_counted, crate::proofs::Folds::all_counted, crate::proofs::Folds::from_none, crate::proofs::Folds::from_more, crate::proofs::Windows::eventually_all))]
 fn greatest_ahead(operand: Operand<'_>, bounds: Bounds, t: usize, l: usize, negated: bool) -> u32
     requires { ReachedOf operand bounds t l }
     ensures { result ≡ ahead_of operand.entry bounds negated t l }
 {
     let first = t + bounds.lower as usize;
     let end = t + bounds.upper as usize + 1;
-    let mut best = values::bottom();
-    for u in first..end {
-        best = values::greater(best, operand.turned_at(u, l, negated));
-    }
-    best
+    (first..end)
+        .map(|u| operand.turned_at(u, l, negated))
+        .fold(values::bottom(), values::greater)
 }
 
 // The greatest of the window of sample t + 1, given that of sample t: unless this was the sample that leaves, only the one that enters can
