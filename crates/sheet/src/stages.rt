@@ -1,5 +1,5 @@
 // The head and the samples of a sheet, each checked by a function of its own.
-ghost use Rattle.std.specs.Prelude.{◌≡◌, ◌&&◌};
+ghost use Rattle.std.specs.Prelude.{◌≡◌, ◌&&◌, ◌+◌, ◌^◌, ◌<◌};
 ghost use Rattle.words.specs.Bytes.{words_of};
 ghost use Rattle.sheet.specs.Layout.{sizes_of, narrow_checked, wide_checked, head_checked, samples_from};
 ghost use Rattle.checks.specs.Limits.{most_signals, most_samples};
@@ -94,10 +94,11 @@ pub(crate) fn check_head(s: &[u8], distances: usize) -> Result<Sizes, Refusal>
 // So many samples from an index on, and the index after them.
 #[tactic(auto, using(words::proofs::Words::words_count, checks::proofs::Tests::kind_told, crate::proofs::Samples::not_sample, crate::proofs::Samples::spare_bit_set, crate::proofs::Samples::one_less))]
 pub(crate) fn check_samples(s: &[u8], start: usize, count: usize) -> Result<usize, Refusal>
+    requires { start + count < 2 ^ 64 }
     ensures { said (λ after. after) result ≡ samples_from (words_of s.now) count start }
 {
-    for i in 0..count {
-        let at = start + i;
+    let end = start + count;
+    for at in start..end {
         if !Kind::Sample.is_at(s, at) {
             return Err(Fault::NotSample.at(at));
         }
@@ -105,5 +106,5 @@ pub(crate) fn check_samples(s: &[u8], start: usize, count: usize) -> Result<usiz
             return Err(Fault::SampleSpareBit.at(at));
         }
     }
-    Ok(start + count)
+    Ok(end)
 }
