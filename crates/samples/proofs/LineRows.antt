@@ -39,6 +39,10 @@ module _ (value : ℕ → ℕ → ℕ) (n : ℕ) (answer : List ℕ) (begin : �
   none_done = record { long = refl; next = omega arith; written = sym (put_nil (words_of answer) begin); counted = refl; tail = refl }
 
   module _ {t : ℕ} {after : List ℕ} {to many : ℕ} (done : RowsDone t after to many) where
+    -- its index, said by its number
+    pub next_at : {at : ℕ} → at ≡ begin + t * n → RowsDone t after at many
+    next_at here = record { long = done.long; next = here; written = done.written; counted = done.counted; tail = done.tail }
+
     pub few_yes : many ≤ t * n
     few_yes = rw done.counted (table_yes_bound (λ u l. chain_verdict (value u l)) t n)
 

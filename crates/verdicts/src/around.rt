@@ -33,6 +33,7 @@ fn copy_lane(rows: &[Place], lane: usize, places: usize, values: &mut [u32])
     requires { Room places rows.now × (lane < lanes) × (places ≤ length values.old) }
     ensures { Filled places (row_in rows.now out_row lane) values.new }
 {
+    // No `zip` of both: of numbers that a `zip` lends to be written, nothing is known once they are.
     for (l, place) in rows[..places].iter().enumerate() {
         values[l] = place.out[lane];
     }
@@ -53,11 +54,9 @@ fn write_lanes<const N: usize>(
 {
     let mut values = [0u32; N];
     let mut yes: u64 = 0;
-    let mut at = to;
     for lane in 0..samples {
         copy_lane(rows, lane, places, &mut values);
-        yes += write_values(&values[..places], own, at);
-        at += places;
+        yes += write_values(&values[..places], own, to + lane * places);
     }
     yes
 }

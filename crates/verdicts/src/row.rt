@@ -12,7 +12,8 @@ use samples::sample::write_values;
 use samples::tally::Tally;
 use sheet::check::Layout;
 
-// A line that goes sample by sample: its operator, and what its verdicts are made from: the sheet, and the words before its own.
+// A line that goes sample by sample: its operator, and what its verdicts are made from: the sheet, and the words before its own. A `SpaceLine`
+// has these three fields too: as one value within both they would be no plainer, a field further off in some sixty places, a public contract among them.
 #[derive(Clone, Copy)]
 pub struct RowLine<'a> {
     pub operator: RowOperator,
@@ -44,10 +45,9 @@ pub fn write_rows(line: RowLine, own: &mut [u8], samples: usize) -> Tally
 {
     let mut held = [0u32; MOST_PLACES];
     let mut yes: u64 = 0;
-    let mut to = 0;
     for t in 0..samples {
+        let to = t * line.layout.places;
         yes += write_row(line, own, to, t, &mut held);
-        to += line.layout.places;
     }
     Tally { rounds: 0, yes }
 }

@@ -1,17 +1,17 @@
 -- Each turn puts the sample of one lane more after those before it, and adds its yes verdicts.
-use mathlib.Core.Path.{◌∙◌}
+use mathlib.Core.Path.{refl, ◌∙◌}
 use Prim.Native.Nat.{◌≤◌}
 use native.Mathlib.Omega.{arith}
 use lib.ListN.{length, length-replicate}
 use Rattle.words.proofs.Words.{words_count}
-use Rattle.samples.proofs.LineRows.{none_done, yes_fits, row_room}
+use Rattle.samples.proofs.LineRows.{none_done, next_at, yes_fits, row_room}
 use Rattle.verdicts.proofs.Points.{sample_long, row_there, row_yes}
 use Rattle.verdicts.proofs.Blocks.{one_lane}
 use Rattle.std.proofs.Common.{rules}
 use Rattle.verdicts.proofs.around.write_lanes.Goals as goal
 
 pub loop-lane-init : goal.loop-lane-init
-loop-lane-init g c = (length-replicate g.row.N 0, none_done _ _ _ _)
+loop-lane-init g c = (length-replicate g.row.N 0, next_at _ _ _ _ (none_done _ _ _ _) (omega arith))
 
 pub write_values-yes-requires : goal.write_values-yes-requires
 write_values-yes-requires g c =
@@ -28,4 +28,4 @@ overflow_add-yes g c =
 pub loop-lane-preserved : goal.loop-lane-preserved
 loop-lane-preserved g c =
     let called = c.write_values-yes in
-    (search rules, one_lane c.loop-lane.invariant.1 c.copy_lane.ensures (omega (arith, c.copy_lane.auto.values, c.loop-lane.invariant.0, c.requires.1)) (omega (arith, c.requires.2)) called.auto.line called.ensures.written called.ensures.counted called.ensures.tail)
+    (search rules, next_at _ _ _ _ (one_lane c.loop-lane.invariant.1 c.copy_lane.ensures (omega (arith, c.copy_lane.auto.values, c.loop-lane.invariant.0, c.requires.1)) (omega (arith, c.requires.2)) called.auto.line called.ensures.written called.ensures.counted called.ensures.tail) refl)

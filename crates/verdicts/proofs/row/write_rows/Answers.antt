@@ -4,13 +4,13 @@ use Prim.Native.Nat.{ℕ}
 use native.Mathlib.Omega.{arith}
 use Rattle.words.proofs.Words.{words_count}
 use Rattle.operators.specs.Rows.{Filled}
-use Rattle.samples.proofs.LineRows.{none_done, yes_fits, row_room, all_done, one_more}
+use Rattle.samples.proofs.LineRows.{none_done, next_at, yes_fits, row_room, all_done, one_more}
 use Rattle.verdicts.specs.Rows.{value_in}
 use Rattle.std.proofs.Common.{rules}
 use Rattle.verdicts.proofs.row.write_rows.Goals as goal
 
 pub loop-t-init : goal.loop-t-init
-loop-t-init c = (search rules, none_done _ _ _ _, search rules, λ u e. absurd (omega arith))
+loop-t-init c = (search rules, next_at _ _ _ _ (none_done _ _ _ _) (omega arith), search rules, λ u e. absurd (omega arith))
 
 pub write_row-yes-requires : goal.write_row-yes-requires
 write_row-yes-requires c =
@@ -34,7 +34,7 @@ loop-t-preserved c =
     let loop = c.loop-t in
     let called = c.write_row-yes in (
       search rules,
-      one_more _ _ _ _ loop.invariant.1 refl (omega arith) called.auto.own called.ensures.written called.ensures.counted called.ensures.tail,
+      next_at _ _ _ _ (one_more _ _ _ _ loop.invariant.1 refl (omega arith) called.auto.own called.ensures.written called.ensures.counted called.ensures.tail) (omega arith),
       called.auto.held ∙ loop.invariant.2,
       λ u e. subst (λ (v : ℕ). Filled c.args.line.layout.places (value_in c.args.line v) called.new.held) (omega arith) called.ensures.held,
     )
