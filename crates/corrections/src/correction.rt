@@ -6,7 +6,8 @@ ghost use Rattle.checks.specs.Checked.{word_at};
 ghost use Rattle.corrections.specs.Corrections.{revision, value, target};
 ghost use Rattle.corrections.specs.Aimed.{GridFits};
 
-// The samples of a sheet: the index at which they begin, and how many places, signals and samples there are.
+// The samples of a sheet: the index at which they begin, and how many places, signals and samples there are. A sheet's `Layout` has these too, but this
+// crate does not rest on the one that checks sheets.
 #[derive(Clone, Copy)]
 pub struct Grid {
     pub start: usize,

@@ -13,7 +13,7 @@ use lines::table::check_lines;
 use roads::check::check_roads;
 
 // What stands where: the sizes of the head, how many roads and lines there are, and the indices at which the recording (the samples) and the
-// table (the lines) begin.
+// table (the lines) begin. The sizes are fields of its own and no `Sizes`, which the head alone needs: contracts of other crates name them so.
 #[derive(Clone, Copy)]
 pub struct Layout {
     pub places: usize,

@@ -13,6 +13,7 @@ use checks::kind::Kind;
 use checks::limits::{LEAST_DISTANCES, MOST_NARROW, MOST_SAMPLES, MOST_SIGNALS, within};
 use checks::word::spare_bit_zero;
 
+// The sizes that a head says. A `Layout` has them as fields of its own, and check.rt says why.
 #[derive(Clone, Copy)]
 pub(crate) struct Sizes {
     pub places: usize,

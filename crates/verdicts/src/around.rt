@@ -19,6 +19,7 @@ use sheet::check::Layout;
 use surrounds::surround::{SheetNetwork, surround_block};
 
 // A line over space: what is asked about every place, and what its verdicts are made from: the sheet with its distances, and the words before its own.
+// Three fields are those of a `RowLine`, and row.rt says why they stand in both.
 #[derive(Clone, Copy)]
 pub struct SpaceLine<'a> {
     pub around: Around,

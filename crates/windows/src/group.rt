@@ -50,6 +50,7 @@ pub(crate) fn raise_best(
     requires { RaiseReady right u group least.now best.old }
     ensures { RowLeft group.count (raised_of right.entry u group least.now best.old) best.old best.new }
 {
+    // No `zip` with the least: of numbers that a `zip` lends to be written, nothing is known once they are.
     for (lane, x) in best[..group.count].iter_mut().enumerate() {
         let offer = values::lesser(right.at(u, group.first + lane), least[lane]);
         *x = values::greater(*x, offer);
