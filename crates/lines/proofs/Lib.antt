@@ -1,4 +1,5 @@
 pub mod Reading
+pub mod Filled
 pub mod Lines
 pub mod AcceptedLines
 pub mod Walk

@@ -16,6 +16,7 @@ use Rattle.lines.specs.Lines.{line_at, lines_from}
 use Rattle.lines.specs.GoodLines.{GoodTable, extents_of}
 use Rattle.lines.specs.declared.extent.Extent.{Extent}
 use Rattle.lines.specs.Decoding.{extent_said, no_extent, extent_in, ExtentsWithin, line_after, line_count, table_at}
+use Rattle.lines.proofs.Filled.{filled, take_filled, set_filled}
 use Rattle.lines.proofs.Reading.{lines_over, lines_stop, lines_end, line_more}
 use Rattle.lines.proofs.AcceptedLines.{good_end, line_good, good_more}
 
@@ -134,3 +135,21 @@ module _ (s : List ℕ) (v T start : ℕ) {extents : List Extent} {lines at : �
 
 -- what the loop knows of one more line
 pub ruleset line_laws = (lines_within, line_refused, line_passed)
+
+-- ---- the extents that were read, in a vector
+
+module _ (s : List ℕ) (v T start : ℕ) (extents : List Extent) {at : ℕ} (so_far : Lines s v T start (filled no_extent extents) (length extents) at) where
+  pub read_within : ExtentsWithin T extents
+  read_within = rw take_filled at (lines_within s v T start so_far)
+
+  module _ (kind_5 : is_kind 5 s at ≡ true) (more : length extents ≡ most_lines → ⊥) where
+    pub read_refused : {number place : ℕ} → line_after s v T extents at ≡ refused number place → lines_from s v T most_lines [] start ≡ refused number place
+    read_refused reads = line_refused s v T start so_far kind_5 more (rw (take_filled no_extent extents) reads)
+
+    pub read_passed : {line : Line} {next : ℕ} → line_after s v T extents at ≡ accepted (line, next) → (e : Extent) → extent_said e ≡ line.extent
+        → Lines s v T start (filled no_extent (extents ++ (e ∷ []))) (length (extents ++ (e ∷ []))) next
+    read_passed {line} {next} reads e same =
+        let bounded = so_far.bounded in
+        let short : length extents < most_lines = omega arith in
+        let passed = line_passed s v T start so_far kind_5 more {line = line} {next = next} (rw (take_filled no_extent extents) reads) e same in
+        rw (set_filled no_extent extents e short, ← length-append extents (e ∷ [])) at passed

@@ -7,12 +7,13 @@ ghost use Rattle.lines.specs.Decoding.{table_at};
 
 use crate::extent::Extent;
 use crate::line::decode_line;
+use arrayvec::ArrayVec;
 use checks::fault::{Fault, Refusal};
 use checks::kind::Kind;
 use checks::limits::MOST_LINES;
 
 // How many lines there are from an index on, and the index after the last: the first word of another kind ends them.
-#[tactic(auto, using(crate::proofs::Lines::line_laws, checks::proofs::Tests::kind_told))]
+#[tactic(auto, using(checks::proofs::Tests::kind_told))]
 pub fn check_lines(
     s: &[u8],
     start: usize,
@@ -22,21 +23,19 @@ pub fn check_lines(
     requires { samples ≤ most_samples }
     ensures { said (λ found. found) result ≡ table_at (words_of s.now) signals samples start }
 {
-    // filled up to `lines`: there is no heap, and where the lines end is found on the way
-    let mut extents = [Extent::NONE; MOST_LINES];
-    let mut lines = 0;
+    // of fixed room: there is no heap. Where the lines end is found on the way.
+    let mut extents = ArrayVec::<Extent, MOST_LINES>::new();
     let mut at = start;
     while Kind::Line.is_at(s, at) {
-        if lines == MOST_LINES {
+        if extents.is_full() {
             return Err(Fault::LineCount.at(at));
         }
-        let (line, next) = decode_line(s, at, signals, samples, &extents[..lines])?;
-        extents[lines] = line.extent;
-        lines += 1;
+        let (line, next) = decode_line(s, at, signals, samples, &extents)?;
+        extents.push(line.extent);
         at = next;
     }
-    if lines == 0 {
+    if extents.is_empty() {
         return Err(Fault::LineCount.at(at));
     }
-    Ok((lines, at))
+    Ok((extents.len(), at))
 }
