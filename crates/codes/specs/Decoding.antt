@@ -1,6 +1,6 @@
 -- For contracts alone, with nothing of document 01: what the code's decoded operators say, in the terms of `Operators`, and the parts in which the
 -- code reads an operator.
-use Rattle.std.specs.Prelude.{ℕ, List, ℤ, pos}
+use Rattle.std.specs.Prelude.{ℕ, ◌&&◌, List, ℤ, pos, cond, leb}
 use Rattle.formulas.specs.Formulas as Formulas
 use Rattle.codes.specs.declared.operator.Direction.{Direction}
 use Rattle.codes.specs.declared.operator.Direction.TheVariants.{Forward, Backward}
@@ -44,6 +44,10 @@ operator_and_next read = (operator_said read.0, read.1)
 
 unfoldable pub fields_of : ℕ → Fields
 fields_of w = record { code = code_field w; left = left_field w; right = right_field w }
+
+-- where a code over time looks: 12 to 14 look back
+abbrev pub side_of : ℕ → Formulas.Direction
+side_of code = cond (leb 12 code && leb code 14) Formulas.backward Formulas.forward
 
 -- what a code says of fields and parameters, those that it does not have left out
 abbrev pub operator_with : Code → ℕ → ℕ → ℤ → ℕ → ℕ → Formulas.Operator

@@ -4,7 +4,7 @@ ghost use Rattle.words.specs.Bytes.{words_of};
 ghost use Rattle.checks.specs.Checked.{accepted, require};
 ghost use Rattle.checks.specs.Said.{said};
 ghost use Rattle.codes.specs.Operators.{constant_at, bounds_at, operator_at};
-ghost use Rattle.codes.specs.Decoding.{operator_said, bounds_read, operator_and_next, fields_of, operator_of, plain_read, atom_read, bounded_read};
+ghost use Rattle.codes.specs.Decoding.{side_said, operator_said, bounds_read, operator_and_next, fields_of, side_of, operator_of, plain_read, atom_read, bounded_read};
 
 use checks::fault::{Fault, Refusal};
 use checks::kind::Kind;
@@ -137,6 +137,16 @@ fn read_bounds(s: &[u8], at: usize) -> Result<Bounds, Refusal>
     ordered_bounds(lower, upper, next)
 }
 
+// Where a code over time looks: 12 to 14 look back.
+fn direction_of(code: u32) -> Direction
+    ensures { side_said result ≡ side_of code }
+{
+    match code {
+        12..=14 => Direction::Backward,
+        _ => Direction::Forward,
+    }
+}
+
 // The table of codes, by the number that a line has. A parameter that a code does not have counts for nothing, so any may be handed over for it; a code
 // above the last says nothing: it is true, as code 0.
 #[tactic(auto, unfolding(crate::specs::Codes::codes))]
@@ -155,53 +165,31 @@ fn operator_of(fields: Fields, constant: i32, bounds: Bounds) -> Operator
         },
         3 => Operator::Not { left },
         4 => Operator::And { left, right },
-        5 => Operator::Until {
-            direction: Direction::Forward,
+        5 | 12 => Operator::Until {
+            direction: direction_of(code),
             left,
             right,
             bounds,
         },
         6 => Operator::Somewhere { left, bounds },
-        7 => Operator::Surrounded {
-            islands: false,
+        7 | 15 => Operator::Surrounded {
+            islands: code == 15,
             left,
             right,
             bounds,
         },
         8 => Operator::Or { left, right },
-        9 => Operator::Eventually {
-            direction: Direction::Forward,
+        9 | 13 => Operator::Eventually {
+            direction: direction_of(code),
             left,
             bounds,
         },
-        10 => Operator::Always {
-            direction: Direction::Forward,
+        10 | 14 => Operator::Always {
+            direction: direction_of(code),
             left,
             bounds,
         },
         11 => Operator::Everywhere { left, bounds },
-        12 => Operator::Until {
-            direction: Direction::Backward,
-            left,
-            right,
-            bounds,
-        },
-        13 => Operator::Eventually {
-            direction: Direction::Backward,
-            left,
-            bounds,
-        },
-        14 => Operator::Always {
-            direction: Direction::Backward,
-            left,
-            bounds,
-        },
-        15 => Operator::Surrounded {
-            islands: true,
-            left,
-            right,
-            bounds,
-        },
         _ => Operator::True,
     }
 }
