@@ -6,6 +6,7 @@ ghost use Rattle.evaluation.specs.Walk.{LinesWrittenIn};
 
 use crate::accepted::Accepted;
 use crate::line::write_line;
+use arrayvec::ArrayVec;
 use checks::head::{head_words, is_wide};
 use checks::limits::MOST_LINES;
 use lines::extent::Extent;
@@ -25,14 +26,13 @@ pub fn words_needed(accepted: Accepted) -> usize
     ensures { result ≡ needed_in accepted.entry.sheet.now accepted.entry.distances.now }
 {
     let layout = accepted.layout;
-    // filled up to line k: there is no heap
-    let mut extents = [Extent::NONE; MOST_LINES];
+    let mut extents = ArrayVec::<Extent, MOST_LINES>::new();
     let mut at = layout.table;
     let mut needed = head_words(is_wide(accepted.sheet)) + 1;
-    for k in 0..layout.lines {
-        let (line, next) = accepted.line_at(at, &extents[..k]);
+    for _ in 0..layout.lines {
+        let (line, next) = accepted.line_at(at, &extents);
         needed += 1 + line.extent.length as usize * layout.places;
-        extents[k] = line.extent;
+        extents.push(line.extent);
         at = next;
     }
     needed
@@ -45,23 +45,23 @@ pub fn write_lines(accepted: Accepted, answer: &mut [u8]) -> Written
     ensures tail { after_words answer.new ≡ after_words answer.old }
 {
     let layout = accepted.layout;
-    // both filled up to line k: there is no heap. The starts stand apart, since a line is read from extents alone.
-    let mut extents = [Extent::NONE; MOST_LINES];
-    let mut starts = [0usize; MOST_LINES];
+    // apart, since a line is read from extents alone
+    let mut extents = ArrayVec::<Extent, MOST_LINES>::new();
+    let mut starts = ArrayVec::<usize, MOST_LINES>::new();
     let mut at = layout.table;
     let mut to = head_words(is_wide(accepted.sheet));
     let mut tally = Tally::NONE;
-    for k in 0..layout.lines {
-        let (line, next) = accepted.line_at(at, &extents[..k]);
+    for _ in 0..layout.lines {
         let earlier = Earlier {
-            starts: &starts[..k],
-            extents: &extents[..k],
+            starts: &starts,
+            extents: &extents,
             places: layout.places,
         };
+        let (line, next) = accepted.line_at(at, earlier.extents);
         let (before, own) = answer.split_at_mut(to * 4);
         let here = write_line(line, accepted, earlier, before, own);
-        extents[k] = line.extent;
-        starts[k] = to + 1;
+        extents.push(line.extent);
+        starts.push(to + 1);
         to += 1 + line.extent.length as usize * layout.places;
         at = next;
         tally = tally.with(here);
