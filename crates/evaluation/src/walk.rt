@@ -45,7 +45,7 @@ pub fn write_lines(accepted: Accepted, answer: &mut [u8]) -> Written
     ensures tail { after_words answer.new ≡ after_words answer.old }
 {
     let layout = accepted.layout;
-    // apart, since a line is read from extents alone
+    // of fixed room: there is no heap. The starts stand apart, since a line is read from extents alone.
     let mut extents = ArrayVec::<Extent, MOST_LINES>::new();
     let mut starts = ArrayVec::<usize, MOST_LINES>::new();
     let mut at = layout.table;
