@@ -12,11 +12,10 @@ use checks::kind::Kind;
 use checks::word::{is_kind, spare_bit_zero};
 
 // How many corrections there are, an unfinished last one included.
-#[tactic(auto, using(words::proofs::Words::words_count))]
 pub fn correction_count(list: &[u8]) -> usize
     ensures { result ≡ count (words_of list.now) }
 {
-    (words::word_count(list) + 2) / 3
+    words::word_count(list).div_ceil(3)
 }
 
 // The first word: a revision, a signal and a time of the sheet.
