@@ -1,6 +1,7 @@
 -- The numbers of the refusals: 1 to 14 of a sheet ("Where a sheet is turned back"), 17 of a wide one (M-104), and those of the tools and of hosts.
-use Rattle.std.specs.Prelude.{ℕ}
+use Rattle.std.specs.Prelude.{ℕ, List, ◌++◌, codes, decimal}
 use Rattle.checks.specs.declared.fault.Fault.{Fault}
+use Rattle.checks.specs.declared.fault.Refusal.{Refusal}
 use Rattle.checks.specs.declared.fault.Fault.TheVariants.{DistancesShort, NotHead, SizeOutOfLimits, RoadBits, RoadPlaces, RoadOrder, RoadWeight, NotSample, SampleSpareBit, LineCount, LineFields, LineParameter, LineTooShort, NotEnd, OutputShort, BytesRefused, WideHead, TooManyPlaces, CorrectionFaulty, CorrectionsClash}
 
 abbrev pub fault_number : Fault → ℕ
@@ -24,3 +25,7 @@ fault_number WideHead = 17
 fault_number TooManyPlaces = 18
 fault_number CorrectionFaulty = 19
 fault_number CorrectionsClash = 20
+
+-- what a program prints of a refusal: its number, a space, and the index of the word
+abbrev pub refusal_text : Refusal → List ℕ
+refusal_text refusal = decimal (fault_number refusal.fault) ++ codes " " ++ decimal refusal.place

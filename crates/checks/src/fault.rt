@@ -1,6 +1,8 @@
 // Why a sheet, a list of corrections or what a host lends is turned back, and where.
-ghost use Rattle.std.specs.Prelude.{◌≡◌};
-ghost use Rattle.checks.specs.Faults.{fault_number};
+ghost use Rattle.std.specs.Prelude.{◌≡◌, Some};
+ghost use Rattle.checks.specs.Faults.{fault_number, refusal_text};
+
+use std::fmt;
 
 // A case for each refusal, with its number in the documents.
 #[derive(Clone, Copy, Debug, PartialEq, Eq)]
@@ -46,5 +48,14 @@ impl Fault {
         ensures { result ≡ record { fault = self; place = place } }
     {
         Refusal { fault: self, place }
+    }
+}
+
+// As the programs print it: its number, then its place.
+impl fmt::Display for Refusal {
+    ghost output = { λ refusal. Some (refusal_text refusal) };
+
+    fn fmt<W: fmt::Write>(&self, f: &mut fmt::Formatter<W>) -> fmt::Result {
+        write!(f, "{} {}", self.fault.number(), self.place)
     }
 }
