@@ -4,9 +4,9 @@
 
 ghost use Rattle.std.specs.Prelude.{◌≡◌, length};
 ghost use Rattle.engine.specs.Result.{result_said};
-ghost use Rattle.host.specs.Host.{result_size, result_bytes, lent_whole, not_whole, host_judged, host_looked_up};
+ghost use Rattle.host.specs.Host.{result_size, result_bytes, lent_whole, host_judged, host_looked_up};
 
-use checks::fault::{Fault, Refusal};
+use checks::fault::Refusal;
 use engine::Answered;
 
 mod tool_calls;
@@ -21,7 +21,10 @@ const RESULT_BYTES: usize = 40;
 fn lent_whole(sheet: usize, distances: usize, answer: usize, res: usize) -> bool
     ensures { result ≡ lent_whole sheet distances answer res }
 {
-    sheet % 4 == 0 && answer % 4 == 0 && distances % 8 == 0 && res == RESULT_BYTES
+    sheet.is_multiple_of(4)
+        && answer.is_multiple_of(4)
+        && distances.is_multiple_of(8)
+        && res == RESULT_BYTES
 }
 
 // The five numbers of what the engine answers, and the first of them: here, and in `put_told` of tools, 0 stands for no refusal. Tools have three
@@ -39,24 +42,8 @@ fn put_result(res: &mut [u8], told: Result<Answered, Refusal>) -> u64
     numbers[0]
 }
 
-// Refuses lengths that are not whole: zeros in all that is lent, but for the number in a result of the right size.
-fn refuse(distances: &mut [u8], answer: &mut [u8], res: &mut [u8]) -> u64
-    ensures told { result ≡ (not_whole distances.old answer.old res.old).number }
-    ensures said { answer.new ≡ (not_whole distances.old answer.old res.old).answer }
-    ensures measured { distances.new ≡ (not_whole distances.old answer.old res.old).distances }
-    ensures held { res.new ≡ (not_whole distances.old answer.old res.old).result }
-{
-    words::fill_zero(distances);
-    words::fill_zero(answer);
-    words::fill_zero(res);
-    if res.len() == RESULT_BYTES {
-        return put_result(res, Err(Fault::BytesRefused.at(0)));
-    }
-    Fault::BytesRefused.number()
-}
-
 // Judges a sheet and returns the number of its refusal, 0 for none, as C takes it. Lengths that are not whole are 16, before all else.
-#[tactic(auto, using(crate::proofs::Lent::whole_lengths, crate::proofs::Lent::refused_lengths))]
+#[tactic(auto, using(crate::proofs::Lent::whole_lengths, crate::proofs::Lent::refused_lengths), unfolding(words::specs::Bytes::bytes_of, words::specs::Bytes::halves_of))]
 pub fn judge(sheet: &[u8], distances: &mut [u8], answer: &mut [u8], res: &mut [u8]) -> u64
     ensures told { result ≡ (host_judged sheet.now distances.old answer.old res.old).number }
     ensures said { answer.new ≡ (host_judged sheet.now distances.old answer.old res.old).answer }
@@ -64,7 +51,8 @@ pub fn judge(sheet: &[u8], distances: &mut [u8], answer: &mut [u8], res: &mut [u
     ensures held { res.new ≡ (host_judged sheet.now distances.old answer.old res.old).result }
 {
     if !lent_whole(sheet.len(), distances.len(), answer.len(), res.len()) {
-        return refuse(distances, answer, res);
+        words::fill_zero(distances);
+        return tools::refuse_lent(answer, res, RESULT_BYTES);
     }
     put_result(res, engine::judge(sheet, distances, answer))
 }
@@ -74,7 +62,7 @@ pub fn judge(sheet: &[u8], distances: &mut [u8], answer: &mut [u8], res: &mut [u
 pub fn lookup(answer: &[u8], line: u64, sample: u64, place: u64) -> u64
     ensures { result ≡ host_looked_up answer.now line sample place }
 {
-    if answer.len() % 4 != 0 {
+    if !answer.len().is_multiple_of(4) {
         return 0;
     }
     lookup::lookup(answer, line, sample, place)

@@ -1,6 +1,7 @@
 -- What every tool leaves a host written in C (M-105, and so M-107, M-109, M-111 and M-113), in bytes, by what it leaves in words.
-use Rattle.std.specs.Prelude.{ℕ, ◌%◌, Bool, cond, ◌&&◌, List, eqb, length, replicate}
+use Rattle.std.specs.Prelude.{ℕ, ◌%◌, Bool, cond, ◌&&◌, List, [], ◌∷◌, eqb, length, replicate}
 use Rattle.words.specs.Bytes.{bytes_of, halves_of}
+use Rattle.words.specs.Rows.{padded}
 use Rattle.tool.specs.Tool.{Told, told_numbers, Left}
 use Rattle.conversion.specs.Lent.{converted_in}
 use Rattle.correcting.specs.Lent.{corrected_in}
@@ -15,6 +16,10 @@ bytes_refused = 16
 
 abbrev pub zeros : List ℕ → List ℕ
 zeros lent = replicate (length lent) 0
+
+-- a result when lengths are not whole: the number and zeros behind it, where it has the right size, and zeros alone elsewhere
+abbrev pub refused_bytes : (size : ℕ) → List ℕ → List ℕ
+refused_bytes size result = cond (eqb (length result) size) (padded (bytes_of (halves_of (bytes_refused ∷ []))) size) (zeros result)
 
 -- ---- what every tool leaves
 -- the result's bytes: three numbers of eight
