@@ -60,13 +60,14 @@ impl fmt::Display for Verdict {
 fn print_places(rt: &impl Print, answer: &[u8], at: usize, places: usize) -> io::Result<()>
     requires { at + places ≤ 2 ^ 40 }
 {
-    for place in 0..places {
-        print!(rt; " {}", Verdict(words::word_or_zero(answer, at + place)))?;
+    for index in at..at + places {
+        print!(rt; " {}", Verdict(words::word_or_zero(answer, index)))?;
     }
     println!(rt)
 }
 
 // The rows of the line whose first word stands at index `at`, from its first sample on. Tells the index after the line.
+#[tactic(auto, using(crate::proofs::Rows::rows_few))]
 fn print_line(
     rt: &impl Print,
     answer: &[u8],
@@ -78,13 +79,12 @@ fn print_line(
     ensures { IfOk result (λ next. next ≤ at + 2 ^ 28) }
 {
     let first = lookup::first_at(answer, at);
-    let mut next = at + 1;
-    for row in 0..lookup::length_at(answer, at) {
+    let length = lookup::length_at(answer, at);
+    for row in 0..length {
         print!(rt; "{line} {}", first + row)?;
-        print_places(rt, answer, next, places)?;
-        next += places;
+        print_places(rt, answer, at + 1 + row * places, places)?;
     }
-    Ok(next)
+    Ok(at + 1 + length * places)
 }
 
 // The rows of all lines, and last how many they are. The fields of 8, 12 and 16 bits keep every index small, whatever the words are.
@@ -108,7 +108,7 @@ fn print_accepted(rt: &impl Print, told: Answered) -> io::Result<()> {
 fn input_taken(bytes: usize) -> bool
     ensures { result ≡ input_taken bytes }
 {
-    bytes % 4 == 0 && bytes <= INPUT_BYTES
+    bytes.is_multiple_of(4) && bytes <= INPUT_BYTES
 }
 
 // Judges the input, where it is taken.
@@ -135,7 +135,7 @@ fn print_judged(rt: &impl Print, input: &[u8]) -> io::Result<()> {
             print_accepted(rt, told)?;
             print_lines(rt, &answer)
         }
-        Err(refusal) => println!(rt; "refused {} {}", refusal.fault.number(), refusal.place),
+        Err(refusal) => println!(rt; "refused {refusal}"),
     }
 }
 

@@ -40,11 +40,11 @@ impl fmt::Display for Distance {
 fn print_row(rt: &impl Print, table: &[u8], first: usize, count: usize) -> io::Result<()>
     requires { first + count ≤ room_in table.now }
 {
-    for i in 0..count {
-        if 0 < i {
+    for index in first..first + count {
+        if first < index {
             print!(rt; " ")?;
         }
-        print!(rt; "{}", Distance(words::number_at(table, first + i)))?;
+        print!(rt; "{}", Distance(words::number_at(table, index)))?;
     }
     println!(rt)
 }
@@ -81,7 +81,7 @@ fn survey_one(rt: &impl Print, sheet_bytes: &[u8], table: &mut [u8]) -> io::Resu
             print_rows(rt, table, layout.places)
         }
         Err(refusal) => {
-            println!(rt; "refused {} {}", refusal.fault.number(), refusal.place)?;
+            println!(rt; "refused {refusal}")?;
             if !is_zero(table) {
                 println!(rt; "table not zero")?;
             }
