@@ -1,6 +1,6 @@
 -- The corrections of the part before the next one are chained, and none before the next one disagrees; `Searching` has the turns.
 use mathlib.Core.Path.{◌≡◌}
-use Prim.Native.Nat.{◌+◌, ◌-◌, ◌≤◌}
+use Prim.Native.Nat.{◌+◌, ◌≤◌}
 use lib.ListN.{length}
 use Rattle.words.specs.Bytes.{words_of}
 use Rattle.clashes.specs.Chains.{part_before, Chained, Searched}
@@ -10,6 +10,3 @@ abbrev pub invariant-loop-k : goal.invariant-loop-k
 invariant-loop-k l =
     (l.part.from ≤ l.k) × (l.k ≤ l.end) × (length l.links ≡ length l.initial.links) × Chained (words_of l.list.words.now) l.list.grid l.part (words_of l.links) (part_before l.part l.k)
     × Searched (words_of l.list.words.now) l.list.grid (l.part.from + l.part.size) l.k
-
-abbrev pub decreases-loop-k : goal.decreases-loop-k
-decreases-loop-k l = l.end - l.k
