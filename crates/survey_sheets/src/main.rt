@@ -49,6 +49,7 @@ fn print_row(rt: &impl Print, table: &[u8], first: usize, count: usize) -> io::R
     println!(rt)
 }
 
+#[tactic(auto, using(crate::proofs::Rows::row_within, words::proofs::Numbers::length_numbers))]
 fn print_rows(rt: &impl Print, table: &[u8], places: usize) -> io::Result<()>
     requires { HasRoom places table.now }
 {
