@@ -201,7 +201,8 @@ fn fields_below(fields: Fields, lefts: usize, rights: usize) -> bool
     fields.left < lefts && fields.right < rights
 }
 
-// A code with no parameter. The three kinds of lines read other parameters, and each meets a definition of its own.
+// A code with no parameter. The three kinds of lines read other parameters, and each meets a definition of its own. That the line word is there stays a clause
+// of theirs, and of those that call them: the words after it may be absent, so a type of an index at which a word is would be left at the next one.
 #[tactic(auto, unfolding(crate::specs::Decoding::plain_read))]
 fn decode_plain(
     fields: Fields,

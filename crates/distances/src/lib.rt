@@ -2,7 +2,8 @@
 // Paths are let through one more place at a time (Floyd and Warshall). Within one table this is right because the row and the
 // column of the place that is let in do not change in its turn.
 // While it is written the table stays bytes beside the count of places: of a type that borrows them nothing would be known in the bytes once it is
-// gone. What is read afterwards is a type (`Distances`).
+// gone. What is read afterwards is a type (`Distances`). That the roads have passed stays a clause too (`GoodRoads`), as `fill_distances` is given a sheet,
+// its places and its roads by the survey alone: a type of the three would be made there and taken apart here.
 #![tactic(auto)]
 
 ghost use Rattle.std.specs.Prelude.{◌≡◌, ◌+◌, ◌-◌, ◌*◌, ◌<◌, ◌^◌, length, drop, replicate};

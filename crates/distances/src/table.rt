@@ -1,4 +1,5 @@
-// A table of distances that is there, with a row for each place.
+// A table of distances that is there, with a row for each place. That a place is below `places` stays a clause wherever one is asked for: a type of such
+// places would have to tell of which table, and be taken apart at each use.
 ghost use Rattle.std.specs.Prelude.{◌≡◌, ◌+◌, ◌*◌, ◌<◌, get_or};
 ghost use Rattle.words.specs.Bytes.{words_of, numbers_of};
 ghost use Rattle.distances.specs.Distances.{distance_told, HasRoom};

@@ -15,7 +15,8 @@ pub struct Line {
     pub operator: Operator,
 }
 
-// The line whose word is at an index, after the earlier lines of these extents, and the index after its words.
+// The line whose word is at an index, after the earlier lines of these extents, and the index after its words. That the samples are within their limit stays a
+// clause, here and where it is called: as a type it would be made of a number that the head's check has bounded, and be a number again in each extent.
 #[tactic(auto, using(crate::proofs::AcceptedLines::read_sound), unfolding(crate::specs::Lines::line_at))]
 pub fn decode_line(
     s: &[u8],

@@ -73,7 +73,8 @@ pub fn yes(c: u32) -> bool
     268435456 < c
 }
 
-// What an atom is worth, by the difference of a sample and a constant.
+// What an atom is worth, by the difference of a sample and a constant. Their 27 bits stay a clause, here and where atoms are read: a type of such numbers would
+// stand in every operator that has a constant, for this one subtraction.
 #[tactic(auto, using(logic::proofs::Small::difference_small, crate::proofs::Machine::small_fits, crate::proofs::Codes::code_bound))]
 pub fn difference(x: i32, c: i32) -> u32
     requires { InBits 27 x × InBits 27 c }
