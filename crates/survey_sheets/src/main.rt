@@ -11,50 +11,44 @@
 // A read or a write that fails ends it: with an error on standard error, and status 1.
 #![tactic(auto)]
 
-ghost use Rattle.std.specs.Prelude.{◌≡◌, ◌+◌, ◌≤◌, ◌↔◌, IsTrue, slice_index, EachIndex};
-ghost use Rattle.distances.specs.Distances.{room_in, HasRoom};
+ghost use Rattle.std.specs.Prelude.{◌≡◌, ◌≤◌, ◌<◌, ◌↔◌, IsTrue, slice_index, EachIndex};
 
-use distances::NONE;
+use distances::table::Distances;
 use sheet::check::Layout;
 use std::{fmt, io};
 
 // What is read at most.
 const READ_BYTES: usize = 65536;
 
-// A number of the table, printed as a distance.
+// A distance, if a path is, as it is printed.
 #[derive(Clone, Copy)]
-struct Distance(u64);
+struct Distance(Option<u64>);
 
 impl fmt::Display for Distance {
     fn fmt<W: fmt::Write>(&self, f: &mut fmt::Formatter<W>) -> fmt::Result {
-        if self.0 == NONE {
-            write!(f, "none")
-        } else {
-            write!(f, "{}", self.0)
+        match self.0 {
+            Some(distance) => write!(f, "{distance}"),
+            None => write!(f, "none"),
         }
     }
 }
 
-// So many distances of the table, from the one at `first` on.
-#[tactic(auto, using(words::proofs::Numbers::length_numbers))]
-fn print_row(rt: &impl Print, table: &[u8], first: usize, count: usize) -> io::Result<()>
-    requires { first + count ≤ room_in table.now }
+// The distances from a place to all places.
+fn print_row(rt: &impl Print, distances: Distances, from: usize) -> io::Result<()>
+    requires { from < distances.places }
 {
-    for index in first..first + count {
-        if first < index {
+    for to in 0..distances.places {
+        if 0 < to {
             print!(rt; " ")?;
         }
-        print!(rt; "{}", Distance(words::number_at(table, index)))?;
+        print!(rt; "{}", Distance(distances.between(from, to)))?;
     }
     println!(rt)
 }
 
-#[tactic(auto, using(crate::proofs::Rows::row_within, words::proofs::Numbers::length_numbers))]
-fn print_rows(rt: &impl Print, table: &[u8], places: usize) -> io::Result<()>
-    requires { HasRoom places table.now }
-{
-    for place in 0..places {
-        print_row(rt, table, place * places, places)?;
+fn print_rows(rt: &impl Print, distances: Distances) -> io::Result<()> {
+    for place in 0..distances.places {
+        print_row(rt, distances, place)?;
     }
     Ok(())
 }
@@ -79,7 +73,11 @@ fn survey_one(rt: &impl Print, sheet_bytes: &[u8], table: &mut [u8]) -> io::Resu
     match sheet::survey::survey(sheet_bytes, table) {
         Ok(layout) => {
             print_accepted(rt, layout)?;
-            print_rows(rt, table, layout.places)
+            let distances = Distances {
+                table,
+                places: layout.places,
+            };
+            print_rows(rt, distances)
         }
         Err(refusal) => {
             println!(rt; "refused {refusal}")?;
