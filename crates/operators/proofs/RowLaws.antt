@@ -1,12 +1,12 @@
 -- Rows are written place by place, each number from a law f: none yet, one more, all of them; and what a turned number is.
-use mathlib.Core.Path.{◌≡◌, refl, subst, ◌∙◌}
+use mathlib.Core.Path.{◌≡◌, refl, sym, subst, ◌∙◌}
 use mathlib.Core.Bool.{Bool, true, false}
-use mathlib.Core.List.{List}
+use mathlib.Core.List.{List, ◌++◌}
 use Prim.Native.Nat.{ℕ, ◌+◌, ◌≤◌, ◌<◌}
 use native.Mathlib.Omega.{arith}
 use borrow.Author.Count.{below_more}
-use lib.ListN.{length, get_or, set, length-set}
-use lib.Seq.{get_or-set_same, get_or-set_other}
+use lib.ListN.{length, get_or, set, take, length-set}
+use lib.Seq.{get_or-set_same, get_or-set_other, length-take-le, set-append_left}
 use Rattle.logic.specs.Table.{Signal}
 use Rattle.values.specs.Chain.{chains, highest}
 use Rattle.values.specs.Signals.{turned}
@@ -39,6 +39,14 @@ one_passed {places} {f} {before} {row} {l} v passed inside room e =
         long = length-set row l v ∙ left.long;
       };
     }
+
+-- the same where a loop goes over the first places of a row, and the rest stands after them
+pub in_front : {places l : ℕ} (row : List ℕ) → l < length (take places row) → places ≤ length row → l < places
+in_front {places} row b room = omega (arith, b, length-take-le places row room)
+
+pub front_passed : {places : ℕ} {f : ℕ → ℕ} {before : List ℕ} (front rest : List ℕ) {l : ℕ} (v : ℕ) → Passed places f before (front ++ rest) l → l < length front → l < places
+    → places ≤ length before → v ≡ f l → Passed places f before (set front l v ++ rest) (l + 1)
+front_passed front rest {l} v passed b inside room e = rw (sym (set-append_left front rest l v b)) (one_passed v passed inside room e)
 
 pub all_passed : {places : ℕ} {f : ℕ → ℕ} {before row : List ℕ} {l : ℕ} → Passed places f before row l → places ≤ l → RowLeft places f before row
 all_passed {places} {f} {before} {row} {l} passed ended = let e : l ≡ places = omega (arith, passed.some) in subst (λ k. RowLeft k f before row) e passed.left

@@ -18,8 +18,8 @@ fn atom_at(samples: &[u8], i: usize, constant: i32, atleast: bool) -> u32
     }
 }
 
-// A sheet has time outermost, then place, then signal. By index: over the row's places the proof that a sample is there did not close.
-#[tactic(auto, using(words::proofs::Rows::in_table, words::proofs::Words::words_count, crate::proofs::Bounds::in_row, crate::proofs::RowLaws::one_passed))]
+// A sheet has time outermost, then place, then signal.
+#[tactic(auto, using(words::proofs::Rows::in_table, words::proofs::Words::words_count, crate::proofs::Bounds::in_row, crate::proofs::RowLaws::in_front))]
 pub fn atom_row(
     samples: &[u8],
     places: usize,
@@ -33,8 +33,8 @@ pub fn atom_row(
     requires { AtomReady (words_of samples.now) places signals signal constant t row.old }
     ensures { RowLeft places (atom_in (words_of samples.now) places signals signal atleast constant t) row.old row.new }
 {
-    for l in 0..places {
-        row[l] = atom_at(
+    for (l, x) in row[..places].iter_mut().enumerate() {
+        *x = atom_at(
             samples,
             (t * places + l) * signals + signal,
             constant,
