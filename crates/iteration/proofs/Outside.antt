@@ -2,19 +2,21 @@
 -- them.
 use mathlib.Core.Path.{◌≡◌, refl, sym, ap, ap₂, subst, ◌∙◌}
 use mathlib.Core.Bool.{Bool, true, false, cond, ◌&&◌, false≢true}
-use mathlib.Core.List.{List, [], ◌∷◌}
+use mathlib.Core.List.{List, [], ◌∷◌, ◌++◌}
 use Prim.Native.Nat.{ℕ, zero, suc, ◌+◌, ◌<◌, ◌≤◌}
 use native.Mathlib.Decide.{ℕ_discrete}
 use native.Mathlib.Omega.{arith}
 use borrow.Author.Count.{below_more}
-use lib.ListN.{length, get_or}
+use lib.ListN.{length, get_or, set, length-set, get_or-append}
+use lib.Seq.{get_or-set_same, get_or-set_other, set-append_left}
+use Rattle.std.proofs.lemmas.List.{set-get_or}
 use Rattle.std.specs.List.{zip, IsAnyAnswer}
 use Rattle.roads.specs.declared.road.Way.{Way}
 use Rattle.values.specs.Chain.{chain_lattice}
 use Rattle.values.proofs.Naturals.{meet_min}
 use Rattle.lanes.specs.declared.Place.{Place}
 use Rattle.lanes.specs.Lanes.{lanes, Row, ring_row, x_row, former_row, both_row, Numbers, no_place, place_at, row_in}
-use Rattle.lanes.specs.Strips.{StripsApart}
+use Rattle.lanes.specs.Strips.{Held, StripsApart}
 use Rattle.lanes.specs.Rows.{Kept, KeptPast, flagged}
 use Rattle.lanes.proofs.RowLaws.{kept_refl, kept_past_refl}
 use Rattle.iteration.specs.WorkRows.{joined_part, stepped_part, LowPlace, LowOutside, Worked, KeptBut}
@@ -171,3 +173,61 @@ joining_outside {inside} {before} {rows} {k} j b e =
       worked = j.worked;
       rest = record { past = λ p h. j.rest.past p (omega arith) };
     }
+
+-- a place inside has what it had as its former numbers, and a strip of what it hands over
+abbrev joined_at : Place → List ℕ → Place
+joined_at p strip = record { left = p.left; right = p.right; out = p.out; ring = p.ring; x = p.x; former = p.x; both = strip }
+
+joining_inside : {inside : List Bool} {before rows : List Place} {k : ℕ} (strip : List ℕ) → Joining inside before rows k → k < length inside → flagged inside k ≡ true
+    → Held lanes (λ lane. chain_lattice.join (get_or (place_at rows k).x lane 0) (get_or (place_at rows k).ring lane 0)) strip
+    → Joining inside before (set rows k (joined_at (place_at rows k) strip)) (k + 1)
+joining_inside {inside} {before} {rows} {k} strip j b e held = record {
+  joined = record {
+    former = λ p lane c l. below_more (λ q. row_in after former_row lane q ≡ row_in before x_row lane q) k
+        (λ q d. ap (λ (r : Place). get_or r.former lane 0) (elsewhere q (λ m. absurd (omega arith))) ∙ j.joined.former q lane d l)
+        (ap (λ (r : Place). get_or r.former lane 0) here ∙ ap (λ (r : Place). get_or r.x lane 0) (j.worked.kept.same k)) p c;
+    handed = λ p lane c l. below_more (λ q. row_in after both_row lane q ≡ chain_lattice.join (row_in before x_row lane q) (row_in before ring_row lane q)) k
+        (λ q d. ap (λ (r : Place). get_or r.both lane 0) (elsewhere q (λ m. absurd (omega arith))) ∙ j.joined.handed q lane d l)
+        (ap (λ (r : Place). get_or r.both lane 0) here ∙ held.at lane l
+        ∙ ap₂ chain_lattice.join (ap (λ (r : Place). get_or r.x lane 0) (j.worked.kept.same k)) (ap (λ (r : Place). get_or r.ring lane 0) (j.worked.kept.same k))) p c;
+  };
+  worked = record {
+    kept = record { same = λ p. part p (ℕ_discrete p k); long = long ∙ j.worked.kept.long };
+    past = record { past = λ p h. elsewhere p (λ m. absurd (omega arith)) ∙ j.worked.past.past p h };
+    low = record { room = omega (arith, j.worked.low.room, long); low = λ p c f. low p c f (ℕ_discrete p k) };
+  };
+  rest = record { past = λ p h. elsewhere p (λ m. absurd (omega arith)) ∙ j.rest.past p (omega arith) };
+}
+  where
+    after : List Place
+    after = set rows k (joined_at (place_at rows k) strip)
+
+    long : length after ≡ length rows
+    long = length-set rows k (joined_at (place_at rows k) strip)
+
+    here : place_at after k ≡ joined_at (place_at rows k) strip
+    here = get_or-set_same rows k (joined_at (place_at rows k) strip) no_place (omega (arith, b, j.worked.low.room))
+
+    elsewhere : (p : ℕ) → (p ≡ k → ⊥) → place_at after p ≡ place_at rows p
+    elsewhere p n = get_or-set_other rows k p (joined_at (place_at rows k) strip) no_place n
+
+    part : (p : ℕ) → Dec (p ≡ k) → joined_part (place_at after p) ≡ joined_part (place_at before p)
+    part p (yes m) = rw m (ap joined_part here ∙ j.worked.kept.same k)
+    part p (no n) = ap joined_part (elsewhere p n) ∙ j.worked.kept.same p
+
+    low : (p : ℕ) → p < length inside → flagged inside p ≡ false → Dec (p ≡ k) → LowPlace (place_at after p)
+    low p c f (yes m) = absurd (false≢true (sym f ∙ ap (flagged inside) m ∙ e))
+    low p c f (no n) = subst LowPlace (sym (elsewhere p n)) (j.worked.low.low p c f)
+
+-- the same where a loop goes over the first places, and the rest stands after them
+module _ {inside : List Bool} {before : List Place} (front rest : List Place) {k : ℕ} (j : Joining inside before (front ++ rest) k) (b : k < length front) (i : k < length inside) where
+  pub front_inside : (strip : List ℕ) → flagged inside k ≡ true
+      → Held lanes (λ lane. chain_lattice.join (get_or (place_at front k).x lane 0) (get_or (place_at front k).ring lane 0)) strip
+      → Joining inside before (set front k (joined_at (place_at front k) strip) ++ rest) (k + 1)
+  front_inside strip e held =
+      let same : place_at (front ++ rest) k ≡ place_at front k = get_or-append front rest no_place k b in
+      let next = joining_inside strip j i e (rw same held) in
+      rw (sym (set-append_left front rest k (joined_at (place_at front k) strip) b)) (subst (λ p. Joining inside before (set (front ++ rest) k (joined_at p strip)) (k + 1)) same next)
+
+  pub front_outside : flagged inside k ≡ false → Joining inside before (set front k (place_at front k) ++ rest) (k + 1)
+  front_outside e = rw (set-get_or front k no_place) (joining_outside j i e)

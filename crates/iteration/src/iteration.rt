@@ -18,15 +18,13 @@ const MARGIN: u32 = 2;
 
 // Keeps the former numbers, and makes of them what each place hands to its neighbours: a pull must not read a place that has stepped already. That places outside the
 // ball are lowest (`LowOutside`) stays a clause, here and below: it is a fact of the flags and of places that are written.
-// By index: through an iterator, the proof of a turn that joins a place or passes it by did not close.
 fn join(rows: &mut [Place], inside: &[bool])
     requires { LowOutside inside.now rows.old }
     ensures joined { JoinedIn rows.old inside.now rows.new }
     ensures worked { Worked joined_part inside.now rows.old rows.new }
 {
-    for place in 0..inside.len() {
+    for (place, at) in rows[..inside.len()].iter_mut().enumerate() {
         if inside[place] {
-            let at = &mut rows[place];
             at.former = at.x;
             at.both = of_two::<Greatest>(&at.x, &at.ring);
         }
