@@ -178,10 +178,10 @@ joining_outside {inside} {before} {rows} {k} j b e =
 abbrev joined_at : Place → List ℕ → Place
 joined_at p strip = record { left = p.left; right = p.right; out = p.out; ring = p.ring; x = p.x; former = p.x; both = strip }
 
-joining_inside : {inside : List Bool} {before rows : List Place} {k : ℕ} (strip : List ℕ) → Joining inside before rows k → k < length inside → flagged inside k ≡ true
+place_joined : {inside : List Bool} {before rows : List Place} {k : ℕ} (strip : List ℕ) → Joining inside before rows k → k < length inside → flagged inside k ≡ true
     → Held lanes (λ lane. chain_lattice.join (get_or (place_at rows k).x lane 0) (get_or (place_at rows k).ring lane 0)) strip
     → Joining inside before (set rows k (joined_at (place_at rows k) strip)) (k + 1)
-joining_inside {inside} {before} {rows} {k} strip j b e held = record {
+place_joined {inside} {before} {rows} {k} strip j b e held = record {
   joined = record {
     former = λ p lane c l. below_more (λ q. row_in after former_row lane q ≡ row_in before x_row lane q) k
         (λ q d. ap (λ (r : Place). get_or r.former lane 0) (elsewhere q (λ m. absurd (omega arith))) ∙ j.joined.former q lane d l)
@@ -226,7 +226,7 @@ module _ {inside : List Bool} {before : List Place} (front rest : List Place) {k
       → Joining inside before (set front k (joined_at (place_at front k) strip) ++ rest) (k + 1)
   front_inside strip e held =
       let same : place_at (front ++ rest) k ≡ place_at front k = get_or-append front rest no_place k b in
-      let next = joining_inside strip j i e (rw same held) in
+      let next = place_joined strip j i e (rw same held) in
       rw (sym (set-append_left front rest k (joined_at (place_at front k) strip) b)) (subst (λ p. Joining inside before (set (front ++ rest) k (joined_at p strip)) (k + 1)) same next)
 
   pub front_outside : flagged inside k ≡ false → Joining inside before (set front k (place_at front k) ++ rest) (k + 1)
