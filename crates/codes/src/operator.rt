@@ -154,15 +154,10 @@ fn operator_of(fields: Fields, constant: i32, bounds: Bounds) -> Operator
     ensures { operator_said result ≡ operator_of fields constant bounds.lower bounds.upper }
 {
     let Fields { code, left, right } = fields;
+    let signal = left;
     match code {
-        1 => Operator::AtLeast {
-            signal: left,
-            constant,
-        },
-        2 => Operator::AtMost {
-            signal: left,
-            constant,
-        },
+        1 => Operator::AtLeast { signal, constant },
+        2 => Operator::AtMost { signal, constant },
         3 => Operator::Not { left },
         4 => Operator::And { left, right },
         5 | 12 => Operator::Until {
