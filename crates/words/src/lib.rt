@@ -116,7 +116,7 @@ pub fn number_at(s: &[u8], i: usize) -> u64
     ])
 }
 
-#[tactic(auto, using(crate::proofs::Words::words_count, crate::proofs::Numbers::numbers_count, std::proofs::lemmas::Grind::common_steps, crate::proofs::Parts::put_back_as, crate::proofs::Puts::number_back, crate::proofs::RoundTrips::number_bytes))]
+#[tactic(auto, using(crate::proofs::Words::words_count, crate::proofs::Numbers::numbers_count, crate::proofs::Parts::put_back_as, crate::proofs::Puts::number_back, crate::proofs::RoundTrips::number_bytes))]
 pub fn put_number(s: &mut [u8], i: usize, x: u64)
     requires { i < length (numbers_of (words_of s.old)) }
     ensures stored { numbers_of (words_of s.new) ≡ set (numbers_of (words_of s.old)) i x }
