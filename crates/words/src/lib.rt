@@ -10,17 +10,18 @@ ghost use Rattle.words.specs.Rows.{put, padded};
 pub fn kind(w: u32) -> u32
     ensures { result ≡ kind_of w }
 {
-    w / 268435456
+    w >> 28
 }
 
 // Bits 27..0.
 pub fn payload(w: u32) -> u32
     ensures { result ≡ payload_of w }
 {
-    w % 268435456
+    bits::<0, 28>(w)
 }
 
-// The word of a kind and a payload.
+// The word of a kind and a payload. The kind is a number, since the enums of kinds lie in crates above: `Kind` of checks, `VerdictKind` of values, `Naming` of
+// corrections.
 pub fn word(kind: u32, payload: u32) -> u32
     requires { kind < 16 × payload < 2 ^ 28 }
     ensures { result ≡ word_of kind payload }
@@ -162,7 +163,7 @@ pub fn copy_bytes(from: &[u8], to: &mut [u8], at: usize)
     requires { at + length from.now ≤ length to.old }
     ensures { to.new ≡ put to.old at from.now }
 {
-    for i in 0..from.len() {
-        to[at + i] = from[i];
+    for (i, x) in from.iter().enumerate() {
+        to[at + i] = *x;
     }
 }
