@@ -1,6 +1,6 @@
 // The two words of a road: where they stand, and what they say, in a narrow sheet and in a wide one.
-ghost use Rattle.std.specs.Prelude.{◌≡◌, ◌<◌, ◌^◌, length};
-ghost use Rattle.words.specs.Word.{payload_of};
+ghost use Rattle.std.specs.Prelude.{◌≡◌, ◌<◌, ◌^◌, cond, length};
+ghost use Rattle.words.specs.Word.{bits, payload_of};
 ghost use Rattle.words.specs.Bytes.{words_of};
 ghost use Rattle.checks.specs.Checked.{word_at};
 ghost use Rattle.roads.specs.Roads.{road_at, first_place, second_place, spare_bits, runs_forth, runs_back, bits_fit, way_forth, way_back, place_pair};
@@ -42,29 +42,20 @@ impl Road {
     pub fn first(self) -> usize
         ensures { result ≡ first_place self.wide self.word }
     {
-        if self.wide {
-            return words::bits::<12, 12>(self.word) as usize;
-        }
-        words::bits::<8, 8>(self.word) as usize
+        self.field::<12, 12, 8, 8>() as usize
     }
 
     pub fn second(self) -> usize
         ensures { result ≡ second_place self.wide self.word }
     {
-        if self.wide {
-            return words::bits::<0, 12>(self.word) as usize;
-        }
-        words::bits::<0, 8>(self.word) as usize
+        self.field::<0, 12, 0, 8>() as usize
     }
 
     // Both places as one number.
     pub(crate) fn pair(self) -> usize
         ensures { result ≡ place_pair self.wide self.word }
     {
-        if self.wide {
-            return words::bits::<0, 24>(self.word) as usize;
-        }
-        words::bits::<0, 16>(self.word) as usize
+        self.field::<0, 24, 0, 16>() as usize
     }
 
     pub fn forth(self) -> Way
@@ -93,15 +84,26 @@ impl Road {
         (self.spare_bits() == 0) & (self.runs_forth() | self.runs_back())
     }
 
+    // The bits of a field: where a wide sheet has it, or where a narrow one does.
+    fn field<const WIDE_LOW: u32, const WIDE_COUNT: u32, const LOW: u32, const COUNT: u32>(
+        self,
+    ) -> u32
+        requires { WIDE_LOW < 32 × WIDE_COUNT < 32 × LOW < 32 × COUNT < 32 }
+        ensures { result ≡ cond self.wide (bits WIDE_LOW WIDE_COUNT self.word) (bits LOW COUNT self.word) }
+    {
+        if self.wide {
+            return words::bits::<WIDE_LOW, WIDE_COUNT>(self.word);
+        }
+        words::bits::<LOW, COUNT>(self.word)
+    }
+
     fn spare_bits(self) -> u32
         ensures { result ≡ spare_bits self.wide self.word }
     {
-        if self.wide {
-            return words::bits::<24, 2>(self.word);
-        }
-        words::bits::<16, 10>(self.word)
+        self.field::<24, 2, 16, 10>()
     }
 
+    // The test of each way is one line, so one function for both bits would only be a third.
     fn runs_forth(self) -> bool
         ensures { result ≡ runs_forth self.word }
     {
