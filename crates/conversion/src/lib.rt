@@ -23,17 +23,16 @@ fn most_places(wide: bool) -> usize
     if wide { MOST_PLACES } else { MOST_NARROW }
 }
 
-// The first word of a road of one layout in another: what stands above the places, bits 31..26, stays.
+// The first word of a road of one layout in another: what stands above the places, bits 31..26, stays. The parts are added, and not put together by `|`, which makes
+// another word where the second place of a wide road has more than the eight bits of a narrow one.
 fn lay_out(road: Road, to: bool) -> u32
     ensures { result ≡ laid_out road.wide to road.word }
 {
-    let above = road.word / 67108864 * 67108864;
+    let above = (road.word >> 26) << 26;
     let first = road.first() as u32;
     let second = road.second() as u32;
-    if to {
-        return above + first * 4096 + second;
-    }
-    above + first * 256 + second
+    let place_bits = if to { 12 } else { 8 };
+    above + (first << place_bits) + second
 }
 
 // Writes the two words of each road behind the words of the head.
