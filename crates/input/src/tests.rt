@@ -18,9 +18,7 @@ impl Read for Pieces {
         }
         self.calls = self.calls.map(|n| n.saturating_sub(1));
         let n = self.bytes.len().min(buf.len()).min(2);
-        for i in 0..n {
-            buf[i] = self.bytes[i];
-        }
+        buf[..n].copy_from_slice(&self.bytes[..n]);
         self.bytes = &self.bytes[n..];
         Ok(n)
     }
