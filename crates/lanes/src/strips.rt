@@ -6,13 +6,13 @@ ghost use Rattle.lanes.specs.Strips.{Held, StripsApart};
 use crate::ends::End;
 use crate::{LANES, Strip};
 
-// The lesser of two strips, lane by lane, or the greater. By index, as three strips go side by side.
+// The lesser of two strips, lane by lane, or the greater.
 pub fn of_two<E: End>(a: &Strip, b: &Strip) -> Strip
     ensures { Held lanes (λ lane. E.op (get_or a.now lane 0) (get_or b.now lane 0)) result }
 {
     let mut strip: Strip = [0; LANES];
-    for lane in 0..LANES {
-        strip[lane] = E::of(a[lane], b[lane]);
+    for (lane, x) in strip.iter_mut().enumerate() {
+        *x = E::of(a[lane], b[lane]);
     }
     strip
 }
