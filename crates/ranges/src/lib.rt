@@ -20,15 +20,15 @@ pub struct Range {
     pub dual: bool,
 }
 
-// All places within range of one centre. By number: the table of distances is asked for each place, and a strip is read only where it says so.
+// All places within range of one centre. The table of distances is asked by a place's number.
 fn gather<E: End>(rows: &[Place], distances: Distances, centre: usize, bounds: Bounds) -> Strip
     requires { (centre < distances.places) × Room distances.places rows.now }
     ensures { CentreGatheredIn E.over rows.now distances.entry bounds centre result }
 {
     let mut strip: Strip = [E::none(); LANES];
-    for place in 0..distances.places {
+    for (place, at) in rows[..distances.places].iter().enumerate() {
         if in_range(distances, centre, place, bounds) {
-            strip = of_two::<E>(&strip, &rows[place].left);
+            strip = of_two::<E>(&strip, &at.left);
         }
     }
     strip
