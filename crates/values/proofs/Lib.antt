@@ -8,3 +8,4 @@ pub mod ChainTable
 pub mod ChainWords
 pub mod ChainSurround
 pub mod ChainIslands
+pub mod Folds

@@ -7,21 +7,15 @@ use native.Mathlib.Nat.{le_refl, le_trans, le_antisymm}
 use native.Mathlib.Decide.{le_ind}
 use native.Mathlib.Numerals.{add-one}
 use native.Mathlib.Omega.{arith}
-use mathlib.Core.List.{List, [], ◌∷◌, ◌++◌, map}
+use mathlib.Core.List.{map}
 use lib.Dec.{leb, leb→le}
-use denote.Param.Members.{Mut}
-use Rattle.std.specs.declared.option.Option.{Option}
-use Rattle.std.specs.Iterator.{FoldsItems, ActsAsOnTwo}
 use Rattle.std.specs.List.{fold, range_with_len}
-use Rattle.std.proofs.lemmas.Fn.{fold_same}
-use Rattle.std.proofs.lemmas.List.Sums.{fold-append}
-use Rattle.std.proofs.lemmas.Iterator.{YieldsList}
-use Rattle.std.proofs.lemmas.Iterator.Adapters.{total_from_yields_List}
 use Rattle.logic.specs.Lattice.{least_over, greatest_over}
 use Rattle.logic.proofs.TotalOrder.{meet_by, join_by}
 use Rattle.logic.proofs.SoFar.{greatest_none, greatest_more}
 use Rattle.values.specs.Chain.{chain_lattice, highest}
 use Rattle.values.proofs.Naturals.{leb_trans, leb_total, join_max}
+pub use Rattle.values.proofs.Folds.{total_of}
 
 -- ---- a loop that counts from `first` up to and without `end`: where it is
 pub record Counted (first end u : ℕ) : Type 0 where
@@ -36,17 +30,6 @@ one_counted counted h = record { from = omega (arith, counted.from); to = omega 
 
 pub all_counted : {first end u : ℕ} → Counted first end u → end ≤ u → u ≡ end
 all_counted counted h = le_antisymm counted.to h
-
--- ---- what an iterator's fold comes to, where each call gives h of the total and the item
-pub total_of : {S A C F : Type 0} {steps : S → Option A → S → Type 0} {g : Mut F (C × (A × Unit {0})) C} {s : S} {f : F} {first last : C} {all : List A} → FoldsItems steps g s f first last
-    → (h : C → A → C) → ActsAsOnTwo g f h → YieldsList steps (λ x. x) s all → last ≡ fold h first all
-total_of {g = g} {f = f} {first} {last} ran h acts listed = total_from_yields_List h first last (
-  ran.0,
-  λ _. ran.2,
-  fold_same g (λ xs b. b ≡ fold h first xs) f
-      (λ xs a x b later e call. let (same, made) = acts a x b later call in (made ∙ ap (λ m. h m x) e ∙ sym (fold-append h first xs (x ∷ [])), same)) ran.0 first last ran.1 refl ran.3,
-)
-    listed
 
 -- ---- the lesser and the greater of two
 pub meet_under : (a b : ℕ) → (chain_lattice.meet a b ≤ a) × (chain_lattice.meet a b ≤ b)
