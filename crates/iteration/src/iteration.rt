@@ -11,7 +11,7 @@ use checks::head::is_wide;
 use lanes::Place;
 use lanes::ends::{Greatest, Least};
 use lanes::strips::{differs, of_two};
-use roads::road::{Network, Road, Way, road_at};
+use roads::road::{Road, SheetRoads, Way, road_at};
 
 // So many chain numbers share a margin: one says no, one says yes.
 const MARGIN: u32 = 2;
@@ -46,18 +46,18 @@ fn pull(rows: &mut [Place], inside: &[bool], way: Way)
     }
 }
 
-// Both ways of each road. The sheet and its network stay two parameters, here and in `round`: `settle`, whose promise is given (docs/PROMISES.md), takes them so.
+// Both ways of each road.
 #[tactic(auto, using(crate::proofs::Rules::step_laws))]
-fn step(rows: &mut [Place], inside: &[bool], sheet: &[u8], network: Network)
-    requires { RoadsIn (words_of sheet.now) network.roads (length inside.now) × LowOutside inside.now rows.old }
-    ensures stepped { SteppedIn rows.old sheet.now network rows.new }
+fn step(rows: &mut [Place], inside: &[bool], network: SheetRoads)
+    requires { RoadsIn (words_of network.sheet.now) network.roads (length inside.now) × LowOutside inside.now rows.old }
+    ensures stepped { SteppedIn rows.old network.entry rows.new }
     ensures kept { KeptBut x_row rows.old rows.new }
     ensures past { KeptPast (length inside.now) rows.old rows.new }
 {
-    let wide = is_wide(sheet);
+    let wide = is_wide(network.sheet);
     for r in 0..network.roads {
         let road = Road {
-            word: words::word_at(sheet, road_at(wide, r)),
+            word: words::word_at(network.sheet, road_at(wide, r)),
             wide,
         };
         pull(rows, inside, road.forth());
@@ -66,14 +66,14 @@ fn step(rows: &mut [Place], inside: &[bool], sheet: &[u8], network: Network)
 }
 
 #[tactic(auto, using(crate::proofs::Least::round_joined, crate::proofs::Least::round_made, crate::proofs::Least::round_worked))]
-fn round(rows: &mut [Place], inside: &[bool], sheet: &[u8], network: Network)
-    requires { RoundReadyIn rows.old inside.now sheet.now network }
+fn round(rows: &mut [Place], inside: &[bool], network: SheetRoads)
+    requires { RoundReadyIn rows.old inside.now network }
     ensures joined { JoinedIn rows.old inside.now rows.new }
-    ensures stepped { RoundIn rows.old inside.now sheet.now network rows.new }
+    ensures stepped { RoundIn rows.old inside.now network.entry rows.new }
     ensures worked { Worked stepped_part inside.now rows.old rows.new }
 {
     join(rows, inside);
-    step(rows, inside, sheet, network);
+    step(rows, inside, network);
 }
 
 // Whether a number inside the ball is another, with so many chain numbers as `unit` says taken as one. Outside nothing changes.
@@ -88,15 +88,15 @@ fn changed(rows: &[Place], inside: &[bool], unit: u32) -> bool
 // move after these. At rest the former numbers are those that the places have, and what is handed over is made of them. A loop that breaks with its
 // count, as the definition counts.
 #[tactic(auto, using(crate::proofs::Rules::settle_laws))]
-pub fn settle(rows: &mut [Place], inside: &[bool], sheet: &[u8], network: Network) -> u64
-    requires { Start (words_of sheet.now) network.roads inside.now rows.old }
-    ensures settled { SettledIn rows.old inside.now sheet.now network rows.new result }
+pub fn settle(rows: &mut [Place], inside: &[bool], network: SheetRoads) -> u64
+    requires { Start (words_of network.sheet.now) network.roads inside.now rows.old }
+    ensures settled { SettledIn rows.old inside.now network.entry rows.new result }
     ensures worked { Worked stepped_part inside.now rows.old rows.new }
     ensures joined { JoinedIn rows.new inside.now rows.new }
 {
     let mut rounds: u64 = 1;
     loop {
-        round(rows, inside, sheet, network);
+        round(rows, inside, network);
         if changed(rows, inside, MARGIN) {
             rounds += 1;
         } else if !changed(rows, inside, 1) {

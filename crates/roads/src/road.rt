@@ -7,11 +7,10 @@ ghost use Rattle.roads.specs.Roads.{road_at, first_place, second_place, spare_bi
 
 use checks::head::head_words;
 
-// How many places a sheet has, and how many roads among them. Nothing reads `places`, but iteration's `settle`, which takes a network, may ask no other
-// parameters (docs/PROMISES.md).
+// The roads of a sheet: its bytes, and how many roads there are.
 #[derive(Clone, Copy)]
-pub struct Network {
-    pub places: usize,
+pub struct SheetRoads<'a> {
+    pub sheet: &'a [u8],
     pub roads: usize,
 }
 

@@ -17,7 +17,7 @@ use lanes::ends::Greatest;
 use lanes::rows::{Block, load};
 use lanes::strips::of_two;
 use lanes::{LANES, Place, Row};
-use roads::road::Network;
+use roads::road::SheetRoads;
 
 // What is asked about every centre, and whether islands count. The operands are the indices at which their signals begin.
 #[derive(Clone, Copy)]
@@ -71,11 +71,11 @@ fn run_centre(
     let bounds = run.bounds;
     mask_centre(rows, network.distances, bounds, centre, inside);
     leave_out(rows, run);
-    let roads = Network {
-        places: network.distances.places,
+    let roads = SheetRoads {
+        sheet: network.sheet,
         roads: network.roads,
     };
-    let rounds = settle(rows, inside, network.sheet, roads);
+    let rounds = settle(rows, inside, roads);
     raise(rows, centre);
     rounds
 }

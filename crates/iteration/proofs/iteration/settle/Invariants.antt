@@ -8,7 +8,7 @@ use Rattle.iteration.proofs.iteration.settle.Given as goal
 
 abbrev pub invariant-loop-rounds : goal.invariant-loop-rounds
 invariant-loop-rounds l = Worked stepped_part l.inside l.initial.rows l.rows
-    × Going (words_of l.sheet) l.network.roads (length l.inside) (row_in l.initial.rows ring_row) (row_in l.initial.rows x_row) (row_in l.rows x_row) l.rounds
+    × Going (words_of l.network.sheet.now) l.network.roads (length l.inside) (row_in l.initial.rows ring_row) (row_in l.initial.rows x_row) (row_in l.rows x_row) l.rounds
 
 abbrev pub decreases-loop-rounds : goal.decreases-loop-rounds
 decreases-loop-rounds l = total (row_in l.rows x_row) (length l.inside)

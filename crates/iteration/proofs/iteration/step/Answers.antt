@@ -14,7 +14,7 @@ pub loop-r-preserved : goal.loop-r-preserved
 loop-r-preserved c =
     let h = c.loop-r.invariant in
     let kept = kept_trans h.1 c.pull.ensures.kept in
-    let here : c.road_at.result ≡ road_at (is_wide (words_of c.args.sheet.now)) c.loop-r.r = c.road_at.ensures ∙ ap (λ wide. road_at wide c.loop-r.r) c.is_wide-wide.ensures in (
+    let here : c.road_at.result ≡ road_at (is_wide (words_of c.args.network.sheet.now)) c.loop-r.r = c.road_at.ensures ∙ ap (λ wide. road_at wide c.loop-r.r) c.is_wide-wide.ensures in (
       search rules,
       kept_trans kept c.pull-in-loop-r.ensures.kept,
       kept_past_trans (kept_past_trans h.2 c.pull.ensures.past) c.pull-in-loop-r.ensures.past,
