@@ -51,7 +51,7 @@ fn first_part(count: usize, room: usize) -> Part
 }
 
 // What holds before correction k (`NextIn`) stays a clause of four functions: links are written from turn to turn, and of a type that borrows them to be written
-// nothing would be known once it is gone.
+// nothing would be known once it is gone. So list, links, part and k stay parameters.
 
 // Whether two corrections have the same sample and revision: their first two words are then the same.
 #[tactic(auto, using(crate::proofs::OneSample::same_words))]

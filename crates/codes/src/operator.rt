@@ -79,7 +79,7 @@ pub enum Operator {
     },
 }
 
-// The fields of a line word.
+// The fields of a line word. Made by a function and no `From`: not every word is a line word.
 #[derive(Clone, Copy)]
 struct Fields {
     pub code: u32,
@@ -147,7 +147,7 @@ fn direction_of(code: u32) -> Direction
     }
 }
 
-// The table of codes, by the number that a line has. A parameter that a code does not have counts for nothing, so any may be handed over for it; a code
+// The table of codes, by the number that a line has: here, in `direction_of` and in `decode_operator` numbers become operators, and nowhere else. A parameter that a code does not have counts for nothing, so any may be handed over for it; a code
 // above the last says nothing: it is true, as code 0.
 #[tactic(auto, unfolding(crate::specs::Codes::codes))]
 fn operator_of(fields: Fields, constant: i32, bounds: Bounds) -> Operator
@@ -189,7 +189,7 @@ fn operator_of(fields: Fields, constant: i32, bounds: Bounds) -> Operator
     }
 }
 
-// Whether each field is below its limit. An unused field has the limit 1: it is zero.
+// Whether each field is below its limit. An unused field has the limit 1: it is zero. The limits differ from code to code, and stay parameters.
 fn fields_below(fields: Fields, lefts: usize, rights: usize) -> bool
     ensures { result ≡ ltb fields.left lefts && ltb fields.right rights }
 {

@@ -19,7 +19,7 @@ pub fn correction_count(list: &[u8]) -> usize
 }
 
 // The first word: a revision, a signal and a time of the sheet. Here a correction is known to be within the range of numbers alone, as its words may be absent;
-// of those that are there `Corrections` tells.
+// of those that are there `Corrections` tells. Until a list has passed its words, a number and the grid stay parameters.
 fn names_sample(list: &[u8], k: usize, grid: Grid) -> bool
     requires { k * 3 + 2 < 2 ^ 64 }
     ensures { result ≡ sample_named (words_of list.now) grid k }

@@ -18,7 +18,7 @@ pub mod table;
 use checks::head::is_wide;
 use roads::road::{Road, Way, road_at, weight};
 
-// Where no path is.
+// Where no path is: a number, as the lent table holds numbers and its layout is promised (`fill_distances`). Read from it, it is no distance (`between`).
 pub const NONE: u64 = u64::MAX;
 
 // Every distance none: a number all of whose bytes are 255 is the largest.

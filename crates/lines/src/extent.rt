@@ -65,7 +65,7 @@ impl Extent {
     }
 }
 
-// The extent of an operand.
+// The extent of an operand; without a sample where there is no such line, as the definition has it.
 fn operand(earlier: &[Extent], i: usize) -> Extent
     ensures { extent_said result ≡ extent_in earlier.now i }
 {

@@ -14,7 +14,8 @@ pub struct Earlier<'a> {
 }
 
 impl Earlier<'_> {
-    // The index from which a line is read from a sample of the recording on; the signal of a line that is not there begins at 0.
+    // The index from which a line is read from a sample of the recording on; the signal of a line that is not there begins at 0, as the
+    // definition has it.
     pub(crate) fn read_from(self, line: usize, sample: u32) -> usize
         ensures { result ≡ start_at self.entry.starts.now self.entry.extents.now self.entry.places sample line }
     {

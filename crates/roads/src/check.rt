@@ -9,7 +9,7 @@ use checks::fault::{Fault, Refusal};
 use checks::head::{head_words, is_wide};
 use checks::kind::Kind;
 
-// One road, after a road of the pair `last`: its own pair.
+// One road, after a road of the pair `last`: its own pair. That its first word is there stays a clause, as the second may be absent.
 #[tactic(auto, using(words::proofs::Words::words_count), unfolding(crate::specs::Roads::road_checked))]
 fn check_road(s: &[u8], at: usize, places: usize, last: usize) -> Result<usize, Refusal>
     requires { at < length (words_of s.now) }

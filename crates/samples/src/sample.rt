@@ -6,7 +6,8 @@ ghost use Rattle.counting.specs.Totals.{count, sum_below};
 ghost use Rattle.values.specs.Chain.{chain_word, chain_verdict};
 ghost use Rattle.samples.specs.Sample.{entry, SampleThere, ValuesThere};
 
-// Writes a word for each place from index `to` of a line's words on, and counts the yes verdicts. Place l has its value at index l * stride + offset.
+// Writes a word for each place from index `to` of a line's words on, and counts the yes verdicts. Place l has its value at index l * stride + offset:
+// every stride and offset is promised (docs/PROMISES.md), though the engine has its values side by side.
 pub fn write_sample(
     values: &[u32],
     stride: usize,

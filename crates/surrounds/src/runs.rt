@@ -13,7 +13,7 @@ use distances::table::Distances;
 use lanes::rows::in_range;
 use lanes::{LANES, Place};
 
-// A run about every centre that has it.
+// A run about every centre that has it. Whether islands count is a flag, as in the definitions.
 #[derive(Clone, Copy)]
 pub struct Run {
     pub bounds: Bounds,

@@ -84,7 +84,8 @@ pub fn difference(x: i32, c: i32) -> u32
     chain(0 <= z, Margin::finite(z))
 }
 
-// Not.
+// Not. That a number is one of the order stays a clause (`c ≤ highest`), here, where numbers are turned and where they are written: of a type every write of a row would
+// prove it, and no reader would see less.
 #[tactic(auto, using(crate::proofs::Codes::code_opposite, crate::proofs::Codes::code_at, crate::proofs::Machine::byte_count))]
 pub fn opposite(c: u32) -> u32
     requires { c ≤ highest }
@@ -117,7 +118,7 @@ pub enum VerdictKind {
 }
 
 impl VerdictKind {
-    // Of a word, if it says a verdict: from the number that its kind is.
+    // Of a word, if it says a verdict: from the number that its kind is. An Option, and no `TryFrom`, as the definition has it.
     #[tactic(auto, unfolding(crate::specs::Kinds::verdict_kind))]
     pub fn of(w: u32) -> Option<VerdictKind>
         ensures { result ≡ verdict_kind (kind_of w) }
@@ -155,7 +156,8 @@ pub fn word_of(c: u32) -> u32
     }
 }
 
-// The number of a word, in the same manner.
+// The number of a word, in the same manner: by the number of its kind, since a `match` on the kind would be a branch. Here and above the sum loses what is over 28 bits: two's
+// complement, and no field of a word.
 #[tactic(auto, using(crate::proofs::Machine::byte_count), unfolding(crate::specs::Chain::word_chain))]
 pub fn of_word(w: u32) -> u32
     ensures { result ≡ word_chain w }

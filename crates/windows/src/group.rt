@@ -1,5 +1,5 @@
 // Places side by side whose windows are read together: loops over the places of a group, which the compiler turns into a few instructions. They go
-// by the number of the lane, which is that of the place too.
+// by the number of the lane, which is that of the place too. What is kept at each place stands in two arrays, since the pass over the least reads it alone.
 ghost use Rattle.std.specs.Prelude.{◌≡◌, ◌+◌, ◌-◌, ◌≤◌, ◌<◌, min, length, get_or};
 ghost use Rattle.operators.specs.Rows.{RowLeft};
 ghost use Rattle.windows.specs.Groups.{group_size, lowered_of, raised_of, LowerReady, RaiseReady, Known, PartLeft};
