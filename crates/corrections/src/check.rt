@@ -18,7 +18,7 @@ pub fn correction_count(list: &[u8]) -> usize
     words::word_count(list).div_ceil(3)
 }
 
-// The first word: a revision, a signal and a time of the sheet. Here a correction is known to be within the range of numbers alone, as its words may be absent;
+// The first word: a revision, a signal and a time of the sheet. Of k it is known here only that the indices of its words fit, as the words may be absent;
 // of those that are there `Corrections` tells. Until a list has passed its words, a number and the grid stay parameters.
 fn names_sample(list: &[u8], k: usize, grid: Grid) -> bool
     requires { k * 3 + 2 < 2 ^ 64 }

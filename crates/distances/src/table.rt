@@ -14,7 +14,7 @@ pub struct Distances<'a> {
 }
 
 impl<'a> Distances<'a> {
-    // From a place to another, if a path is.
+    // The distance from a place to another, none where no path is.
     #[tactic(auto, using(crate::proofs::Rooms::distance_there))]
     pub fn between(self, from: usize, to: usize) -> Option<u64>
         requires { (from < self.places) × (to < self.places) }

@@ -20,7 +20,7 @@ use std::{fmt, io};
 // What is read at most.
 const READ_BYTES: usize = 65536;
 
-// A distance, if a path is, as it is printed.
+// A distance, or that no path is, as it is printed.
 #[derive(Clone, Copy)]
 struct Distance(Option<u64>);
 

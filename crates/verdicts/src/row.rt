@@ -13,7 +13,7 @@ use samples::tally::Tally;
 use sheet::check::Layout;
 
 // A line that goes sample by sample: its operator, and what its verdicts are made from: the sheet, and the words before its own. A `SpaceLine`
-// has these three fields too: as one value within both they would be no plainer, a field further off in some sixty places, a public contract among them.
+// has these three fields too: as one value within both they would be no plainer, a field further off in some seventy places, a public contract among them.
 #[derive(Clone, Copy)]
 pub struct RowLine<'a> {
     pub operator: RowOperator,

@@ -29,7 +29,7 @@ pub fn word(kind: u32, payload: u32) -> u32
     (kind << 28) | payload
 }
 
-// The lowest bits of a word, so many, as a number in two's complement.
+// The lowest WIDTH bits of a word as a number in two's complement.
 #[tactic(auto, using(crate::proofs::TwosComplement::pulled_back))]
 pub fn signed<const WIDTH: u32>(w: u32) -> i32
     requires { 0 < WIDTH × WIDTH ≤ 32 }
