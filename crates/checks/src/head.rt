@@ -15,7 +15,8 @@ pub fn is_wide(s: &[u8]) -> bool
     Kind::Wide.is_at(s, 0)
 }
 
-// So many words there are before the roads of a sheet and before the lines of an answer. Wide or narrow is a flag, here and wherever it is told, as in the definitions.
+// So many words there are before the roads of a sheet and before the lines of an answer. Wide or narrow is a flag, here and wherever it is told, as in the
+// definitions.
 pub fn head_words(wide: bool) -> usize
     ensures { result ≡ head_words wide }
 {

@@ -1,6 +1,6 @@
-// Two corrections of one sample with equal revision and unlike values: 20. The list is gone through in parts. Chains through lent words lead from a correction to
-// earlier ones of the part, the first of its sample and revision among them and few others. It is compared with that one alone: those between agree with it, or they would have
-// been found. Where there is no room for chains, all of the list is one part and every earlier one is looked at.
+// Two corrections of one sample with equal revision and unlike values: 20. The list is gone through in parts. Chains through lent words lead from a
+// correction to earlier ones of the part, the first of its sample and revision among them and few others. It is compared with that one alone: those between
+// agree with it, or they would have been found. Where there is no room for chains, all of the list is one part and every earlier one is looked at.
 #![tactic(auto)]
 
 ghost use Rattle.std.specs.Prelude.{◌≡◌, ◌+◌, ◌<◌, length, replicate};
@@ -22,7 +22,8 @@ const FEWEST_LINKED: usize = 32;
 // How far the chains of one revision and of the next lie apart.
 const SPREAD: usize = 65537;
 
-// The corrections that are chained at a time, so many from one on, and in how many chains. 0 stands for none: an option would be matched wherever they are counted.
+// The corrections that are chained at a time, so many from one on, and in how many chains. 0 stands for none: an option would be matched wherever they are
+// counted.
 #[derive(Clone, Copy)]
 struct Part {
     pub from: usize,
@@ -50,8 +51,8 @@ fn first_part(count: usize, room: usize) -> Part
     }
 }
 
-// What holds before correction k (`NextIn`) stays a clause of four functions: links are written from turn to turn, and of a type that borrows them to be written
-// nothing would be known once it is gone. So list, links, part and k stay parameters.
+// What holds before correction k (`NextIn`) stays a clause of four functions: links are written from turn to turn, and of a type that borrows them to be
+// written nothing would be known once it is gone. So list, links, part and k stay parameters.
 
 // Whether two corrections have the same sample and revision: their first two words are then the same.
 #[tactic(auto, using(crate::proofs::OneSample::same_words))]
@@ -119,7 +120,8 @@ fn find_same(list: &Corrections, links: &[u8], part: Part, k: usize) -> Option<u
     None
 }
 
-// Puts a correction at the front of its chain, if it is one of the part. Heads and links stay one slice, which callers pass on: as two they would be two parameters of each.
+// Puts a correction at the front of its chain, if it is one of the part. Heads and links stay one slice, which callers pass on: as two they would be two
+// parameters of each.
 #[tactic(auto, using(words::proofs::Words::words_count, crate::proofs::Chaining::chain_inside, crate::proofs::Chaining::without_heads, crate::proofs::Chaining::comes_in, crate::proofs::Chaining::stays_out))]
 fn enter(list: &Corrections, links: &mut [u8], part: Part, k: usize)
     requires { NextIn list.now part links.old k × AloneIn list.now part k }
@@ -154,8 +156,8 @@ fn compare(list: &Corrections, links: &mut [u8], part: Part, k: usize) -> bool
     }
 }
 
-// One after the other, those of the part and those behind it, from no chains on: the first that disagrees with one before it, up to the end of the part; where none does,
-// the end, which bounds the next part.
+// One after the other, those of the part and those behind it, from no chains on: the first that disagrees with one before it, up to the end of the part;
+// where none does, the end, which bounds the next part.
 #[tactic(auto, using(crate::proofs::Searching::searched_before, crate::proofs::Searching::found_here, crate::proofs::Searching::searched_on, crate::proofs::Searching::nothing_found))]
 fn look_through(list: &Corrections, part: Part, end: usize, links: &mut [u8]) -> usize
     requires { PartNextIn list.now part links.old end }

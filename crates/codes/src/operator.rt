@@ -147,8 +147,8 @@ fn direction_of(code: u32) -> Direction
     }
 }
 
-// The table of codes, by the number that a line has: here, in `direction_of` and in `decode_operator` numbers become operators, and nowhere else. A parameter that a code does not have counts for nothing, so any may be handed over for it; a code
-// above the last says nothing: it is true, as code 0.
+// The table of codes, by the number that a line has: here, in `direction_of` and in `decode_operator` numbers become operators, and nowhere else. A parameter
+// that a code does not have counts for nothing, so any may be handed over for it; a code above the last says nothing: it is true, as code 0.
 #[tactic(auto, unfolding(crate::specs::Codes::codes))]
 fn operator_of(fields: Fields, constant: i32, bounds: Bounds) -> Operator
     ensures { operator_said result ≡ operator_of fields constant bounds.lower bounds.upper }

@@ -23,8 +23,8 @@ fn most_places(wide: bool) -> usize
     if wide { MOST_PLACES } else { MOST_NARROW }
 }
 
-// The first word of a road of one layout in another: what stands above the places, bits 31..26, stays. The parts are added, and not put together by `|`, which makes
-// another word where the second place of a wide road has more than the eight bits of a narrow one.
+// The first word of a road of one layout in another: what stands above the places, bits 31..26, stays. The parts are added, and not put together by `|`,
+// which makes another word where the second place of a wide road has more than the eight bits of a narrow one.
 fn lay_out(road: Road, to: bool) -> u32
     ensures { result ≡ laid_out road.wide to road.word }
 {
@@ -96,7 +96,8 @@ fn make(sheet: &[u8], to: bool, output: &mut [u8]) -> Result<usize, Refusal>
     Ok(count)
 }
 
-// Converts a sheet to the layout that is asked for, and tells how many words it has then. Wide or not is a flag, as in the definitions and in the calls of hosts.
+// Converts a sheet to the layout that is asked for, and tells how many words it has then. Wide or not is a flag, as in the definitions and in the calls of
+// hosts.
 #[tactic(auto, using(tool::proofs::Leaving::same_tail))]
 pub fn convert(sheet: &[u8], to: bool, output: &mut [u8]) -> Result<usize, Refusal>
     ensures told { told_by result ≡ (converted_in to sheet.now output.old).told }

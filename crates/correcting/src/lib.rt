@@ -65,8 +65,8 @@ fn settle(list: &Corrections, k: usize, output: &mut [u8])
     words::put_word(output, at, settled);
 }
 
-// Puts the highest revision among its corrections in place of each corrected sample. That the targets lie in the words (`TargetsIn`) stays a clause: it is asked of
-// the sheet and of the output, which is written.
+// Puts the highest revision among its corrections in place of each corrected sample. That the targets lie in the words (`TargetsIn`) stays a clause: it is
+// asked of the sheet and of the output, which is written.
 #[tactic(auto, using(crate::proofs::Raising::raised_none, crate::proofs::Raising::raised_more, tool::proofs::Leaving::same_words))]
 fn raise_all(list: &Corrections, output: &mut [u8])
     requires { TargetsIn list.now output.old × NoRevisionsIn list.now output.old }

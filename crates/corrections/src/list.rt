@@ -6,8 +6,8 @@ ghost use Rattle.corrections.specs.Aimed.{GridFits, AllAimed};
 
 use crate::correction::{Grid, revision_at, target_at, value_at};
 
-// The first so many corrections in the words: there may be more behind them, so the count stands beside. That a correction is one of them stays a clause: of its number as a
-// type it would have to be told of which list.
+// The first so many corrections in the words: there may be more behind them, so the count stands beside. That a correction is one of them stays a clause: of
+// its number as a type it would have to be told of which list.
 #[derive(Clone, Copy)]
 pub struct Corrections<'a> {
     pub words: &'a [u8],

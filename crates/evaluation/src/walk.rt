@@ -20,8 +20,8 @@ pub struct Written {
     pub tally: Tally,
 }
 
-// A word more for each line than verdicts, the head and the end. Each line tells where the next begins, so the index is carried. A walk of its own, beside that of `write_lines`:
-// one for both would take what is done with a line as a closure, here one that counts and there one that writes, and be no plainer.
+// A word more for each line than verdicts, the head and the end. Each line tells where the next begins, so the index is carried. A walk of its own, beside
+// that of `write_lines`: one for both would take what is done with a line as a closure, here one that counts and there one that writes, and be no plainer.
 #[tactic(auto, using(checks::proofs::Heads::few_head_words))]
 pub fn words_needed(accepted: Accepted) -> usize
     ensures { result ≡ needed_in accepted.entry.sheet.now accepted.entry.distances.now }

@@ -16,8 +16,8 @@ use roads::road::{Road, SheetRoads, Way, road_at};
 // So many chain numbers share a margin: one says no, one says yes.
 const MARGIN: u32 = 2;
 
-// Keeps the former numbers, and makes of them what each place hands to its neighbours: a pull must not read a place that has stepped already. That places outside the
-// ball are lowest (`LowOutside`) stays a clause, here and below: it is a fact of the flags and of places that are written.
+// Keeps the former numbers, and makes of them what each place hands to its neighbours: a pull must not read a place that has stepped already. That places
+// outside the ball are lowest (`LowOutside`) stays a clause, here and below: it is a fact of the flags and of places that are written.
 fn join(rows: &mut [Place], inside: &[bool])
     requires { LowOutside inside.now rows.old }
     ensures joined { JoinedIn rows.old inside.now rows.new }

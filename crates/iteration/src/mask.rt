@@ -1,5 +1,5 @@
-// What is worked on about a centre: the left operand masked by the ball, and the right one by both bounds. Outside the ball the strips to work in are lowest: what an
-// earlier ball left there is cleared where a place leaves the ball, and nowhere else.
+// What is worked on about a centre: the left operand masked by the ball, and the right one by both bounds. Outside the ball the strips to work in are lowest:
+// what an earlier ball left there is cleared where a place leaves the ball, and nowhere else.
 ghost use Rattle.std.specs.Prelude.{◌<◌};
 ghost use Rattle.lanes.specs.Rows.{Room};
 ghost use Rattle.iteration.specs.WorkRows.{LowOutside, PlaceCleared, Cleared};
@@ -68,8 +68,8 @@ fn mask_next(
     }
 }
 
-// Flags the ball about a centre, and masks the left operand by it and the right one by both bounds. By number: the distances are asked for it, and of two slices
-// that are written side by side, through a `zip` of two `iter_mut`, a proof knows no more than the length afterwards.
+// Flags the ball about a centre, and masks the left operand by it and the right one by both bounds. By number: the distances are asked for it, and of two
+// slices that are written side by side, through a `zip` of two `iter_mut`, a proof knows no more than the length afterwards.
 #[tactic(auto, using(crate::proofs::Masks::centre_none))]
 pub fn mask_centre(
     rows: &mut [Place],

@@ -59,8 +59,8 @@ pub fn load(words: &[u8], start: usize, places: usize, block: Block, row: Row, r
     }
 }
 
-// Whether a place lies within bounds of a centre. Distances, centre and bounds stay three parameters, here and in what asks of a centre: of the same distances and bounds every
-// place is the centre once.
+// Whether a place lies within bounds of a centre. Distances, centre and bounds stay three parameters, here and in what asks of a centre: of the same
+// distances and bounds every place is the centre once.
 #[tactic(auto, unfolding(values::specs::Signals::in_table))]
 pub fn in_range(distances: Distances, centre: usize, place: usize, bounds: Bounds) -> bool
     requires { (centre < distances.places) × (place < distances.places) }

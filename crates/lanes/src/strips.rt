@@ -17,8 +17,8 @@ pub fn of_two<E: End>(a: &Strip, b: &Strip) -> Strip
     strip
 }
 
-// Whether two strips differ in one of the lanes, with so many chain numbers as `unit` says taken as one. A fold, which goes through all lanes: `any` would stop at
-// the first that differs, and the compiler could not work on them at once.
+// Whether two strips differ in one of the lanes, with so many chain numbers as `unit` says taken as one. A fold, which goes through all lanes: `any` would
+// stop at the first that differs, and the compiler could not work on them at once.
 pub fn differs(former: &Strip, strip: &Strip, unit: u32) -> bool
     requires { 1 ≤ unit }
     ensures { StripsApart result (λ c. c / unit) former.now strip.now lanes }

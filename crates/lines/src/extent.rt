@@ -7,8 +7,8 @@ ghost use Rattle.codes.specs.Decoding.{side_said, operator_said};
 
 use codes::operator::{Direction, Operator};
 
-// So many samples from the first on. That of a line that looks back may begin past the recording, without a sample, so no bound is kept with it. A default is what a vector of
-// extents has where it is not filled.
+// So many samples from the first on. That of a line that looks back may begin past the recording, without a sample, so no bound is kept with it. A default is
+// what a vector of extents has where it is not filled.
 #[derive(Clone, Copy, Default)]
 pub struct Extent {
     pub first: u32,

@@ -96,8 +96,8 @@ fn whole_verdicts(answer: &[u8], start: usize, count: usize) -> bool
     (start..start + count).all(|at| verdict_of(words::word_or_zero(answer, at)).is_some())
 }
 
-// Whether a line begins at an index, with samples that the recording has and a verdict for each sample and place. That the index is small stays a clause, here and
-// where the next line or a row is read from it: a type of small indices would be made anew at every step.
+// Whether a line begins at an index, with samples that the recording has and a verdict for each sample and place. That the index is small stays a clause,
+// here and where the next line or a row is read from it: a type of small indices would be made anew at every step.
 #[tactic(auto, using(crate::proofs::Walk::line_size), unfolding(crate::specs::Lookup::whole_line_at))]
 fn whole_line(answer: &[u8], at: usize) -> bool
     requires { at < 2 ^ 36 }

@@ -87,7 +87,8 @@ fn print_line(
     Ok(at + 1 + length * places)
 }
 
-// The rows of all lines, and last how many they are. Each line tells where the next begins, so the index is carried. The fields of 8, 12 and 16 bits keep every index small, whatever the words are.
+// The rows of all lines, and last how many they are. Each line tells where the next begins, so the index is carried. The fields of 8, 12 and 16 bits keep
+// every index small, whatever the words are.
 #[tactic(auto, using(checks::proofs::Heads::places_few))]
 fn print_lines(rt: &impl Print, answer: &[u8]) -> io::Result<()> {
     let places = checks::head::places(answer);

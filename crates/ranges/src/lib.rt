@@ -45,9 +45,9 @@ fn gather_all<E: End>(rows: &mut [Place], distances: Distances, bounds: Bounds)
     }
 }
 
-// Of a signal that stands in the words of an answer, at samples first to first + count - 1: lane `lane` of each place's `out` has, at each centre, the chain number
-// of sample first + lane about it, and from lane `count` on that of the lowest signal. Everywhere is the dual, the opposite of somewhere of the opposite,
-// and comes to the least.
+// Of a signal that stands in the words of an answer, at samples first to first + count - 1: lane `lane` of each place's `out` has, at each centre, the chain
+// number of sample first + lane about it, and from lane `count` on that of the lowest signal. Everywhere is the dual, the opposite of somewhere of the
+// opposite, and comes to the least.
 pub fn somewhere_block(
     words: &[u8],
     range: Range,

@@ -39,7 +39,8 @@ fn put_told(res: &mut [u8], made: Result<usize, Refusal>) -> u64
     numbers[0]
 }
 
-// Refuses lengths that are not whole, wherever a host lends them: zeros in an output and in a result, but for the number at the front of a result of the right size.
+// Refuses lengths that are not whole, wherever a host lends them: zeros in an output and in a result, but for the number at the front of a result of the
+// right size.
 #[tactic(auto, using(words::proofs::Numbers::length_numbers, crate::proofs::Refusing::put_in_zeros))]
 pub fn refuse_lent(output: &mut [u8], res: &mut [u8], size: usize) -> u64
     requires { 8 ≤ size }

@@ -84,8 +84,8 @@ pub fn difference(x: i32, c: i32) -> u32
     chain(0 <= z, Margin::finite(z))
 }
 
-// Not. That a number is one of the order stays a clause (`c ≤ highest`), here, where numbers are turned and where they are written: of a type every write of a row would
-// prove it, and no reader would see less.
+// Not. That a number is one of the order stays a clause (`c ≤ highest`), here, where numbers are turned and where they are written: of a type every write of
+// a row would prove it, and no reader would see less.
 #[tactic(auto, using(crate::proofs::Codes::code_opposite, crate::proofs::Codes::code_at, crate::proofs::Machine::byte_count))]
 pub fn opposite(c: u32) -> u32
     requires { c ≤ highest }
@@ -156,8 +156,8 @@ pub fn word_of(c: u32) -> u32
     }
 }
 
-// The number of a word, in the same manner: by the number of its kind, since a `match` on the kind would be a branch. Here and above the sum loses what is over 28 bits: two's
-// complement, and no field of a word.
+// The number of a word, in the same manner: by the number of its kind, since a `match` on the kind would be a branch. Here and above the sum loses what is
+// over 28 bits: two's complement, and no field of a word.
 #[tactic(auto, using(crate::proofs::Machine::byte_count), unfolding(crate::specs::Chain::word_chain))]
 pub fn of_word(w: u32) -> u32
     ensures { result ≡ word_chain w }

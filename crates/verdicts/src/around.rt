@@ -107,8 +107,8 @@ fn write_block<const N: usize>(
     Tally { rounds, yes }
 }
 
-// Writes a line a block at a time. This is not inlined: a narrow sheet takes no stack for the places of a wide one. That the places fit N and that the words have
-// room (`PlacesFit`, `OwnRoom`) stay clauses: N is chosen after the line is made, and the words are written.
+// Writes a line a block at a time. This is not inlined: a narrow sheet takes no stack for the places of a wide one. That the places fit N and that the words
+// have room (`PlacesFit`, `OwnRoom`) stay clauses: N is chosen after the line is made, and the words are written.
 #[inline(never)]
 #[tactic(auto, using(words::proofs::Words::words_count))]
 fn write_blocks<const N: usize>(line: SpaceLine, own: &mut [u8], samples: usize) -> Tally
