@@ -1,17 +1,19 @@
 -- What the walk over an answer rests on: a test of all is decided by one that fails, or by each that passes; a word says something where its
 -- number is not 0; and no line of 255 begins at an index of more than 36 bits, whatever the words are.
-use mathlib.Core.Path.{◌≡◌, refl, sym}
+use mathlib.Core.Path.{◌≡◌, refl, sym, ap, ◌∙◌}
 use mathlib.Core.Bool.{Bool, true, false}
-use mathlib.Core.List.{List}
+use mathlib.Core.List.{List, [], ◌∷◌}
 use Prim.Native.Nat.{ℕ, zero, suc, ◌+◌, ◌*◌, ◌^◌, ◌<◌, ◌≤◌}
 use native.Mathlib.Nat.{mul-le-mul}
 use native.Mathlib.Numerals.{add-one}
 use native.Mathlib.Omega.{arith}
 use lib.Dec.{T}
+use lib.ListN.{length}
+use Rattle.std.specs.List.{fold}
 use Rattle.logic.specs.Lattice.{verdict_lattice, least_over}
 use Rattle.counting.proofs.Tests.{bool_ext}
 use Rattle.logic.proofs.Quantifiers.{all_e, all_i}
-use Rattle.checks.specs.Heads.{is_wide, places_of}
+use Rattle.checks.specs.Heads.{head_words, is_wide, places_of}
 use Rattle.checks.proofs.Heads.{few_head_words, places_few}
 use Rattle.values.specs.Said.{Said, says, nothing}
 use Rattle.lookup.specs.Lookup.{is_said, verdict_number, extent_at, line_start}
@@ -43,6 +45,18 @@ module _ (a : List ℕ) where
   pub next_start : {at : ℕ} (i : ℕ) → at ≡ line_start a i → at + 1 + (extent_at a at).length * places_of a ≡ line_start a (i + 1)
   unfolding line_start
   next_start i here = rw (here, add-one i) refl
+
+  -- a fold goes from each to the next, whatever it goes over
+  abbrev pub next_of : ℕ → ℕ → ℕ
+  next_of at _ = at + 1 + (extent_at a at).length * places_of a
+
+  starts_folded : (k : ℕ) (items : List ℕ) → fold next_of (line_start a k) items ≡ line_start a (k + length items)
+  starts_folded k [] = ap (line_start a) (omega arith)
+  starts_folded k (x ∷ items) = ap (λ at. fold next_of at items) (next_start k refl) ∙ starts_folded (k + 1) items ∙ ap (line_start a) (omega arith)
+
+  pub start_told : {first : ℕ} (items : List ℕ) → first ≡ head_words (is_wide a) → fold next_of first items ≡ line_start a (length items)
+  unfolding line_start
+  start_told items e = ap (λ at. fold next_of at items) e ∙ starts_folded 0 items ∙ ap (line_start a) (omega arith)
 
   -- a length has 12 bits, and the places have at most 16
   pub line_size : {m n : ℕ} (at : ℕ) → m ≤ (extent_at a at).length → n ≤ places_of a → m * n ≤ 4095 * 65535

@@ -121,20 +121,15 @@ fn next_line(answer: &[u8], at: usize) -> usize
     at + 1 + length_at(answer, at) * places(answer)
 }
 
-// The index of line i, or of the end, where i is the line count: each line before it gives its own length, so a loop carries the index.
-#[tactic(auto, using(crate::proofs::Walk::next_start, crate::proofs::Walk::start_small), unfolding(crate::specs::Lookup::line_start))]
+// The index of line i, or of the end, where i is the line count: each line before it gives its own length, so a fold hands the index on.
 fn line_start(answer: &[u8], i: usize) -> usize
     requires { i < 2 ^ 8 }
     ensures { result ≡ line_start (words_of answer.now) i }
 {
-    let mut at: usize = head_words(is_wide(answer));
-    for k in 0..i {
-        at = next_line(answer, at);
-    }
-    at
+    (0..i).fold(head_words(is_wide(answer)), |at, _| next_line(answer, at))
 }
 
-// Whether each line is whole. A line that is not may give a length that leads astray, so nothing after it is read.
+// Whether each line is whole. A line that is not may give a length that leads astray, so it ends the loop, and nothing after it is read.
 #[tactic(auto, using(crate::proofs::Walk::none_fails, crate::proofs::Walk::next_start, crate::proofs::Walk::start_small), unfolding(crate::specs::Lookup::line_start))]
 fn whole_lines(answer: &[u8]) -> bool
     ensures { result ≡ all (whole_line (words_of answer.now)) (head_lines (words_of answer.now)) }
