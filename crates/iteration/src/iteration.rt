@@ -17,7 +17,8 @@ use roads::road::{Road, SheetRoads, Way, road_at};
 const MARGIN: u32 = 2;
 
 // Keeps the former numbers, and makes of them what each place hands to its neighbours: a pull must not read a place that has stepped already. That places
-// outside the ball are lowest (`LowOutside`) stays a clause, here and below: it is a fact of the flags and of places that are written.
+// outside the ball are lowest (`LowOutside`) stays a clause, here and below: it is a fact of the flags and of places that are written. The flags stand beside
+// the places, as `settle` is told them (docs/PROMISES.md).
 fn join(rows: &mut [Place], inside: &[bool])
     requires { LowOutside inside.now rows.old }
     ensures joined { JoinedIn rows.old inside.now rows.new }

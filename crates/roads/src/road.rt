@@ -83,7 +83,7 @@ impl Road {
         (self.spare_bits() == 0) & (self.runs_forth() | self.runs_back())
     }
 
-    // The bits of a field: where a wide sheet has it, or where a narrow one does.
+    // A field, by its lowest bit and how many bits it has: in a wide sheet, and in a narrow one.
     fn field<const WIDE_LOW: u32, const WIDE_COUNT: u32, const LOW: u32, const COUNT: u32>(
         self,
     ) -> u32
@@ -116,7 +116,7 @@ impl Road {
     }
 }
 
-// The weight in the word after the first, as wide as a distance.
+// The weight in the word after the first, as wide as a distance. That the word is there stays a clause: words are read where their index is known to be one.
 pub fn weight(s: &[u8], at: usize) -> u64
     requires { at < length (words_of s.now) }
     ensures { result ≡ payload_of (word_at (words_of s.now) at) }

@@ -8,4 +8,3 @@ pub mod ChainTable
 pub mod ChainWords
 pub mod ChainSurround
 pub mod ChainIslands
-pub mod Folds

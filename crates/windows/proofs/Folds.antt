@@ -15,7 +15,7 @@ use Rattle.logic.proofs.TotalOrder.{meet_by, join_by}
 use Rattle.logic.proofs.SoFar.{greatest_none, greatest_more}
 use Rattle.values.specs.Chain.{chain_lattice, highest}
 use Rattle.values.proofs.Naturals.{leb_trans, leb_total, join_max}
-pub use Rattle.values.proofs.Folds.{total_of}
+pub use Rattle.counting.proofs.Folds.{total_of}
 
 -- ---- a loop that counts from `first` up to and without `end`: where it is
 pub record Counted (first end u : ℕ) : Type 0 where

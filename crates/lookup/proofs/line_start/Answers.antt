@@ -8,7 +8,7 @@ use Rattle.std.specs.List.{fold}
 use Rattle.std.proofs.lemmas.Iterator.{YieldsList-from_range}
 use Rattle.std.proofs.lemmas.List.FromFn.{length-range_with_len}
 use Rattle.words.specs.Bytes.{words_of}
-use Rattle.values.proofs.Folds.{total_of, callable_of}
+use Rattle.counting.proofs.Folds.{total_of, callable_of}
 use Rattle.lookup.specs.Lookup.{line_start}
 use Rattle.lookup.proofs.Walk.{next_of, start_told, start_small}
 use Rattle.lookup.proofs.line_start.Goals as goal

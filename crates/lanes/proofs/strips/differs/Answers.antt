@@ -2,7 +2,7 @@
 use Prim.Native.Nat.{ℕ, ◌/◌}
 use Rattle.std.proofs.Common.{rules, tests}
 use Rattle.std.proofs.lemmas.Iterator.{YieldsList-from_slice, YieldsList-from_zip}
-use Rattle.values.proofs.Folds.{total_of}
+use Rattle.counting.proofs.Folds.{total_of}
 use Rattle.lanes.proofs.StripLaws.{apart_or, strips_told}
 use Rattle.lanes.proofs.strips.differs.Goals as goal
 
