@@ -25,7 +25,7 @@ pub enum Kind {
 }
 
 impl Kind {
-    // A method, and no `From` beside it: its name is promised (docs/PROMISES.md). So it is of `Fault` and `Naming`.
+    // A method, and no `From` beside it: its name is promised (docs/PROMISES.md), as that of `Fault::number`.
     pub fn number(self) -> u32
         ensures { result ≡ kind_number self }
     {

@@ -18,7 +18,8 @@ const MARGIN: u32 = 2;
 
 // Keeps the former numbers, and makes of them what each place hands to its neighbours: a pull must not read a place that has stepped already. That places
 // outside the ball are lowest (`LowOutside`) stays a clause, here and below: it is a fact of the flags and of places that are written. The flags stand beside
-// the places, as `settle` is told them (docs/PROMISES.md).
+// the places, which are lent to a surround without them, and are read by a place's number: through a `zip` with places that are written a proof knows nothing
+// of these afterwards.
 fn join(rows: &mut [Place], inside: &[bool])
     requires { LowOutside inside.now rows.old }
     ensures joined { JoinedIn rows.old inside.now rows.new }
@@ -47,7 +48,7 @@ fn pull(rows: &mut [Place], inside: &[bool], way: Way)
     }
 }
 
-// Both ways of each road.
+// Both ways of each road. That their places are among these (`RoadsIn`) stays a clause: it is a fact of a sheet and of how many places there are.
 #[tactic(auto, using(crate::proofs::Rules::step_laws))]
 fn step(rows: &mut [Place], inside: &[bool], network: SheetRoads)
     requires { RoadsIn (words_of network.sheet.now) network.roads (length inside.now) × LowOutside inside.now rows.old }

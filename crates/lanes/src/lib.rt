@@ -16,7 +16,7 @@ pub type Strip = [u32; LANES];
 
 // What one place has: two operands, what comes of them, and what an iteration works in: the ring about a centre, what the place has, what it had a round
 // before, and what it hands to its neighbours. Where slices of places are lent they may be longer than the places of a sheet: there is room for these
-// (`Room`), a clause wherever they are written, since of a type that borrows them to be written nothing would be known once it is gone.
+// (`Room`), and no exact length is asked.
 #[derive(Clone, Copy)]
 pub struct Place {
     pub left: Strip,

@@ -16,8 +16,8 @@ pub struct Block {
     pub count: usize,
 }
 
-// The chain number of a place at the sample of a lane, and the lowest past the last of the samples. Words, start and places stay three parameters, here and
-// in `load_strip`: `load` may ask no others (docs/PROMISES.md), and the operators, whose `Operand` is such a value, lie beside this crate and not below it.
+// The chain number of a place at the sample of a lane, and the lowest past the last of the samples. Words, start and places stay three parameters, here, in
+// `load_strip` and in `load`: the operators, whose `Operand` is such a value, lie beside this crate and not below it.
 #[tactic(auto, using(crate::proofs::RowLaws::signal_index, words::proofs::Words::words_count))]
 fn lane_signal(
     words: &[u8],

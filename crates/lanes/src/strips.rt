@@ -6,7 +6,8 @@ ghost use Rattle.lanes.specs.Strips.{Held, StripsApart};
 use crate::ends::End;
 use crate::{LANES, Strip};
 
-// The lesser of two strips, lane by lane, or the greater.
+// The lesser of two strips, lane by lane, or the greater. Both are read by the lane's number, since of what a `zip` lends to be written nothing is known once
+// it is.
 pub fn of_two<E: End>(a: &Strip, b: &Strip) -> Strip
     ensures { Held lanes (λ lane. E.op (get_or a.now lane 0) (get_or b.now lane 0)) result }
 {

@@ -129,7 +129,8 @@ fn line_start(answer: &[u8], i: usize) -> usize
     (0..i).fold(head_words(is_wide(answer)), |at, _| next_line(answer, at))
 }
 
-// Whether each line is whole. A line that is not may give a length that leads astray, so it ends the loop, and nothing after it is read.
+// Whether each line is whole. A line that is not may give a length that leads astray, so it ends the loop, and nothing after it is read. The index is
+// carried, as each line gives where the next begins.
 #[tactic(auto, using(crate::proofs::Walk::none_fails, crate::proofs::Walk::next_start, crate::proofs::Walk::start_small), unfolding(crate::specs::Lookup::line_start))]
 fn whole_lines(answer: &[u8]) -> bool
     ensures { result ≡ all (whole_line (words_of answer.now)) (head_lines (words_of answer.now)) }

@@ -44,6 +44,7 @@ pub fn check_roads(s: &[u8], places: usize) -> Result<usize, Refusal>
 {
     // not a `for`: where the roads end is found on the way
     let mut at = head_words(is_wide(s));
+    // before any road, as the definition has it: no pair is 0
     let mut last = 0;
     while Kind::Road.is_at(s, at) {
         last = check_road(s, at, places, last)?;

@@ -13,7 +13,8 @@ use distances::table::Distances;
 use lanes::rows::in_range;
 use lanes::{LANES, Place};
 
-// A run about every centre that has it. Whether islands count is a flag, as in the definitions.
+// A run about every centre that has it. Whether islands count is a flag, and the place that is left out a number, one more than its own or 0 for none, as in
+// the definitions: so one loop goes over all runs.
 #[derive(Clone, Copy)]
 pub struct Run {
     pub bounds: Bounds,
