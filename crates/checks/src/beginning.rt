@@ -16,7 +16,7 @@ pub struct Beginning {
     pub samples: usize,
 }
 
-// The count in bits 19..12 and the samples in bits 11..0.
+// The count from bit 12 on, and the samples in bits 11..0.
 fn fields(count: u32, samples: u32) -> u32
     requires { count < 2 ^ 16 × samples < 2 ^ 12 }
     ensures { result ≡ count * 2 ^ 12 + samples }

@@ -16,7 +16,7 @@ pub struct Grid {
     pub samples: usize,
 }
 
-// The fields of a first word.
+// The fields of a first word, each one call of `bits` by its name.
 pub(crate) fn revision_of(first: u32) -> u32
     ensures { result ≡ bits 20 8 first }
 {

@@ -10,6 +10,7 @@ pub(crate) enum Naming {
 }
 
 impl Naming {
+    // A method, as that of `Kind`.
     pub(crate) fn number(self) -> u32
         ensures { result ≡ naming_number self }
     {

@@ -17,7 +17,8 @@ pub struct Block {
 }
 
 // The chain number of a place at the sample of a lane, and the lowest past the last of the samples. Words, start and places stay three parameters, here, in
-// `load_strip` and in `load`: the operators, whose `Operand` is such a value, lie beside this crate and not below it.
+// `load_strip` and in `load`: the operators, whose `Operand` is such a value, lie beside this crate and not below it, and `signal_at` would be called with
+// the three again.
 #[tactic(auto, using(crate::proofs::RowLaws::signal_index, words::proofs::Words::words_count))]
 fn lane_signal(
     words: &[u8],

@@ -43,7 +43,7 @@ fn verdict_of(w: u32) -> Option<Verdict>
     }
 }
 
-// The fields of an answer's head, and of a line's first word, whatever the words are.
+// The fields of an answer's head, and of a line's first word, whatever the words are: each one call of `bits` by its name.
 pub fn lines(answer: &[u8]) -> usize
     ensures { result ≡ head_lines (words_of answer.now) }
 {

@@ -18,7 +18,7 @@ fn atom_at(samples: &[u8], i: usize, constant: i32, atleast: bool) -> u32
     }
 }
 
-// A sheet has time outermost, then place, then signal. What an atom asks stays three parameters: as one value they would be taken apart here, at every place.
+// A sheet has time outermost, then place, then signal. What an atom asks stays three parameters: as one value they would only be taken apart here.
 #[tactic(auto, using(words::proofs::Rows::in_table, words::proofs::Words::words_count, crate::proofs::Bounds::in_row, crate::proofs::RowLaws::in_front))]
 pub fn atom_row(
     samples: &[u8],

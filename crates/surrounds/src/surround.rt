@@ -28,7 +28,7 @@ pub struct Surround {
     pub islands: bool,
 }
 
-// The roads of a sheet, with the distances along them. Sheet and roads are fields of its own and no `SheetRoads`: contracts here and in verdicts name them so.
+// The roads of a sheet, with the distances along them. Sheet and roads are fields of its own and no `SheetRoads`: contracts here name them so.
 #[derive(Clone, Copy)]
 pub struct SheetNetwork<'a> {
     pub sheet: &'a [u8],

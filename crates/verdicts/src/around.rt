@@ -34,7 +34,7 @@ fn copy_lane(rows: &[Place], lane: usize, places: usize, values: &mut [u32])
     requires { Room places rows.now × (lane < lanes) × (places ≤ length values.old) }
     ensures { Filled places (row_in rows.now out_row lane) values.new }
 {
-    // By number, as windows' `raise_best` goes: of numbers that a `zip` lends to be written nothing is known once they are.
+    // Written by number: of numbers that a `zip` lends to be written nothing is known once they are.
     for (l, place) in rows[..places].iter().enumerate() {
         values[l] = place.out[lane];
     }

@@ -1,5 +1,5 @@
 // Code 9, eventually, and its dual, code 10, always. Operand, bounds, flag, sample and place stay parameters: as one value they would be put together at
-// every place. What is asked at one place is inlined: else an operand would go through memory at every place.
+// every place, and without the place they are few already. What is asked at one place is inlined: else an operand would go through memory at every place.
 ghost use Rattle.std.specs.Prelude.{◌≡◌, ◌+◌};
 ghost use Rattle.operators.specs.Rows.{RowLeft};
 ghost use Rattle.windows.specs.Rows.{ahead_of, eventually_of, ReachedOf, NextReady, PlaceReady, RowReadyOf};
